@@ -8,17 +8,11 @@ pub some_of : {X : Type 0} (o : Option X) → is_some o ≡ true → (x : X) × 
 some_of None e = cc
 some_of (Some x) e = (x, refl)
 
-pub none_is_not_some : {X : Type 0} (x : X) → None ≡ Some x → ⊥
-none_is_not_some x e = cc
-
 pub none_is_some : {A B : Type 0} {a : A} → None ≡ Some a → B
 none_is_some e = absurd (cc)
 
 pub none_not : {A B : Type 0} {o : Option A} {a : A} → o ≡ None → o ≡ Some a → B
-none_not {a = a} e f = absurd (none_is_not_some a (sym e ∙ f))
-
-pub one_some : {X : Type 0} (a b : X) (o : Option X) → o ≡ Some a → o ≡ Some b → a ≡ b
-one_some a b o e f = cc
+none_not e f = none_is_some (sym e ∙ f)
 
 -- what holds of an answer, and what follows from it
 pub on_ok_weaker : {A E : Type 0} {P Q : Type 0} (r : Result A E) → (P → Q) → OnOk r P → OnOk r Q

@@ -17,7 +17,7 @@ use Rattle.mesh_config.specs.declared.stated.stated.StatedRouter.{StatedRouter}
 use Rattle.mesh_config.specs.Checks.Compared.{all_addrs, stated_lists, ends_of}
 use Rattle.mesh_config.specs.Senders.{HaveNoDuplicates, AddressLists, first_addr, with_metric, sender_by, sender_pair, senders_to}
 use Rattle.mesh_config.proofs.Builds.{map-then}
-use Rattle.mesh_atoms.proofs.Options.{not_both as no_both}
+use Rattle.mesh_atoms.proofs.Options.{not_both as no_both, same_some}
 use Rattle.mesh_atoms.proofs.Lists.{back_distinct, front_distinct}
 
 -- ---- an address among lists, no address of which stands twice
@@ -102,16 +102,12 @@ found lists router iface a h =
       of_router = among whole one.0 iface two.0 a two.1.0 first;
     }
 
-one_some : {A : Type 0} (o : Option A) (x y : A) → o ≡ Some x → o ≡ Some y → y ≡ x
-one_some None x y h k = let bad : ⊥ = cc in absurd bad
-one_some (Some z) x y h k = let left : z ≡ x = cc in let right : z ≡ y = cc in sym right ∙ left
-
 one_interface : (lists : AddressLists) (r i s j : ℕ) (a : Addr4) → are_distinct addr_eq (flat_map of_faces lists) ≡ true → first_addr lists r i ≡ Some a → first_addr lists s j ≡ Some a → (r ≡ s) × (i ≡ j)
 one_interface lists r i s j a apart h k =
     let x = found lists r i a h in let y = found lists s j a k in
     let routers : r ≡ s = one_list of_faces lists r s x.faces y.faces a apart x.at_router y.at_router x.of_router y.of_router in
     let there : slice_get lists r ≡ Some y.faces = ap (slice_get lists) routers ∙ y.at_router in
-    let same : y.faces ≡ x.faces = one_some (slice_get lists r) x.faces y.faces x.at_router there in
+    let same : y.faces ≡ x.faces = same_some there x.at_router in
     let near : slice_get x.faces j ≡ Some y.addrs = ap (λ (faces : List (List Addr4)). slice_get faces j) (sym same) ∙ y.at_iface in
     (routers, one_list whole x.faces i j x.addrs y.addrs a (part_apart of_faces lists r x.faces apart x.at_router) x.at_iface near x.of_iface y.of_iface)
 

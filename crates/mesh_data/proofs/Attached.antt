@@ -9,10 +9,11 @@ use Rattle.mesh_atoms.specs.Base.{net_eq}
 use Rattle.mesh_atoms.specs.Codes.Codes.{metric_value}
 use Rattle.mesh_atoms.specs.Radio.{Attaches}
 use Rattle.mesh_atoms.specs.Settings.{are_distinct}
-use Rattle.mesh_paths.proofs.Scenarios.{not_both, any_of}
+use Rattle.mesh_paths.proofs.Scenarios.{any_of}
 use Rattle.mesh_atoms.proofs.Values.{net_itself}
 use Rattle.std.proofs.lemmas.Bool.{and_parts}
 use Rattle.mesh_atoms.proofs.Lists.{contains_cases, contains_map, contains_none as none_of}
+use Rattle.mesh_atoms.proofs.Options.{not_both}
 
 one_attached : (xs : List Attached4) (t u : Attached4) → are_distinct net_eq (map (λ a. a.net) xs) ≡ true → Contains xs t → Contains xs u → net_eq t.net u.net ≡ true → net_eq u.net t.net ≡ true → t ≡ u
 one_attached [] t u h (k, l, e) there same back = absurd (none_of t (k, l, e))
@@ -21,10 +22,10 @@ one_attached (x ∷ xs) t u h here there same back =
     elim (contains_cases x xs t here) [
       | inl e ↦ elim (contains_cases x xs u there) [
         | inl f ↦ sym e ∙ f
-        | inr f ↦ not_both _ (any_of (net_eq x.net) (map (λ a. a.net) xs) u.net (subst (λ (y : Attached4). net_eq y.net u.net ≡ true) (sym e) same) (contains_map (λ (a : Attached4). a.net) xs u f)) new
+        | inr f ↦ absurd (not_both _ (any_of (net_eq x.net) (map (λ a. a.net) xs) u.net (subst (λ (y : Attached4). net_eq y.net u.net ≡ true) (sym e) same) (contains_map (λ (a : Attached4). a.net) xs u f)) new)
       ]
       | inr e ↦ elim (contains_cases x xs u there) [
-        | inl f ↦ not_both _ (any_of (net_eq x.net) (map (λ a. a.net) xs) t.net (subst (λ (y : Attached4). net_eq y.net t.net ≡ true) (sym f) back) (contains_map (λ (a : Attached4). a.net) xs t e)) new
+        | inl f ↦ absurd (not_both _ (any_of (net_eq x.net) (map (λ a. a.net) xs) t.net (subst (λ (y : Attached4). net_eq y.net t.net ≡ true) (sym f) back) (contains_map (λ (a : Attached4). a.net) xs t e)) new)
         | inr f ↦ one_attached xs t u rest e f same back
       ]
     ]

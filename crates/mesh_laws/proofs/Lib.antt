@@ -1,5 +1,4 @@
 mod Members
-mod Options
 mod PlainRouters
 mod Qualities
 mod Spoiled

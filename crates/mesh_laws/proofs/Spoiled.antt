@@ -17,10 +17,9 @@ use Rattle.mesh_atoms.specs.Quality.{quality_at, rule_of, admitted, admit_on}
 use Rattle.mesh_atoms.specs.State.{link_at, is_symmetric}
 use Rattle.mesh_atoms.specs.TakesHello.{IsHeld, Takes, Overfull_two_hops}
 use Rattle.mesh_atoms.specs.Words.{IsKept}
-use Rattle.mesh_atoms.proofs.Options.{none_is_some}
+use Rattle.mesh_atoms.proofs.Options.{none_is_some, none_not, same_some}
 use Rattle.mesh_paths.proofs.ShortLists.{few_of_one}
 use Rattle.mesh_laws.proofs.Members.{some_is}
-use Rattle.mesh_laws.proofs.Options.{some_none, some_is_none, same_some}
 use Rattle.mesh_laws.proofs.Qualities.{quality_by, cut}
 use Rattle.mesh_laws.specs.Spoiled.{RefusesLinksTogether, RefusesLinkOfUnlisted, RefusesLinkOfSharedAddress, RefusesLinkGone, RefusesOtherQuality, RefusesLostLinkKept, RefusesMadeUnadmitted, RefusesFullOfOne, RefusesTakenThoughFull, RefusesTakenThoughManyRows, RefusesFullThoughFits, RefusesLinkMetricFirst, RefusesMetricUnsaid, RefusesRowByLinkMetric, RefusesRowWithoutMetric}
 
@@ -35,13 +34,13 @@ goes_on P {old} {new} e f kept stood stands = by_case (subst (λ (o : Option (Li
   where
     by_case : IsKept P (Some e) new → P e
     by_case (inl h) = h.0
-    by_case (inr h) = some_none stands h.1
+    by_case (inr h) = none_not h.1 stands
 
 gone_not : (P : Link × ℕ → Type 0) {old new : Option (Link × ℕ)} (e : Link × ℕ) → IsKept P old new → old ≡ Some e → new ≡ None → P e → ⊥
 gone_not P {old} {new} e kept stood gone goes = by_case (subst (λ (o : Option (Link × ℕ)). IsKept P o new) stood kept)
   where
     by_case : IsKept P (Some e) new → ⊥
-    by_case (inl h) = some_none h.1 gone
+    by_case (inl h) = none_not gone h.1
     by_case (inr h) = h.0 goes
 
 pub link_of_unlisted : RefusesLinkOfUnlisted
@@ -110,7 +109,7 @@ made_unadmitted settings now i told hello old new e none low stands admitted aft
     absurd (cc)
   where
     is_pending : (start : Link × ℕ) → LinkKeptOrMade (rule_of settings i) told.shown now (link_at old i told.least) start → start.0.pending ≡ true
-    is_pending start (Stood _ stood same) = some_none stood none
+    is_pending start (Stood _ stood same) = none_not none stood
     is_pending start (Made new_one) = lt-ltb (quality_at (rule_of settings i) told.shown.sending now) (rule_of settings i).accept low
 
 -- Limits
@@ -163,8 +162,8 @@ pub row_by_link_metric : RefusesRowByLinkMetric
 row_by_link_metric row m n has other is = other (by_near row.metrics.near_in row.metrics.link_in m n has is)
 
 by_link : (near link : Option Metric) (m : Metric) → link ≡ Some m → or_else near link ≡ None → ⊥
-by_link None link m e h = some_none e h
-by_link (Some k) link m e h = some_is_none h
+by_link None link m e h = none_not h e
+by_link (Some k) link m e h = none_is_some (sym h)
 
 pub row_without_metric : RefusesRowWithoutMetric
 row_without_metric row m has is = by_link row.metrics.near_out row.metrics.link_out m has is

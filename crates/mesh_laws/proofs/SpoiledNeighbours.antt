@@ -11,14 +11,13 @@ use Rattle.mesh_atoms.specs.Codes.Codes.{metric_value}
 use Rattle.mesh_atoms.specs.Live.{HasSymmetricOf, SettlesLost, Back, Gone, Stays}
 use Rattle.mesh_atoms.specs.Words.{IsLeastMetric}
 use Rattle.mesh_laws.proofs.Members.{some_is}
-use Rattle.mesh_laws.proofs.Options.{some_none, some_is_none, same_some}
 use Rattle.mesh_laws.specs.Spoiled.{RefusesNeighbourOutOfNothing, RefusesNeighbourGone, RefusesSelectorKept, RefusesNeighbourTooShort, RefusesLostThoughBack, RefusesLossUntold, RefusesLostOutOfNothing, RefusesLostAtAnotherMoment, RefusesLostSymmetric, RefusesOwnLost, RefusesNeighbourTooLong, RefusesOtherAddresses, RefusesOtherWillingness, RefusesSelectorCleared, RefusesSymmetricUntold, RefusesSymmetricOutOfNothing, RefusesOtherMetricIn, RefusesOtherMetricOut, RefusesLostGone, RefusesLostMoved}
-use Rattle.mesh_atoms.proofs.Options.{cond_true, none_is_some}
+use Rattle.mesh_atoms.proofs.Options.{cond_true, none_is_some, none_not, same_some}
 
 -- Neighbours as their links have them
 
 pub neighbour_out_of_nothing : RefusesNeighbourOutOfNothing
-neighbour_out_of_nothing near now e h = some_is_none h
+neighbour_out_of_nothing near now e h = none_is_some (sym h)
 
 pub neighbour_gone : RefusesNeighbourGone
 neighbour_gone near now i e key f has h = h i key f has
@@ -80,22 +79,22 @@ other_metric_out near now e f link m has tells least other h =
 -- the tuple of an address, by whether the address was and is a symmetric neighbour's
 module _ {was is : Type 0} {until : ℕ} {stood new : Option (Lost × ℕ)} where
   not_lost : (e : Lost × ℕ) → SettlesLost was is until stood new → is → new ≡ Some e → ⊥
-  not_lost e (Back h none) here some = some_none some none
+  not_lost e (Back h none) here some = none_not none some
   not_lost e (Gone h not_now gone) here some = not_now here
   not_lost e (Stays never not_now same) here some = not_now here
 
   told_lost : SettlesLost was is until stood new → was → (is → ⊥) → new ≡ None → ⊥
   told_lost (Back h none) before not_now gone = not_now h
-  told_lost (Gone h gone_now some) before not_now gone = some_none some gone
+  told_lost (Gone h gone_now some) before not_now gone = none_not gone some
   told_lost (Stays never gone_now same) before not_now gone = never before
 
   not_new : (e : Lost × ℕ) → SettlesLost was is until stood new → (was → ⊥) → stood ≡ None → new ≡ Some e → ⊥
-  not_new e (Back h none) never before some = some_none some none
+  not_new e (Back h none) never before some = none_not none some
   not_new e (Gone h gone told) never before some = never h
-  not_new e (Stays not_before gone same) never before some = some_none some (same ∙ before)
+  not_new e (Stays not_before gone same) never before some = none_not (same ∙ before) some
 
   ends_so : (e : Lost × ℕ) → SettlesLost was is until stood new → was → new ≡ Some e → e.1 ≡ until
-  ends_so e (Back h none) before some = some_none some none
+  ends_so e (Back h none) before some = none_not none some
   ends_so e (Gone h gone told) before some =
       let same : e ≡ (record {}, until) = same_some some told in ap (λ (t : Lost × ℕ). t.1) same
   ends_so e (Stays never gone same) before some = absurd (never before)
@@ -119,7 +118,7 @@ lost_at_another_moment settings now old new a e before some other live = other (
 
 pub lost_gone : RefusesLostGone
 lost_gone settings now old new a e never not_now stood late gone live =
-    some_none (ap (if_live now) stood ∙ cond_true (nat_lt now e.1) (Some e) None (lt-ltb now e.1 late)) (sym (is_left (live.losts a) never not_now) ∙ gone)
+    none_not (sym (is_left (live.losts a) never not_now) ∙ gone) (ap (if_live now) stood ∙ cond_true (nat_lt now e.1) (Some e) None (lt-ltb now e.1 late))
 
 pub lost_moved : RefusesLostMoved
 lost_moved settings now old new a e f never not_now stood stands other live =

@@ -18,10 +18,9 @@ use Rattle.mesh_atoms.specs.State.{TopologyBase}
 use Rattle.mesh_flood.specs.Noting.{Notes}
 use Rattle.mesh_flood.specs.Verdict.{key_of, is_received, is_forwarded}
 use Rattle.mesh_laws.proofs.Members.{both_same}
-use Rattle.mesh_laws.proofs.Options.{some_none, some_is_none, same_some}
 use Rattle.mesh_laws.proofs.TcSets.{given_so, numbered_so}
 use Rattle.mesh_laws.specs.Spoiled.{RefusesNumberUnnoted, RefusesNumberAtAnotherMoment, RefusesGivenOtherwise, RefusesGivenAtAnotherMoment, RefusesRouterUntaken, RefusesNetworkUntaken, RefusesRouterOfOldNumber, RefusesNetworkOfOldNumber, RefusesTupleGoneByPart, RefusesTupleGoneOfAnother, RefusesProcessedUnnoted, RefusesProcessedOutOfNothing, RefusesProcessedAtAnotherMoment, RefusesReceivedOutOfNothing, RefusesReceivedAtAnotherMoment, RefusesReceivedElsewhere, RefusesForwardedUnsent, RefusesForwardedAtAnotherMoment}
-use Rattle.mesh_atoms.proofs.Options.{cond_true}
+use Rattle.mesh_atoms.proofs.Options.{cond_true, none_not, none_is_some, same_some}
 
 -- TCs
 
@@ -82,14 +81,14 @@ network_of_old_number now tc old new key t complete mine stands other after =
 
 left_of : {A : Type 0} (mine complete same : Bool) (e : A) → cond (mine && (complete && not same)) None (Some e) ≡ None → (mine ≡ true) × (complete ≡ true)
 left_of true true same e h = (refl, refl)
-left_of true false same e h = some_is_none h
-left_of false complete same e h = some_is_none h
+left_of true false same e h = none_is_some (sym h)
+left_of false complete same e h = none_is_some (sym h)
 
 -- a tuple that is gone was of the originator, and the TC was complete
 gone_of : (now : ℕ) (tc : Tc) (key : AddressKey) (old new : Option (AddressTuple × ℕ)) (t : AddressTuple × ℕ) →
     Becomes tc (now + tc.validity) (λ (k : AddressKey). k.from) (λ v. v.ansn) (λ k v. GivesAddress tc k v.metric × (v.ansn ≡ tc.ansn)) key old new →
     old ≡ Some t → new ≡ None → (addr_eq key.from tc.originator ≡ true) × (tc.complete ≡ true)
-gone_of now tc key old new t (Given value given is) stood gone = some_none is gone
+gone_of now tc key old new t (Given value given is) stood gone = none_not gone is
 gone_of now tc key old new t (Left none is) stood gone =
     left_of (addr_eq key.from tc.originator) tc.complete (nat_eq t.0.ansn tc.ansn) t
     (sym (ap (if_not_dropped tc key.from (λ (v : AddressTuple). v.ansn)) stood) ∙ (sym is ∙ gone))
@@ -118,7 +117,7 @@ noted_at k until old new notes = notes k ∙ cond_true (flood_eq k k) (Some (rec
 
 module _ (b : Bool) (k : FloodKey) (until : ℕ) (old new : Base FloodKey Noted) (e : Noted × ℕ) where
   not_noted : b ≡ false → Notes b k until old new → find flood_eq old k ≡ None → find flood_eq new k ≡ Some e → ⊥
-  not_noted is notes none some = let same : Notes false k until old new = subst (λ a. Notes a k until old new) is notes in some_none some (same k ∙ none)
+  not_noted is notes none some = let same : Notes false k until old new = subst (λ a. Notes a k until old new) is notes in none_not (same k ∙ none) some
 
   noted_until : b ≡ true → Notes b k until old new → find flood_eq new k ≡ Some e → e.1 ≡ until
   noted_until is notes some =
@@ -127,7 +126,7 @@ module _ (b : Bool) (k : FloodKey) (until : ℕ) (old new : Base FloodKey Noted)
 
 pub processed_unnoted : RefusesProcessedUnnoted
 processed_unnoted times now i heading answer old new none after =
-    some_none (noted_at (key_of heading) (now + times.processed_hold) old.processed new.processed after.processed) none
+    none_not none (noted_at (key_of heading) (now + times.processed_hold) old.processed new.processed after.processed)
 
 pub processed_out_of_nothing : RefusesProcessedOutOfNothing
 processed_out_of_nothing times now i heading answer old new e none some after = not_noted false (key_of heading) (now + times.processed_hold) old.processed new.processed e refl after.processed none some
@@ -145,7 +144,7 @@ received_at_another_moment times now i heading is_processed answer old new e ask
 
 pub received_elsewhere : RefusesReceivedElsewhere
 received_elsewhere times now i j heading is_processed answer old new e other none some after =
-    some_none some (after.others j other (key_of heading) ∙ none)
+    none_not (after.others j other (key_of heading) ∙ none) some
 
 pub forwarded_unsent : RefusesForwardedUnsent
 forwarded_unsent times now i heading is_processed answer old new e not_sent none some after =

@@ -6,13 +6,12 @@ use Rattle.mesh_atoms.specs.declared.addr.Addr4.{Addr4}
 use Rattle.mesh_atoms.specs.declared.tc.Tc.{Tc}
 use Rattle.mesh_atoms.specs.AfterTc.{Becomes, Given, Left, if_not_dropped}
 use Rattle.mesh_atoms.specs.Base.{addr_eq}
-use Rattle.mesh_atoms.proofs.Options.{true_false}
-use Rattle.mesh_laws.proofs.Options.{some_none, same_some}
+use Rattle.mesh_atoms.proofs.Options.{true_false, none_not, same_some}
 
 -- a complete TC leaves of its originator's tuples those of its number
 left_by : {A : Type 0} (mine complete same : Bool) (e f : A) → mine ≡ true → complete ≡ true → cond (mine && (complete && not same)) None (Some e) ≡ Some f → (same ≡ true) × (e ≡ f)
 left_by true true true e f m c h = (refl, (cc))
-left_by true true false e f m c h = some_none h refl
+left_by true true false e f m c h = none_not refl h
 left_by true false same e f m c h = true_false c refl
 left_by false complete same e f m c h = true_false m refl
 
@@ -30,7 +29,7 @@ module _ {K V : Type 0} (tc : Tc) (until : ℕ) (from : K → Addr4) (number : V
   numbered_so {old} t (Left none is) numbered complete mine stands = left old (sym is ∙ stands)
     where
       left : (stood : Option (V × ℕ)) → if_not_dropped tc (from key) number stood ≡ Some t → number t.0 ≡ tc.ansn
-      left None h = some_none h refl
+      left None h = none_not refl h
       left (Some e) h =
           let of_mine : addr_eq (from key) tc.originator ≡ true = eq-eqb _ _ (ap (λ (a : Addr4). a.0) mine) in
           let (same, is_it) = left_by (addr_eq (from key) tc.originator) tc.complete (nat_eq (number e.0) tc.ansn) e t of_mine complete h in

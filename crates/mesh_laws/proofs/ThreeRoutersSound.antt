@@ -27,7 +27,7 @@ use Rattle.mesh_atoms.specs.State.{Neighbourhood, link_at, two_hop_at, neighbour
 use Rattle.mesh_atoms.specs.TakesHello.{IsHeld}
 use Rattle.mesh_atoms.specs.Words.{AreMoreThan}
 use Rattle.mesh_atoms.proofs.Lookups.{same_addr, same_link, same_two_hop, same_router, same_address, same_network}
-use Rattle.mesh_paths.proofs.ShortLists.{only, two, none_some, empty_within, empties_within, empty_distinct}
+use Rattle.mesh_paths.proofs.ShortLists.{only, two, empty_within, empties_within, empty_distinct}
 use Rattle.mesh_laws.proofs.Members.{each, unmapped, some_is, both_same}
 use Rattle.mesh_laws.proofs.ThreeRouters.{one, addr, net, settings, peers, beyond, told, gateways, advertisers, key, link, link_entry, neighbour, neighbour_entry, two_hop_key, two_hop_entry, advertiser_entry, router_entry, address_entry, network_entry, host_row, net_row, rows, state, each_pair, same_number, address_on}
 use Rattle.mesh_laws.proofs.ThreeRoutersInRange.{attached_is}
@@ -35,6 +35,7 @@ use Rattle.mesh_laws.proofs.ThreeRoutersSay.{advertises, advertises_is, advertis
 use Rattle.mesh_laws.proofs.ThreeRoutersSettled.{own_originator, behind}
 use Rattle.mesh_laws.proofs.ThreeRoutersRelays.{relays_are}
 use Rattle.mesh_atoms.proofs.Lists.{contains_none as none_of, contains_head as here}
+use Rattle.mesh_atoms.proofs.Options.{none_is_some}
 
 -- Bases in which each tuple ends at 9
 
@@ -77,7 +78,7 @@ link_found : (x i : ℕ) (k : LinkKey) (e : Link × ℕ) → link_at (near x) i 
 link_found x zero k e h =
     let (y, c, is) = unmapped (link_entry x) (peers x) (k, e) (Contains-from_lookup same_link k e (map (link_entry x) (peers x)) h) in
     (refl, y, c, ap (λ (t : LinkKey × (Link × ℕ)). t.0) is, ap (λ (t : LinkKey × (Link × ℕ)). t.1) is)
-link_found x (suc i) k e h = none_some e h
+link_found x (suc i) k e h = none_is_some h
 
 link_there : (x y : ℕ) → Contains (peers x) y → link_at (near x) 0 (key y) ≡ Some (link x y, 9)
 link_there = each_pair (λ x y. link_at (near x) 0 (key y) ≡ Some (link x y, 9)) refl refl refl refl
@@ -94,7 +95,7 @@ two_hop_found : (x i : ℕ) (k : TwoHopKey) (t : TwoHop × ℕ) → two_hop_at (
 two_hop_found x zero k t h =
     let (z, c, is) = unmapped two_hop_entry (beyond x) (k, t) (Contains-from_lookup same_two_hop k t (map two_hop_entry (beyond x)) h) in
     (refl, z, c, ap (λ (u : TwoHopKey × (TwoHop × ℕ)). u.0) is)
-two_hop_found x (suc i) k t h = none_some t h
+two_hop_found x (suc i) k t h = none_is_some h
 
 -- the SYMMETRIC link of a peer
 link_of_peer : (x y : ℕ) (l : Link) → HasSymmetricOf (near x) 5 (addr y ∷ []) l → (z : ℕ) × (l ≡ link x z)
@@ -136,7 +137,7 @@ held_is x a held = elim held [
       let (o, n, until, at, has) = one_of in
       let (y, c, _, is) = neighbour_found x o (n, until) at in
       (y, c, only (addr y) a (subst (λ (b : Neighbour). Contains b.addrs a) (ap (λ (e : Neighbour × ℕ). e.0) is) has))
-  | inr (inr lost) ↦ none_some lost.0 lost.1
+  | inr (inr lost) ↦ none_is_some lost.1
 ]
 
 -- a router has at most two peers
@@ -247,7 +248,7 @@ sound_neighbourhood x = record {
   distinct_losts = empty_distinct Lost addr_eq;
   fresh_links = fresh;
   fresh_neighbours = fresh_of addr_eq same_addr (neighbour_entry x) (λ y. refl) (peers x);
-  fresh_losts = λ q value until h. none_some (value, until) h;
+  fresh_losts = λ q value until h. none_is_some h;
   two_hops = within;
   limit = within_limit x;
   link = sound_link x;
@@ -273,8 +274,8 @@ sound_neighbourhood x = record {
       let a_z = only (addr z) a (subst (λ (b : Neighbour × ℕ). Contains b.0.addrs a) f_is from) in
       o_is ∙ (sym a_y ∙ (a_z ∙ sym p_is)));
   two_hop = two_hop_symmetric x;
-  lost = λ a e h. none_some e h;
-  lost_not_mine = λ a e h. none_some e h;
+  lost = λ a e h. none_is_some h;
+  lost_not_mine = λ a e h. none_is_some h;
 }
   where
     distinct : (i : ℕ) → HasDistinctKeys link_eq (base_of (near x).links i)
@@ -283,7 +284,7 @@ sound_neighbourhood x = record {
 
     fresh : (i : ℕ) → IsFresh link_eq 5 (base_of (near x).links i)
     fresh zero = fresh_of link_eq same_link (link_entry x) (λ y. refl) (peers x)
-    fresh (suc i) = λ q value until h. none_some (value, until) h
+    fresh (suc i) = λ q value until h. none_is_some h
 
     within : (i : ℕ) → IsWithin two_hop_eq 5 16384 (base_of (near x).two_hops i)
     within zero = within_of two_hop_eq same_two_hop two_hop_entry (λ z. refl) (beyond x) (few_two_hops x)

@@ -21,11 +21,12 @@ use Rattle.mesh_atoms.specs.State.{Neighbourhood, link_at, two_hop_at, neighbour
 use Rattle.mesh_atoms.specs.TakesHello.{IsHeld}
 use Rattle.mesh_atoms.specs.Words.{AreMoreThan}
 use Rattle.mesh_laws.proofs.TwoRouters.{one, addr, settings, link, neighbour, state, address_on, apart}
-use Rattle.mesh_paths.proofs.ShortLists.{only, same_number, found_one, none_some, empty_within, empties_within, single_distinct, empty_distinct, few_of_one}
+use Rattle.mesh_paths.proofs.ShortLists.{only, same_number, found_one, empty_within, empties_within, single_distinct, empty_distinct, few_of_one}
 use Rattle.mesh_laws.proofs.TwoRoutersRelays.{relays_are}
 use Rattle.mesh_laws.proofs.TwoRoutersRoutes.{routes_are}
 use Rattle.mesh_laws.proofs.TwoRoutersSettled.{no_selector}
 use Rattle.mesh_atoms.proofs.Lists.{contains_none as none_of, contains_head as here}
+use Rattle.mesh_atoms.proofs.Options.{none_is_some}
 
 -- The neighbourhood
 
@@ -39,7 +40,7 @@ link_found : (x y i : ℕ) (key : LinkKey) (e : Link × ℕ) → link_at (near x
 link_found x y zero key e h =
     let (same, is) = found_one link_eq (record { addr = addr y }) key (link y, 9) e h in
     (refl, address_of key.addr y same, is)
-link_found x y (suc i) key e h = none_some e h
+link_found x y (suc i) key e h = none_is_some h
 
 link_there : (x y : ℕ) → link_at (near x y) 0 (record { addr = addr y }) ≡ Some (link y, 9)
 link_there x y = let h : nat_eq (suc y) (suc y) ≡ true = same_number (suc y) in rw h refl
@@ -53,8 +54,8 @@ neighbour_there : (x y : ℕ) → neighbour_at (near x y) (addr y) ≡ Some (nei
 neighbour_there x y = let h : nat_eq (suc y) (suc y) ≡ true = same_number (suc y) in rw h refl
 
 no_two_hop_at : (x y i : ℕ) (key : TwoHopKey) (t : TwoHop × ℕ) → two_hop_at (near x y) i key ≡ Some t → ⊥
-no_two_hop_at x y zero key t h = none_some t h
-no_two_hop_at x y (suc i) key t h = none_some t h
+no_two_hop_at x y zero key t h = none_is_some h
+no_two_hop_at x y (suc i) key t h = none_is_some h
 
 -- what a SYMMETRIC link of the neighbour is
 symmetric_link : (x y : ℕ) (l : Link) → HasSymmetricOf (near x y) 5 (addr y ∷ []) l → l ≡ link y
@@ -89,7 +90,7 @@ held_is x y a held = elim held [
       let same : n ≡ neighbour y = ap (λ (e : Neighbour × ℕ). e.0) (neighbour_found x y o (n, until) at).1 in
       let P : Neighbour → Type 0 = λ b. Contains b.addrs a in
       only (addr y) a (subst P same has)
-  | inr (inr lost) ↦ none_some lost.0 lost.1
+  | inr (inr lost) ↦ none_is_some lost.1
 ]
 
 within_limit : (x y : ℕ) → AreMoreThan 1024 (IsHeld (near x y)) → ⊥
@@ -132,7 +133,7 @@ sound_neighbourhood x y ne = record {
   distinct_losts = empty_distinct Lost addr_eq;
   fresh_links = fresh;
   fresh_neighbours = λ q value until h. (let same : until ≡ 9 = ap (λ (e : Neighbour × ℕ). e.1) (neighbour_found x y q (value, until) h).1 in rw same refl);
-  fresh_losts = λ q value until h. none_some (value, until) h;
+  fresh_losts = λ q value until h. none_is_some h;
   two_hops = λ i. empties_within _ 5 i;
   limit = within_limit x y;
   link = sound_link x y;
@@ -156,8 +157,8 @@ sound_neighbourhood x y ne = record {
       subst P (sym e) (subst Q (sym f) (sound_neighbour x y ne)));
   neighbours_apart = λ o p e f a at to on from. (neighbour_found x y o e at).0 ∙ sym (neighbour_found x y p f to).0;
   two_hop = λ i key t h. absurd (no_two_hop_at x y i key t h);
-  lost = λ a e h. none_some e h;
-  lost_not_mine = λ a e h. none_some e h;
+  lost = λ a e h. none_is_some h;
+  lost_not_mine = λ a e h. none_is_some h;
 }
   where
     distinct : (i : ℕ) → HasDistinctKeys link_eq (base_of (near x y).links i)

@@ -30,10 +30,11 @@ use Rattle.mesh_atoms.specs.State.{link_at, two_hop_at}
 use Rattle.mesh_atoms.proofs.Lookups.{addr_equiv, router_equiv, address_equiv, network_equiv, same_router, same_address, same_network}
 use Rattle.mesh_flood.specs.Verdict.{key_of}
 use Rattle.mesh_laws.proofs.Members.{both_same}
-use Rattle.mesh_paths.proofs.ShortLists.{only, none_some, single_distinct, empty_distinct}
+use Rattle.mesh_paths.proofs.ShortLists.{only, single_distinct, empty_distinct}
 use Rattle.mesh_laws.specs.WorkedHello.{peer, me, third, one, three}
 use Rattle.mesh_laws.specs.Unspoiled.{silent, LostIsKept, heading, quiet, noted, MessageIsNoted, MessageIsPassedOver, row, tc, outdated, TcIsTaken}
 use Rattle.mesh_atoms.proofs.Lists.{contains_head as here}
+use Rattle.mesh_atoms.proofs.Options.{none_is_some}
 
 -- in a base of one tuple for the key at most, one is put at the key
 sets_one : {K V : Type 0} {eq : K → K → Bool} → IsEquivalence eq → (k : K) (e : V × ℕ) (old : Base K V) → ((q : K) → eq q k ≡ false → find eq old q ≡ None) →
@@ -47,7 +48,7 @@ sets_one {eq = eq} equiv k e old none q = by_case (eq q k) refl
 -- Lost addresses
 
 no_symmetric : (a : Addr4) → IsSymmetricAddress silent a → ⊥
-no_symmetric a is = none_some (is.1, is.2) is.3
+no_symmetric a is = none_is_some is.3
 
 pub lost_is_kept : LostIsKept
 lost_is_kept settings = record {

@@ -17,8 +17,9 @@ use Rattle.mesh_atoms.specs.HelloTold.{Told, Tells, HasRowOf, TellsLocal, IsSend
 use Rattle.mesh_atoms.specs.State.{HasAddress, HasAddressOn}
 use Rattle.mesh_atoms.specs.TakesHello.{IsOwn, Local, Originator, Sender, IsFault, IsHeld, IsFullOfAddresses, FitsTwoHops}
 use Rattle.mesh_laws.specs.WorkedHello.{peer, me, third, one, three, seven, own_row, my_row, third_row, hello, IsReceiver, nothing}
-use Rattle.mesh_paths.proofs.ShortLists.{only, none_some, few_of_one}
+use Rattle.mesh_paths.proofs.ShortLists.{only, few_of_one}
 use Rattle.mesh_atoms.proofs.Lists.{contains_none as none_of, contains_head as here}
+use Rattle.mesh_atoms.proofs.Options.{none_is_some}
 
 abbrev pub told : Told
 told = record {
@@ -77,8 +78,8 @@ shows_local a local shows = by_row (row_of a shows.0 shows.1) shows.2
   where
     by_row : {row : HelloRow} → RowOf a row → row.local ≡ Some local → (a ≡ peer) × (local ≡ This)
     by_row {row} (Own e is) f = (is, let g : Some This ≡ Some local = sym (ap (λ (r : HelloRow). r.local) e) ∙ f in (cc))
-    by_row {row} (Mine e is) f = none_some local (sym (ap (λ (r : HelloRow). r.local) e) ∙ f)
-    by_row {row} (Beyond e is) f = none_some local (sym (ap (λ (r : HelloRow). r.local) e) ∙ f)
+    by_row {row} (Mine e is) f = none_is_some (sym (ap (λ (r : HelloRow). r.local) e) ∙ f)
+    by_row {row} (Beyond e is) f = none_is_some (sym (ap (λ (r : HelloRow). r.local) e) ∙ f)
 
 -- no row shows a relay
 pub no_flooding : (a : Addr4) (row : HelloRow) → HasRowOf hello a row → IsTrue row.mpr.flooding → ⊥
@@ -103,7 +104,7 @@ module _ (settings : RouterSettings) (r : IsReceiver settings) where
     where
       of_one : (i : ℕ) → slice_get (r.face ∷ []) i ≡ Some face → (i ≡ 0) × (face ≡ r.face)
       of_one zero e = (refl, (cc))
-      of_one (suc i) e = none_some face e
+      of_one (suc i) e = none_is_some e
 
   pub face_at : slice_get settings.interfaces 0 ≡ Some r.face
   face_at = let P : List Interface → Type 0 = λ b. slice_get b 0 ≡ Some r.face in subst P (sym r.interfaces) refl
@@ -185,9 +186,9 @@ module _ (settings : RouterSettings) (r : IsReceiver settings) where
     where
       is_peer : (a : Addr4) → (IsHeld nothing a ⊎ (Contains told.listed a ⊎ (a ≡ told.originator))) → a ≡ peer
       is_peer a held = elim held [
-        | inl (inl originator) ↦ none_some originator.0 originator.1
-        | inl (inr (inl one_of)) ↦ none_some (one_of.1, one_of.2) one_of.3
-        | inl (inr (inr lost)) ↦ none_some lost.0 lost.1
+        | inl (inl originator) ↦ none_is_some originator.1
+        | inl (inr (inl one_of)) ↦ none_is_some one_of.3
+        | inl (inr (inr lost)) ↦ none_is_some lost.1
         | inr (inl listed) ↦ only peer a listed
         | inr (inr e) ↦ e
       ]

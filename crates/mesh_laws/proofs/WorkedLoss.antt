@@ -26,7 +26,7 @@ use Rattle.mesh_atoms.specs.State.{link_at, two_hop_at, neighbour_at, lost_at, i
 use Rattle.mesh_atoms.specs.TakesHello.{IsOwn, Local, Originator, Sender, IsFault, IsHeld, IsFullOfAddresses, FitsTwoHops, Takes}
 use Rattle.mesh_atoms.proofs.Lookups.{same_addr}
 use Rattle.mesh_laws.specs.WorkedHello.{peer, me, one, own_row, IsReceiver, link, neighbour, after}
-use Rattle.mesh_paths.proofs.ShortLists.{only, found_one, none_some, single_distinct, empty_distinct, few_of_one}
+use Rattle.mesh_paths.proofs.ShortLists.{only, found_one, single_distinct, empty_distinct, few_of_one}
 use Rattle.mesh_atoms.specs.Live.{Gone, Restores}
 use Rattle.mesh_atoms.specs.AfterHello.{Stood}
 use Rattle.mesh_atoms.specs.declared.hello.LinkStatus.{LinkStatus}
@@ -38,6 +38,7 @@ use Rattle.mesh_laws.proofs.WorkedNeighbourhood.{same_peer, no_link, no_neighbou
 use Rattle.mesh_laws.proofs.WorkedExpiry.{was_symmetric_address, peer_symmetric, live}
 use Rattle.mesh_atoms.proofs.Values.{same_address}
 use Rattle.mesh_atoms.proofs.Lists.{contains_none as none_of, contains_head as here}
+use Rattle.mesh_atoms.proofs.Options.{none_is_some}
 
 abbrev told_loss : Told
 told_loss = record told { shown = record told.shown { status = Some Down; link_out = None } }
@@ -58,7 +59,7 @@ later_row a row has = at has.0.0 has.0.1 has.0.2
 shows_local : (a : Addr4) (local : LocalIf) → TellsLocal later_hello a local → (a ≡ peer) × (local ≡ This)
 shows_local a local shows = elim (later_row a shows.0 shows.1) [
   | inl own ↦ (own.1, (let g : Some This ≡ Some local = sym (ap (λ (r : HelloRow). r.local) own.0) ∙ shows.2 in (cc)))
-  | inr lost ↦ none_some local (sym (ap (λ (r : HelloRow). r.local) lost.0) ∙ shows.2)
+  | inr lost ↦ none_is_some (sym (ap (λ (r : HelloRow). r.local) lost.0) ∙ shows.2)
 ]
 
 no_flooding : (a : Addr4) (row : HelloRow) → HasRowOf later_hello a row → IsTrue row.mpr.flooding → ⊥
@@ -75,15 +76,15 @@ no_routing a row has chosen = elim (later_row a row has) [
 
 no_metric : (a : Addr4) (row : HelloRow) (m : Metric) → HasRowOf later_hello a row → row.metrics.link_in ≡ Some m → ⊥
 no_metric a row m has f = elim (later_row a row has) [
-  | inl own ↦ none_some m (sym (ap (λ (r : HelloRow). r.metrics.link_in) own.0) ∙ f)
-  | inr lost ↦ none_some m (sym (ap (λ (r : HelloRow). r.metrics.link_in) lost.0) ∙ f)
+  | inl own ↦ none_is_some (sym (ap (λ (r : HelloRow). r.metrics.link_in) own.0) ∙ f)
+  | inr lost ↦ none_is_some (sym (ap (λ (r : HelloRow). r.metrics.link_in) lost.0) ∙ f)
 ]
 
 -- The neighbourhood
 
 later_link : (i : ℕ) (key : LinkKey) (e : Link × ℕ) → link_at later i key ≡ Some e → (i ≡ 0) × (key.addr ≡ peer) × (e ≡ (heard_link, 98604))
 later_link zero key e h = let (same, is) = found_one link_eq (record { addr = peer }) key (heard_link, 98604) e h in (refl, same_addr key.addr peer same, is)
-later_link (suc i) key e h = none_some e h
+later_link (suc i) key e h = none_is_some h
 
 no_later_link : (j : ℕ) (key : LinkKey) → ((j ≢ 0) ⊎ (key ≢ record { addr = peer })) → link_at later j key ≡ None
 no_later_link zero key other = elim other [
@@ -200,7 +201,7 @@ module _ (settings : RouterSettings) (r : IsReceiver settings) where
             let same : n ≡ neighbour = ap (λ (e : Neighbour × ℕ). e.0) (neighbour_found o (n, until) at).1 in
             let P : Neighbour → Type 0 = λ b. Contains b.addrs a in
             only peer a (subst P same has)
-        | inl (inr (inr lost)) ↦ none_some lost.0 lost.1
+        | inl (inr (inr lost)) ↦ none_is_some lost.1
         | inr (inl listed) ↦ only peer a listed
         | inr (inr e) ↦ e
       ]
@@ -236,7 +237,7 @@ module _ (settings : RouterSettings) (r : IsReceiver settings) where
     link = ((link, 98504), Stood (link, 98504) refl refl, (let P : ℕ → Type 0 = λ hold. link_at later 0 (record { addr = peer }) ≡ Some (renewed told_loss.shown hold 300 (link, 98504)) in subst P (sym r.link_hold) refl));
     other_links = λ j key other. kept_none _ _ _ (no_link j key other) (no_later_link j key other);
     neighbour = record { addrs = refl; willing = refl; selector = refl; by_links = by_heard_links };
-    other_neighbours = λ o other. Remains (λ e h m. none_some e (sym (no_neighbour o other) ∙ h)) (restored o other);
+    other_neighbours = λ o other. Remains (λ e h m. none_is_some (sym (no_neighbour o other) ∙ h)) (restored o other);
     two_hops = λ is a. absurd (let f : false ≡ true = is in cc);
     no_two_hops = λ off a. refl;
     other_two_hops = λ j key other. no_later_two_hop j key ∙ sym (either_none _ _ (no_two_hop j key other));

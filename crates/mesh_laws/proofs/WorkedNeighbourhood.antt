@@ -20,11 +20,12 @@ use Rattle.mesh_atoms.specs.Quality.{rule_of}
 use Rattle.mesh_atoms.specs.TakesHello.{Takes}
 use Rattle.mesh_atoms.proofs.Lookups.{same_addr}
 use Rattle.mesh_laws.specs.WorkedHello.{peer, third, one, three, five, third_row, hello, IsReceiver, nothing, link, neighbour, after, FirstHelloIsTaken}
-use Rattle.mesh_paths.proofs.ShortLists.{only, found_one, none_some, single_distinct, empty_distinct}
+use Rattle.mesh_paths.proofs.ShortLists.{only, found_one, single_distinct, empty_distinct}
 use Rattle.mesh_laws.proofs.WorkedQuality.{begun, made_is}
 use Rattle.mesh_laws.proofs.WorkedHello.{told, looks_at, looked_at, tells, no_fault, not_full, fits}
 use Rattle.mesh_atoms.proofs.Values.{same_address}
 use Rattle.mesh_atoms.proofs.Lists.{contains_head as here}
+use Rattle.mesh_atoms.proofs.Options.{none_is_some}
 
 pub same_peer : (a : Addr4) → (a ≡ peer → ⊥) → addr_eq a peer ≡ false
 same_peer a other = by_case (addr_eq a peer) refl
@@ -35,7 +36,7 @@ same_peer a other = by_case (addr_eq a peer) refl
 
 pub link_found : (i : ℕ) (key : LinkKey) (e : Link × ℕ) → link_at after i key ≡ Some e → (i ≡ 0) × (key.addr ≡ peer) × (e ≡ (link, 98504))
 link_found zero key e h = let (same, is) = found_one link_eq (record { addr = peer }) key (link, 98504) e h in (refl, same_addr key.addr peer same, is)
-link_found (suc i) key e h = none_some e h
+link_found (suc i) key e h = none_is_some h
 
 pub no_link : (j : ℕ) (key : LinkKey) → ((j ≢ 0) ⊎ (key ≢ record { addr = peer })) → link_at after j key ≡ None
 no_link zero key other = elim other [
@@ -101,7 +102,7 @@ by_links now late = record {
 
 pub kept_none : {A : Type 0} (P : A → Type 0) (old new : Option A) → old ≡ None → new ≡ None → IsKept P old new
 kept_none P None new e f = f
-kept_none P (Some a) new e f = none_some a (sym e)
+kept_none P (Some a) new e f = none_is_some (sym e)
 
 pub either_none : {A : Type 0} (b : Bool) (o : Option A) → o ≡ None → cond b o None ≡ None
 either_none true o e = e
@@ -121,7 +122,7 @@ module _ (settings : RouterSettings) (r : IsReceiver settings) where
     | inl e ↦
         let P : Addr4 → Type 0 = λ b. Contains (peer ∷ []) b in
         Back (peer, neighbour, 98504, refl, refl, subst P (sym e) (here peer [])) refl
-    | inr other ↦ Stays (λ was. none_some (was.1, was.2) was.3) (λ is. other (of_peer is)) refl
+    | inr other ↦ Stays (λ was. none_is_some was.3) (λ is. other (of_peer is)) refl
   ]
     where
       of_peer : IsSymmetricAddress after a → a ≡ peer
@@ -147,11 +148,11 @@ module _ (settings : RouterSettings) (r : IsReceiver settings) where
     };
     interfaces = refl;
     two_hop_interfaces = refl;
-    link = (made (rule_of settings 0) told.shown 200, Made (λ e h. none_some e h), renewed_link);
+    link = (made (rule_of settings 0) told.shown 200, Made (λ e h. none_is_some h), renewed_link);
     other_links = λ j key other. kept_none _ _ _ (stood_nothing j key) (no_link j key other);
     neighbour = record { addrs = refl; willing = refl; selector = refl; by_links = by_links 200 refl };
-    other_neighbours = λ o other. Remains (λ e h m. none_some e h) (no_neighbour o other);
-    two_hops = λ is a. (None, New_link (λ e h. none_some e h), two_hop_told a);
+    other_neighbours = λ o other. Remains (λ e h m. none_is_some h) (no_neighbour o other);
+    two_hops = λ is a. (None, New_link (λ e h. none_is_some h), two_hop_told a);
     no_two_hops = λ off. absurd (let f : true ≡ false = off in cc);
     other_two_hops = λ j key other. no_two_hop j key other ∙ sym (either_none _ _ (stood_no_two_hop j key));
     losts = lost_settled;

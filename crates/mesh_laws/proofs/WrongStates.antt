@@ -25,8 +25,7 @@ use Rattle.mesh_atoms.specs.Nodes.{IsBefore, IsAtMost}
 use Rattle.mesh_atoms.specs.Quality.{quality_at, rule_of, admitted, admit_on}
 use Rattle.mesh_atoms.specs.State.{State, Neighbourhood, link_at, two_hop_at, state_of, HasLink}
 use Rattle.mesh_atoms.specs.Words.{IsValue}
-use Rattle.mesh_atoms.proofs.Options.{true_false}
-use Rattle.mesh_laws.proofs.Options.{some_none}
+use Rattle.mesh_atoms.proofs.Options.{true_false, none_not}
 use Rattle.mesh_laws.proofs.Qualities.{no_later}
 use Rattle.mesh_laws.proofs.TcSets.{numbered_so}
 use Rattle.mesh_laws.specs.WrongStates.{RefusesExpiredLink, RefusesOwnTwoHop, RefusesTwoHopOfEndedLink, RefusesTupleOfOldNumber, RefusesHiddenNeighbour, RefusesPendingTold, RefusesRowOfNoSelector, RefusesTwoHopOnHeardLink, RefusesNeighbourWithoutLink, RefusesDearerRelays, RefusesGreaterParent, RefusesRouteTwice, RefusesTupleTooMany, RefusesStaleTuple}
@@ -40,9 +39,9 @@ expired_link settings now old new i key link until e stood late stands live =
     let at : admit_on settings i now (link_at old i key) ≡ Some left = ap (admit_on settings i now) stood in
     let sooner : left.1 ≤ until = no_later (rule_of settings i) settings.times.link_hold now (quality_at (rule_of settings i) link.addrs now) (link, until) in
     let gone : nat_lt now left.1 ≡ false = le-ltb now left.1 (omega (arith, late, sooner)) in
-    some_none stands (live.links i key
+    none_not (live.links i key
     ∙ (ap (λ (o : Option (Link × ℕ)). trim now (if_live now o)) at
-    ∙ ap (λ (b : Bool). trim now (cond b (Some left) None)) gone))
+    ∙ ap (λ (b : Bool). trim now (cond b (Some left) None)) gone)) stands
 
 -- the tuple of an address of the sending link
 after : {settings : RouterSettings} {now i : ℕ} {told : Told} {hello : Hello} {old new : Neighbourhood} (a : Addr4) (t : TwoHop × ℕ) →
@@ -51,7 +50,7 @@ after : {settings : RouterSettings} {now i : ℕ} {told : Told} {hello : Hello} 
     × TellsTwoHop settings told hello (now + told.shown.validity) a stood (two_hop_at new i (record { link = told.least; addr = a }))
 after {now = now} {i = i} {told = told} {new = new} a t stands hello = elim (cases_Bool (is_symmetric_at new now i told.least)) [
   | inl h ↦ hello.two_hops h a
-  | inr h ↦ some_none stands (hello.no_two_hops h a)
+  | inr h ↦ none_not (hello.no_two_hops h a) stands
 ]
 
 pub own_two_hop : RefusesOwnTwoHop
@@ -65,7 +64,7 @@ own_two_hop settings now i told hello old new a t mine none stands after_hello =
 
     told_of : {stood : Option (TwoHop × ℕ)} → TellsTwoHop settings told hello (now + told.shown.validity) a stood (two_hop_at new i (record { link = told.least; addr = a })) → stood ≡ None → ⊥
     told_of (By_row row looks makes) f = looks.not_mine mine
-    told_of (By_none quiet same) f = some_none stands (same ∙ f)
+    told_of (By_none quiet same) f = none_not (same ∙ f) stands
 
 pub two_hop_of_ended_link : RefusesTwoHopOfEndedLink
 two_hop_of_ended_link settings now i told hello old new e a t at other quiet stands after_hello =
@@ -78,7 +77,7 @@ two_hop_of_ended_link settings now i told hello old new e a t at other quiet sta
 
     told_of : {stood : Option (TwoHop × ℕ)} → TellsTwoHop settings told hello (now + told.shown.validity) a stood (two_hop_at new i (record { link = told.least; addr = a })) → stood ≡ None → ⊥
     told_of (By_row row looks makes) f = quiet row looks
-    told_of (By_none no_row same) f = some_none stands (same ∙ f)
+    told_of (By_none no_row same) f = none_not (same ∙ f) stands
 
 pub tuple_of_old_number : RefusesTupleOfOldNumber
 tuple_of_old_number now tc old new key t until complete mine stands other after_tc =

@@ -134,10 +134,6 @@ sole owners links key e a k owned found has noted =
 pub one_at : (links : Base LinkKey Link) (k l : LinkKey) (x y : Link × ℕ) → find link_eq links k ≡ Some x → find link_eq links l ≡ Some y → l ≡ k → x ≡ y
 one_at links k l x y at there same = let both : Some x ≡ Some y = sym at ∙ (ap (λ q. find link_eq links q) (sym same) ∙ there) in cc
 
--- a test holds or not
-pub not_both : (b : Bool) → b ≡ true → b ≡ false → ⊥
-not_both b holds fails = let both : true ≡ false = sym holds ∙ fails in absurd cc
-
 -- no link has an address that isn't noted
 pub unowned : (owners : List (Addr4 × LinkKey)) (links : Base LinkKey Link) (key : LinkKey) (e : Link × ℕ) (a : Addr4) → HasLinkOwners owners links → find link_eq links key ≡ Some e → Contains e.0.addrs a → None ≡ owner_of owners a → ⊥
 unowned owners links key e a owned found has none = let both : None ≡ Some key = none ∙ owned.owner key e a found has in absurd cc

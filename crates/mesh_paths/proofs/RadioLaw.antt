@@ -21,9 +21,9 @@ use Rattle.mesh_paths.proofs.Admitted.{joins_back, admitted_arc, admits_arc}
 use Rattle.mesh_paths.specs.Parts.{pair_of, is_admitted, is_arc_back, is_admitted_back, is_met, is_joined, Chain, IsInside, IsLevel, IsParts, Lowers, Goes}
 use Rattle.mesh_paths.specs.Parts.Chain.{Start, On}
 use Rattle.mesh_paths.proofs.Rows.{item_in}
-use Rattle.mesh_paths.proofs.Scenarios.{not_both, any_of, ends_of, same_ends, sound_scenario}
-use Rattle.mesh_paths.proofs.ShortLists.{none_some}
+use Rattle.mesh_paths.proofs.Scenarios.{any_of, ends_of, same_ends, sound_scenario}
 use Rattle.mesh_atoms.proofs.Lists.{contains_filter as picked, contains_cases, contains_map, contains_at, contains_none as none_of}
+use Rattle.mesh_atoms.proofs.Options.{not_both, none_is_some}
 
 -- Joined routers
 
@@ -145,7 +145,7 @@ pairs_once_by true arc rest new once = once_more (pair_of arc) (map pair_of rest
 pairs_once_by false arc rest new once = once
 
 pairs_once : (q : RadioArc → Bool) (arcs : List RadioArc) → are_distinct ends_eq (map ends_of arcs) ≡ true → Once (map pair_of (filter q arcs))
-pairs_once q [] h = λ k l a at to. none_some a at
+pairs_once q [] h = λ k l a at to. none_is_some at
 pairs_once q (arc ∷ arcs) h =
     let (new, rest) = and_parts (not (list_any (ends_eq (ends_of arc)) (map ends_of arcs))) (are_distinct ends_eq (map ends_of arcs)) h in
     pairs_once_by (q arc) arc (filter q arcs) (λ c. again new c) (pairs_once q arcs rest)
@@ -154,7 +154,7 @@ pairs_once q (arc ∷ arcs) h =
     again new c =
         let (other, there, _, e) = picked_from pair_of q arcs (pair_of arc) c in
         let same : ends_eq (ends_of arc) (ends_of other) ≡ true = same_ends arc other (ap (λ (p : Pair). p.from) (sym e)) (ap (λ (p : Pair). p.from_iface) (sym e)) (ap (λ (p : Pair). p.to) (sym e)) (ap (λ (p : Pair). p.to_iface) (sym e)) in
-        not_both (list_any (ends_eq (ends_of arc)) (map ends_of arcs)) (any_of (ends_eq (ends_of arc)) (map ends_of arcs) (ends_of other) same (contains_map ends_of arcs other there)) new
+        absurd (not_both (list_any (ends_eq (ends_of arc)) (map ends_of arcs)) (any_of (ends_eq (ends_of arc)) (map ends_of arcs) (ends_of other) same (contains_map ends_of arcs other there)) new)
 
 -- the pairs of a scenario join its routers
 pub pair_inside : (s : Scenario) (p : Pair) → Contains (pairs_in s) p → IsInside (length s.routers) p

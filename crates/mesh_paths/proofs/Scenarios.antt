@@ -16,14 +16,8 @@ use Rattle.mesh_atoms.specs.Radio.{Leads, Router, AddressOf, Attaches, IsSoundSc
 use Rattle.mesh_atoms.specs.Settings.{are_distinct, is_host, Ends, ends_eq, is_interface}
 use Rattle.mesh_atoms.specs.State.{HasAddressOn, IsOriginator}
 use Rattle.mesh_atoms.proofs.Lookups.{addr_equiv}
-use Rattle.mesh_paths.proofs.ShortLists.{none_some}
 use Rattle.mesh_atoms.proofs.Lists.{contains_cases, contains_map, first_item, contains_flat_map_at, back_distinct, contains_none as none_of, front_distinct, one_part}
-
--- Tests
-
-pub not_both : {A : Type 0} (b : Bool) → b ≡ true → not b ≡ true → A
-not_both true h g = absurd (let f : false ≡ true = g in cc)
-not_both false h g = absurd (cc)
+use Rattle.mesh_atoms.proofs.Options.{not_both, none_is_some}
 
 -- Elements
 
@@ -44,7 +38,7 @@ any_of p (x ∷ xs) a h c = elim (contains_cases x xs a c) [
 -- Distinct values
 
 part_distinct : {A B : Type 0} (eq : B → B → Bool) (f : A → List B) (xs : List A) (k : ℕ) (u : A) → are_distinct eq (flat_map f xs) ≡ true → slice_get xs k ≡ Some u → are_distinct eq (f u) ≡ true
-part_distinct eq f [] k u h at = none_some u at
+part_distinct eq f [] k u h at = none_is_some at
 part_distinct eq f (x ∷ xs) zero u h at = let e : x ≡ u = cc in subst (λ b. are_distinct eq (f b) ≡ true) e (front_distinct eq (f x) (flat_map f xs) h)
 part_distinct eq f (x ∷ xs) (suc k) u h at = part_distinct eq f xs k u (back_distinct eq (f x) (flat_map f xs) h) at
 
@@ -74,10 +68,10 @@ one_arc (x ∷ xs) a b h c d there back =
     elim (contains_cases x xs a c) [
       | inl e ↦ elim (contains_cases x xs b d) [
         | inl f ↦ sym e ∙ f
-        | inr more ↦ not_both (list_any (ends_eq (ends_of x)) (map ends_of xs)) (any_of (ends_eq (ends_of x)) (map ends_of xs) (ends_of b) (subst (λ y. ends_eq (ends_of y) (ends_of b) ≡ true) (sym e) there) (contains_map ends_of xs b more)) new
+        | inr more ↦ absurd (not_both (list_any (ends_eq (ends_of x)) (map ends_of xs)) (any_of (ends_eq (ends_of x)) (map ends_of xs) (ends_of b) (subst (λ y. ends_eq (ends_of y) (ends_of b) ≡ true) (sym e) there) (contains_map ends_of xs b more)) new)
       ]
       | inr more ↦ elim (contains_cases x xs b d) [
-        | inl f ↦ not_both (list_any (ends_eq (ends_of x)) (map ends_of xs)) (any_of (ends_eq (ends_of x)) (map ends_of xs) (ends_of a) (subst (λ y. ends_eq (ends_of y) (ends_of a) ≡ true) (sym f) back) (contains_map ends_of xs a more)) new
+        | inl f ↦ absurd (not_both (list_any (ends_eq (ends_of x)) (map ends_of xs)) (any_of (ends_eq (ends_of x)) (map ends_of xs) (ends_of a) (subst (λ y. ends_eq (ends_of y) (ends_of a) ≡ true) (sym f) back) (contains_map ends_of xs a more)) new)
         | inr other ↦ one_arc xs a b rest more other there back
       ]
     ]
@@ -112,7 +106,7 @@ no_host s x y c net a attached of_y e =
     let none : not (list_any (is_host t.net) addrs) ≡ true = all_of (λ n. not (list_any (is_host n) addrs)) nets t.net s.sound_routers.no_hosts in_nets in
     let same : t.net ≡ host a = is ∙ e in
     let yes : is_host t.net a ≡ true = subst (λ n. is_host n a ≡ true) (sym same) (eq-eqb a.0 a.0 refl) in
-    not_both (list_any (is_host t.net) addrs) (any_of (is_host t.net) addrs a yes in_addrs) none
+    absurd (not_both (list_any (is_host t.net) addrs) (any_of (is_host t.net) addrs a yes in_addrs) none)
 
 originator : (s : Scenario) (x : ℕ) (r : RouterSettings) → Router s x r → (a : Addr4) × IsOriginator r a
 originator s x r at =
@@ -129,7 +123,7 @@ arc_ends s x i y j m leads =
     let (second, other) = and_parts (is_interface counts arc.to arc.to_iface) (not (nat_eq arc.from arc.to)) rest in
     let out = counted (λ (r : RouterSettings). length r.interfaces) s.routers arc.from arc.from_iface first in
     let home = counted (λ (r : RouterSettings). length r.interfaces) s.routers arc.to arc.to_iface second in (
-      (λ e. not_both (nat_eq arc.from arc.to) (eq-eqb arc.from arc.to (from ∙ (e ∙ sym to))) other),
+      (λ e. absurd (not_both (nat_eq arc.from arc.to) (eq-eqb arc.from arc.to (from ∙ (e ∙ sym to))) other)),
       (out.0, subst (λ b. slice_get s.routers b ≡ Some out.0) from out.1),
       (home.0, subst (λ b. slice_get s.routers b ≡ Some home.0) to home.1),
     )

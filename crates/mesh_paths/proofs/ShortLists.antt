@@ -7,6 +7,7 @@ use Rattle.mesh_atoms.specs.declared.addr.Addr4.{Addr4}
 use Rattle.mesh_atoms.specs.Base.{base_of, HasDistinctKeys, addr_eq}
 use Rattle.mesh_atoms.specs.Sound.{IsWithin}
 use Rattle.mesh_atoms.proofs.Lists.{contains_head as here}
+use Rattle.mesh_atoms.proofs.Options.{none_is_some}
 
 pub only_at : {A : Type 0} (a t : A) (k : ℕ) → k < length (a ∷ []) → slice_index_or (a ∷ []) k t ≡ t → t ≡ a
 only_at a t zero l e = sym e
@@ -39,12 +40,9 @@ found_one eq k q e f h = by_case (eq q k) h
     by_case true h = (refl, (cc))
     by_case false h = absurd (cc)
 
-pub none_some : {A B : Type 0} (a : A) → None ≡ Some a → B
-none_some a e = absurd (cc)
-
 pub empty_within : {K V : Type 0} (eq : K → K → Bool) (now : ℕ) → IsWithin {K = K} {V = V} eq now 16384 []
 unfolding IsDistinct
-empty_within eq now = record { distinct = tt; limit = omega arith; fresh = λ q value until h. none_some (value, until) h }
+empty_within eq now = record { distinct = tt; limit = omega arith; fresh = λ q value until h. none_is_some h }
 
 pub empties_within : {K V : Type 0} (eq : K → K → Bool) (now i : ℕ) → IsWithin {K = K} {V = V} eq now 16384 (base_of ([] ∷ []) i)
 empties_within eq now zero = empty_within eq now

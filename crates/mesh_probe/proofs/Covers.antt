@@ -8,11 +8,9 @@ use Rattle.std.proofs.lemmas.Map.Keys.{IsDistinct-cons}
 use Rattle.std.proofs.lemmas.Map.Steps.{length-le_from_distinct_below}
 use Rattle.mesh_probe.proofs.Wave.{has, Spread, Going, frames_on, where_sent, Net, Takes, Deaf, Quiet, Sends, Hears, All_heard, One_hears, Wave, Ends, Goes, WaveFrom, Chain, Itself, On, IsSelected, IsCovering, WaveCovers}
 use Rattle.mesh_atoms.proofs.Lists.{contains_tail as in_tail, contains_cases, contains_none as none_of}
+use Rattle.mesh_atoms.proofs.Options.{true_false}
 
 -- Lists
-
-pub not_both : {A : Type 0} (b : Bool) → b ≡ true → b ≡ false → A
-not_both b e f = absurd (cc)
 
 pub has_first : (w : ℕ) (ws : List ℕ) → has (w ∷ ws) w ≡ true
 has_first w ws = rw (eq-eqb w w refl) refl
@@ -117,7 +115,7 @@ module _ (n : Net) (good : IsCovering n) where
     grows = grows_itself s;
     frames = λ g c. absurd (none_of g c);
     why = λ q h. inl h;
-    first = λ w h fresh sel k l. not_both (has s.told w) h fresh;
+    first = λ w h fresh sel k l. true_false h fresh;
   }
 
   both : (f : Going) (a b c : Spread) (xs ys : List Going) → Mid f a b xs → Mid f b c ys → Mid f a c (xs ++ ys)
@@ -146,10 +144,10 @@ module _ (n : Net) (good : IsCovering n) where
       | inl e ↦
           let fresh_w : has s.told w ≡ false = subst (λ (x : ℕ). has s.told x ≡ false) e fresh in
           let sel_w : IsSelected n f.from f.iface w = subst (λ (x : ℕ). IsSelected n f.from f.iface x) e sel in
-          let unsent : has s.sent w ≡ false = elim (cases_Bool (has s.sent w)) [ inl sends ↦ not_both (has s.told w) (v.told w sends) fresh_w | inr not_sent ↦ not_sent ] in
+          let unsent : has s.sent w ≡ false = elim (cases_Bool (has s.sent w)) [ inl sends ↦ true_false (v.told w sends) fresh_w | inr not_sent ↦ not_sent ] in
           let room = few (record { told = w ∷ s.told; sent = w ∷ s.sent }) (sends_valid w s is unsent v) in
           absurd (nay fresh_w (sel_w j flag by) (good.hops f.hops (omega (arith, room, sent.hops))))
-      | inr old ↦ not_both (has s.told q) old fresh
+      | inr old ↦ true_false old fresh
     ];
   }
 
@@ -172,7 +170,7 @@ module _ (n : Net) (good : IsCovering n) where
       | inl e ↦
           let (g, stands, from, at) = frame_on w (suc f.hops) k (n.faces w) (subst (λ (x : ℕ). k < n.faces x) e l) in
           (g, stands, from ∙ sym e, at)
-      | inr old ↦ not_both (has s.told q) old fresh
+      | inr old ↦ true_false old fresh
     ];
   }
 

@@ -5,8 +5,9 @@ use Rattle.std.specs.List.{AllPairs}
 use Rattle.std.proofs.lemmas.Bool.{cases_Bool}
 use Rattle.std.proofs.lemmas.List.Elements.{Contains-append_cases, Contains-push_cases, Contains-get_or}
 use Rattle.mesh_probe.proofs.Wave.{has, Spread, Going, frames_on, where_sent, Net, Takes, Deaf, Quiet, Sends, Hears, All_heard, One_hears, Wave, Ends, Goes, IsApart, WaveSendsOnce}
-use Rattle.mesh_probe.proofs.Covers.{has_first, frame_is, Grows, grows_on, takes_grow, not_both}
+use Rattle.mesh_probe.proofs.Covers.{has_first, frame_is, Grows, grows_on, takes_grow}
 use Rattle.mesh_atoms.proofs.Lists.{contains_tail as in_tail, contains_cases, contains_none as none_of, contains_head as front}
+use Rattle.mesh_atoms.proofs.Options.{true_false}
 
 -- no two frames are of one router and one interface
 pub data Apart : List Going → Type 0 where
@@ -59,7 +60,7 @@ module _ (n : Net) where
   }
 
   still_unsent : (old new : Spread) → Grows old new → (q : ℕ) → has new.sent q ≡ false → has old.sent q ≡ false
-  still_unsent old new grows q h = elim (cases_Bool (has old.sent q)) [ inl sends ↦ not_both (has new.sent q) (grows.sent q sends) h | inr e ↦ e ]
+  still_unsent old new grows q h = elim (cases_Bool (has old.sent q)) [ inl sends ↦ true_false (grows.sent q sends) h | inr e ↦ e ]
 
   pub all : (f : Going) {hearers : List (ℕ × ℕ)} {old new : Spread} {out : List Going} → Hears n f hearers old new out → Fresh old new out
   all f All_heard = record { grows = record { told = λ q h. h; sent = λ q h. h; more = omega arith }; apart = None_there; unsent = λ g c. absurd (none_of g c); sent = λ g c. absurd (none_of g c) }
@@ -70,7 +71,7 @@ module _ (n : Net) where
       record {
         grows = grows_on a.grows b.grows;
         apart = apart_append a.apart b.apart
-            (λ g h c d from at. not_both (has mid.sent h.from) (subst (λ (x : ℕ). has mid.sent x ≡ true) from (a.sent g c)) (b.unsent h d));
+            (λ g h c d from at. true_false (subst (λ (x : ℕ). has mid.sent x ≡ true) from (a.sent g c)) (b.unsent h d));
         unsent = λ g c. elim (Contains-append_cases first more g c) [ inl l ↦ a.unsent g l | inr r ↦ still_unsent old mid a.grows g.from (b.unsent g r) ];
         sent = λ g c. elim (Contains-append_cases first more g c) [ inl l ↦ b.grows.sent g.from (a.sent g l) | inr r ↦ b.sent g r ];
       }
@@ -82,7 +83,7 @@ module _ (n : Net) where
   onward (Goes {f = f} {rest = rest} {more = more} {all = heard} {old = old} {mid = mid} hears wave) (Then first apart) sent =
       let a = all f hears in
       let queue_apart : Apart (rest ++ more) = apart_append apart a.apart
-      (λ g h c d from at. not_both (has old.sent h.from) (subst (λ (x : ℕ). has old.sent x ≡ true) from (sent g (in_tail f rest g c))) (a.unsent h d)) in
+      (λ g h c d from at. true_false (subst (λ (x : ℕ). has old.sent x ≡ true) from (sent g (in_tail f rest g c))) (a.unsent h d)) in
       let queue_sent : (g : Going) → Contains (rest ++ more) g → has mid.sent g.from ≡ true =
       λ g c. elim (Contains-append_cases rest more g c) [ inl l ↦ a.grows.sent g.from (sent g (in_tail f rest g l)) | inr r ↦ a.sent g r ] in
       let (heard_apart, kinds) = onward wave queue_apart queue_sent in
@@ -93,7 +94,7 @@ module _ (n : Net) where
       ] in (
         Then (λ g c from at. elim (where_from g c) [
           | inl waits ↦ first g waits from at
-          | inr unsent ↦ not_both (has old.sent g.from) (subst (λ (x : ℕ). has old.sent x ≡ true) from (sent f (front f rest))) unsent
+          | inr unsent ↦ true_false (subst (λ (x : ℕ). has old.sent x ≡ true) from (sent f (front f rest))) unsent
         ]) heard_apart,
         λ g c. elim (contains_cases f heard g c) [
           | inl same ↦ inl (subst (λ (x : Going). Contains (f ∷ rest) x) same (0, omega arith, refl))

@@ -12,13 +12,14 @@ use Rattle.mesh_probe.specs.Flood.{sent_by}
 use Rattle.mesh_probe.specs.Hearing.{FloodsTo, Nothing_heard, One_more, SendsOnceFrom}
 use Rattle.mesh_probe.specs.Laws.{IsTcOf}
 use Rattle.mesh_probe.proofs.Carried.{Carries, at_hop}
-use Rattle.mesh_probe.proofs.Covers.{frame_is, has_first, not_both}
+use Rattle.mesh_probe.proofs.Covers.{frame_is, has_first}
 use Rattle.mesh_probe.proofs.Once.{Apart, Fresh, apart_append, frames_apart, pairs}
 use Rattle.mesh_probe.proofs.Once as once
 use Rattle.mesh_probe.proofs.Seen.{faces_in}
 use Rattle.mesh_probe.proofs.Simulate.{IsFlooded, net, AreLike, Matches, No_frames, A_frame, matches_append, all, opens}
 use Rattle.mesh_probe.proofs.Starts.{flooded, queue, sent_apart}
 use Rattle.mesh_probe.proofs.Wave.{has, Spread, Going, frames_on}
+use Rattle.mesh_atoms.proofs.Options.{true_false}
 
 module _ (s : Scenario) (states : List State) (now origin : ℕ) (tc : Tc) (limit : ℕ) (routers : AreStates s states) (p : State) (at : At states origin p)
     (bytes : List ℕ) (is : IsTcOf p tc limit bytes) where
@@ -81,7 +82,7 @@ module _ (s : Scenario) (states : List State) (now origin : ℕ) (tc : Tc) (limi
       let regroup : (x.gone ++ (g ∷ n.others)) ++ r.out ≡ (x.gone ++ (g ∷ [])) ++ (n.others ++ r.out) =
       append_assoc x.gone (g ∷ n.others) r.out ∙ sym (append_assoc x.gone (g ∷ []) (n.others ++ r.out)) in
       let apart_all : Apart ((x.gone ++ (g ∷ n.others)) ++ r.out) = apart_append before fresh.apart
-      (λ a b c d from at. not_both (has x.st.sent b.from) (subst (λ (v : ℕ). has x.st.sent v ≡ true) from (sent a c)) (fresh.unsent b d)) in
+      (λ a b c d from at. true_false (subst (λ (v : ℕ). has x.st.sent v ≡ true) from (sent a c)) (fresh.unsent b d)) in
       let sent_all : (h : Going) → Contains ((x.gone ++ (g ∷ n.others)) ++ r.out) h → has r.after.sent h.from ≡ true =
       λ h c. elim (Contains-append_cases (x.gone ++ (g ∷ n.others)) r.out h c) [ inl l ↦ fresh.grows.sent h.from (sent h l) | inr l ↦ fresh.sent h l ] in
       record {

@@ -35,10 +35,10 @@ use Rattle.mesh_probe.specs.Flood.{hearers_of, IsInterfaceSender}
 use Rattle.mesh_probe.specs.Laws.{AllWillFlood}
 use Rattle.mesh_probe.proofs.Seen.{faces_in, HoldsFlag, AreJoined, net_of}
 use Rattle.std.proofs.lemmas.Bool.{cases_Bool}
-use Rattle.mesh_probe.proofs.Covers.{not_both}
 use Rattle.mesh_probe.proofs.Hearers.{hearer, hearer_of}
 use Rattle.mesh_atoms.proofs.Lists.{contains_at, contains_tail as in_tail, contains_cases}
 use Rattle.mesh_atoms.proofs.Values.{same_address}
+use Rattle.mesh_atoms.proofs.Options.{true_false}
 
 -- The least of what has a property
 
@@ -206,7 +206,7 @@ module _ (s : Scenario) (states : List State) (now : ℕ) (S : IsSettledNetwork 
             | inl m ↦ inl (subst Q found.2 found.1, (tests_symmetric t.1.0 now).0 e, m)
             | inr none ↦ inr (λ f. none f.2)
           ]
-          | inr e ↦ inr (λ f. not_both (is_symmetric t.1.0 now) ((tests_symmetric t.1.0 now).1 f.1) e)
+          | inr e ↦ inr (λ f. true_false ((tests_symmetric t.1.0 now).1 f.1) e)
         ]
         | inr none ↦ inr (λ f. none t.0.addr f.0 refl)
       ]

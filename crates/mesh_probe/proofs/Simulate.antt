@@ -48,10 +48,11 @@ use Rattle.mesh_paths.proofs.LinksStay.{link_stays}
 use Rattle.mesh_probe.proofs.Links.{same_selector}
 use Rattle.mesh_probe.proofs.Noted.{does, never_own, not_twice, deaf, sends_nothing, is_do, unknown_live, unknown_deaf, Stands, stands_live, stands_noted, stands_new}
 use Rattle.std.proofs.lemmas.Bool.{cases_Bool, lt-leb}
-use Rattle.mesh_probe.proofs.Covers.{has_first, has_later, has_cases, not_both}
+use Rattle.mesh_probe.proofs.Covers.{has_first, has_later, has_cases}
 use Rattle.mesh_atoms.proofs.Values.{one_originator, addr_itself as same_eq}
 use Rattle.mesh_machine.proofs.Soundness.{same_originator}
 use Rattle.mesh_atoms.proofs.Lists.{contains_tail as in_tail, contains_cases, contains_none as none_of}
+use Rattle.mesh_atoms.proofs.Options.{true_false}
 
 -- Keys
 
@@ -276,7 +277,7 @@ module _ {s : Scenario} {states : List State} {now origin : ℕ} {tc : Tc} {m : 
             let first : IsOriginator q0.settings tc.originator =
             subst (λ (r : RouterSettings). IsOriginator r tc.originator) like.settings (subst (λ (a : Addr4). IsOriginator p.settings a) mine f.is_own) in
             let e : w ≡ origin = owner s states now S w origin tc.originator (originator_in s states now S tc.originator at first) (originator_in s states now S tc.originator G.at G.own) in
-            not_both (has st.told w) (subst (λ (x : ℕ). has st.told x ≡ true) (sym e) told) fresh
+            true_false (subst (λ (x : ℕ). has st.told x ≡ true) (sym e) told) fresh
         | inr e ↦ e
       ] in
       let left : has_no_hops f.heading ≡ false = few_hops f.heading (limit - hops) hops f.limit_is f.count_is (omega (arith, room)) (omega (arith, room, G.octet)) in
@@ -297,13 +298,13 @@ module _ {s : Scenario} {states : List State} {now origin : ℕ} {tc : Tc} {m : 
       | inl own ↦
           let same : f.heading.originator ≡ f.own = f.from ∙ one_originator p.settings tc.originator f.own own f.is_own in
           let nay = never_own f.own f.heading (Some flag) (base_of f.live.noted.received j) f.live.noted.forwarded (same_eq f.heading.originator f.own same) in
-          not_both (is_forwarded f.answer) forwards (ap is_forwarded f.answered ∙ nay)
+          true_false forwards (ap is_forwarded f.answered ∙ nay)
       | inr stands ↦
           let live = stands_live (key_of_tc tc) now p.bases.noted.forwarded f.live.noted.forwarded stands f.is_live.noted.forwarded in
           let found : find flood_eq f.live.noted.forwarded (key_of f.heading) ≡ Some live.e =
           subst (λ (k : FloodKey). find flood_eq f.live.noted.forwarded k ≡ Some live.e) (sym f.key) live.found in
           let nay = not_twice f.own f.heading (Some flag) (base_of f.live.noted.received j) f.live.noted.forwarded live.e found in
-          not_both (is_forwarded f.answer) forwards (ap is_forwarded f.answered ∙ nay)
+          true_false forwards (ap is_forwarded f.answered ∙ nay)
     ]
     | inr e ↦ e
   ]
@@ -315,7 +316,7 @@ module _ {s : Scenario} {states : List State} {now origin : ℕ} {tc : Tc} {m : 
         let new : Spread = record { told = w ∷ st.told; sent = w ∷ st.sent } in
         let is : f.answer ≡ forward.Do = is_do f.answer forwards in
         let left : has_no_hops f.heading ≡ false = elim (cases_Bool (has_no_hops f.heading)) [
-          | inl gone ↦ not_both (is_forwarded f.answer) forwards (ap is_forwarded f.answered ∙ no_hops f.own f.heading flag (base_of f.live.noted.received j) f.live.noted.forwarded gone)
+          | inl gone ↦ true_false forwards (ap is_forwarded f.answered ∙ no_hops f.own f.heading flag (base_of f.live.noted.received j) f.live.noted.forwarded gone)
           | inr e ↦ e
         ] in
         let above = hops_left f.heading (limit - hops) f.limit_is left in
@@ -328,7 +329,7 @@ module _ {s : Scenario} {states : List State} {now origin : ℕ} {tc : Tc} {m : 
           new = new;
           takes = Sends flag (not_sent w j hops q0 p q sent flag st like f forwards);
           like = like_after w j hops q0 p q sent (Some flag) st new at like f
-              (λ prem e. not_both (has new.told w) (has_first w st.told) e)
+              (λ prem e. true_false (has_first w st.told) e)
               (λ e. inr (subst (λ (n : NotedMessages). Stands (key_of_tc tc) now n.forwarded) (sym f.noted_is)
               (stands_new (key_of_tc tc) now p.settings.times.forwarded_hold f.live.noted.forwarded f.noted.forwarded (hold_above p)
               (subst (λ (k : FloodKey). Notes true k (now + p.settings.times.forwarded_hold) f.live.noted.forwarded f.noted.forwarded) f.key
@@ -342,9 +343,9 @@ module _ {s : Scenario} {states : List State} {now origin : ℕ} {tc : Tc} {m : 
         record {
           sends = false;
           new = new;
-          takes = Quiet flag (λ fresh chosen more. not_both (is_forwarded f.answer) (must_send w j hops q0 p q sent flag st at like told f fresh chosen more.0 more.1) quiet);
+          takes = Quiet flag (λ fresh chosen more. true_false (must_send w j hops q0 p q sent flag st at like told f fresh chosen more.0 more.1) quiet);
           like = like_after w j hops q0 p q sent (Some flag) st new at like f
-              (λ prem e. not_both (has new.told w) (has_first w st.told) e)
+              (λ prem e. true_false (has_first w st.told) e)
               (λ e. stand_after j hops p q sent (Some flag) f (like.sent e));
           frames = nothing w sent (f.sends ∙ sends_nothing (length p.settings.interfaces) f.octets f.answer quiet);
         }
@@ -379,8 +380,8 @@ module _ {s : Scenario} {states : List State} {now origin : ℕ} {tc : Tc} {m : 
   -- all hearers hear a frame
   other_told : {More : Type 0} {w : ℕ} {old new : Spread} {flag : Option Bool} {sends : Bool} (v : ℕ) → Takes More w old flag new sends → has new.told v ≡ false → has old.told v ≡ false
   other_told v Deaf e = e
-  other_told {w = w} {old = old} v (Quiet flag nay) e = elim (cases_Bool (has old.told v)) [ inl t ↦ not_both (has (w ∷ old.told) v) (has_later w v old.told t) e | inr f ↦ f ]
-  other_told {w = w} {old = old} v (Sends flag nay) e = elim (cases_Bool (has old.told v)) [ inl t ↦ not_both (has (w ∷ old.told) v) (has_later w v old.told t) e | inr f ↦ f ]
+  other_told {w = w} {old = old} v (Quiet flag nay) e = elim (cases_Bool (has old.told v)) [ inl t ↦ true_false (has_later w v old.told t) e | inr f ↦ f ]
+  other_told {w = w} {old = old} v (Sends flag nay) e = elim (cases_Bool (has old.told v)) [ inl t ↦ true_false (has_later w v old.told t) e | inr f ↦ f ]
 
   other_sent : {More : Type 0} {w : ℕ} {old new : Spread} {flag : Option Bool} {sends : Bool} (v : ℕ) → (v ≡ w → ⊥) → Takes More w old flag new sends → has new.sent v ≡ true → has old.sent v ≡ true
   other_sent v other Deaf e = e

@@ -21,7 +21,7 @@ use Rattle.mesh_atoms.proofs.Deciding.{Decides-addr}
 use Rattle.mesh_relay.proofs.Decide.{Decides-direct}
 use Rattle.mesh_relay.proofs.Lists.{given_by, gives, dedup_within, joined, kept_within}
 use Rattle.mesh_relay.proofs.Willing.{one_near}
-use Rattle.mesh_atoms.proofs.Options.{none_is_not_some as no_some, some_equal}
+use Rattle.mesh_atoms.proofs.Options.{some_equal, none_is_some}
 use Rattle.mesh_atoms.proofs.Lists.{contains_none, contains_head, contains_cases, contains_tail}
 
 -- Ways in order
@@ -234,7 +234,7 @@ direct_gives_none g place n f d =
 
 way_at_is : (g : NeighbourGraph) (place : ℕ) (n : Near) (f : Far) (w : Way) → way_at g place n f ≡ Some w → IsWayBy g place n f w
 way_at_is g place n f w e = elim (way_at_cases g place n f (is_direct_within g f.addr (n.cost + f.cost)) refl) [
-  | inl d ↦ absurd (no_some w (sym (direct_gives_none g place n f d) ∙ e))
+  | inl d ↦ absurd (none_is_some (sym (direct_gives_none g place n f d) ∙ e))
   | inr h ↦ subst (IsWayBy g place n f) (some_equal h.0 w (sym h.1 ∙ e)) h.2
 ]
 
@@ -253,7 +253,7 @@ given : (g : NeighbourGraph) (willing : List Near) (w : Way) → Contains (filte
 given g willing w h =
     let f = given_by (λ (x : Far). way_from g 0 willing x) g.far w h in
     elim (found g 0 willing f.0) [
-      | inl none ↦ absurd (no_some w (sym none.1 ∙ f.2))
+      | inl none ↦ absurd (none_is_some (sym none.1 ∙ f.2))
       | inr r ↦
           let is = way_at_is g r.place r.near f.0 w (sym r.gives ∙ f.2) in
           let start : r.place ≡ 0 + r.index = r.is in

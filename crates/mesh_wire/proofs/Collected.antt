@@ -7,6 +7,7 @@ use Rattle.mesh_wire.specs.declared.parts.RowParts.{RowParts}
 use Rattle.mesh_wire.specs.Entries.{Entry, is_of, put_said, collected}
 use Rattle.mesh_wire.specs.KeptParts.{no_parts}
 use Rattle.mesh_wire.proofs.Slots.{IsMore, RowIs, row_more, row_same, row_none}
+use Rattle.mesh_atoms.proofs.Options.{some_equal}
 
 -- one of the entries is so
 abbrev pub AnyOf : (Entry → Type 0) → List Entry → Type 0
@@ -35,11 +36,8 @@ module _ (net : NetAddr) where
   abbrev With : Entry → (ℕ → List ℕ → Type 0) → ℕ → List ℕ → Type 0
   With e S k x = S k x ⊎ SaysOf net k x e
 
-  same_some : (p q : ℕ × List ℕ) → Some p ≡ Some q → p ≡ q
-  same_some p q e = cc
-
   same_said : (p q : ℕ × List ℕ) → Some p ≡ Some q → (q.0 ≡ p.0) × (q.1 ≡ p.1)
-  same_said p q e = let f = sym (same_some p q e) in (ap (λ (r : ℕ × List ℕ). r.0) f, ap (λ (r : ℕ × List ℕ). r.1) f)
+  same_said p q e = let f = sym (some_equal p q e) in (ap (λ (r : ℕ × List ℕ). r.0) f, ap (λ (r : ℕ × List ℕ). r.1) f)
 
   is_more : (e : Entry) (S : ℕ → List ℕ → Type 0) (k : ℕ) (x : List ℕ) → is_of net e ≡ true → e.said ≡ Some (k, x) → IsMore S (With e S) k x
   is_more e S k x of is = record {

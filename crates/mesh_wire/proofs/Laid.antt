@@ -24,8 +24,8 @@ use Rattle.mesh_wire.specs.Parts.{octets_of, IsIn, value_at}
 use Rattle.mesh_wire.specs.Rows.{HoldsAddressAt, HoldsAddress, HasPart, HasValue}
 use Rattle.mesh_wire.specs.Runs.{host_octets, raw_of, present, IsColumnTlv, LaysAll, IsBlock, AreBlocks}
 use Rattle.mesh_atoms.proofs.Lists.{contains_at as at_place, place_of, contains_head as at_head, contains_tail as in_tail, contains_cases, contains_none as none_in}
-use Rattle.mesh_atoms.proofs.Options.{one_some}
 use Rattle.mesh_atoms.proofs.Values.{same_addr}
+use Rattle.mesh_atoms.proofs.Options.{same_some}
 
 -- ---- places of lists
 
@@ -146,7 +146,7 @@ module _ (m : MessageFields) (lines : List AddressRecord) (are : AreBlocks lines
       let (line, at, of) = line_at front h.block is h.place h.address.address net h.address.in_block h.address.is_in in
       let (c, run) = runs_of_all columns front h.block.tlvs is.tlvs h.tlv h.in_block in
       let (other, octets, there, value, told) = run.says h.place h.first h.last in
-      let same : other ≡ line = one_some other line (slice_get front h.place) there at in
+      let same : other ≡ line = same_some there at in
       let e : octets_of part.value ≡ octets = ap (λ (p : TlvFields). octets_of p.value) h.part_is ∙ ap octets_of told in (
         line,
         c,
@@ -172,8 +172,8 @@ module _ (m : MessageFields) (lines : List AddressRecord) (are : AreBlocks lines
       let (place, lt, at) = place_of front line here in
       let (tlv, in_block, run, low, high) = covered_in columns front b.tlvs is.tlvs c (each_column c) place line octets lt at value in
       let (other, told, there, value', is_told) = run.says place low high in
-      let same : other ≡ line = one_some other line (slice_get front place) there at in
-      let e : told ≡ octets = one_some told octets (value_of c line) (ap (value_of c) (sym same) ∙ value') value in (
+      let same : other ≡ line = same_some there at in
+      let e : told ≡ octets = same_some (ap (value_of c) (sym same) ∙ value') value in (
         Some octets,
         record {
           block = b;

@@ -18,7 +18,7 @@ use Rattle.mesh_wire.specs.Tc.{ContentIs, IsReadTcRow, TcIs}
 use Rattle.mesh_wire.specs.TcRules.{BreaksTc, TwoGateways, WrongMetric}
 use Rattle.mesh_wire.specs.Times.{distance_of}
 use Rattle.mesh_wire.proofs.Single.{one_time, one_interval, one_originator, one_octet, one_metric, one_flag, one_rows}
-use Rattle.mesh_atoms.proofs.Options.{one_some}
+use Rattle.mesh_atoms.proofs.Options.{same_some}
 
 -- ---- rows
 
@@ -73,8 +73,8 @@ one_tc message keeps a b h g =
     let distance : ℕ = distance_of message.count in
     let originator : Some a.originator ≡ Some b.originator = one_originator message.originator (Some a.originator) (Some b.originator) h.originator g.originator in
     let content = one_content message a.ansn b.ansn a.complete b.complete h.content g.content in
-    ap (λ (x : Addr4). tc_from x a.sequence a.ansn a.complete a.validity a.interval a.rows a.ascending) (one_some a.originator b.originator (Some b.originator) (sym originator) refl)
-    ∙ ap (λ (x : ℕ). tc_from b.originator x a.ansn a.complete a.validity a.interval a.rows a.ascending) (one_some a.sequence b.sequence message.sequence h.sequence g.sequence)
+    ap (λ (x : Addr4). tc_from x a.sequence a.ansn a.complete a.validity a.interval a.rows a.ascending) (same_some (sym originator) refl)
+    ∙ ap (λ (x : ℕ). tc_from b.originator x a.ansn a.complete a.validity a.interval a.rows a.ascending) (same_some h.sequence g.sequence)
     ∙ ap (λ (x : ℕ). tc_from b.originator b.sequence x a.complete a.validity a.interval a.rows a.ascending) content.0
     ∙ ap (λ (x : Bool). tc_from b.originator b.sequence b.ansn x a.validity a.interval a.rows a.ascending) content.1
     ∙ ap (λ (x : ℕ). tc_from b.originator b.sequence b.ansn b.complete x a.interval a.rows a.ascending) (one_time message 1 distance a.validity b.validity h.validity.0 g.validity.0)

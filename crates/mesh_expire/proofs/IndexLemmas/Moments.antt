@@ -10,7 +10,7 @@ use Rattle.mesh_atoms.specs.Base.{Base, HasDistinctKeys, find, SetsOnly, Expires
 use Rattle.mesh_expire.specs.Index.Moments.{once_if, times_in, times_at, PutsAt, TakesAt, is_moment, until_of, AreMomentsOf, SetsMoment}
 use Rattle.mesh_expire.specs.Table.{changed_at, TakesExpired}
 use Rattle.mesh_expire.proofs.Laws.{find_same, find-changed_at, changed_at-set_value}
-use Rattle.mesh_atoms.proofs.Options.{none_is_not_some}
+use Rattle.mesh_atoms.proofs.Options.{none_is_some}
 
 -- one pair comes in, where its key had none
 comes : (a e : Bool) (x : ℕ) → x ≡ cond e 0 x → x + once_if (a && e) ≡ cond e (once_if a) x
@@ -198,7 +198,7 @@ module _ {K : Type 0} (eq : K → K → Bool) where
       taken_entry = found_moment (find eq base key) taken.0 (subst (λ n. 0 < n) (tells taken.0 key) taken.2)
 
       pub never_absent : None ≡ find eq base key → ⊥
-      never_absent none = none_is_not_some (taken_entry.0, taken.0) (none ∙ taken_entry.1)
+      never_absent none = none_is_some (none ∙ taken_entry.1)
 
       -- with it one entry goes
       pub one_fewer : (few many : ℕ) (entry : Option (V × ℕ)) → entry ≡ find eq base key → few + (if is_some entry then 1 else 0) ≡ many → few < many

@@ -8,8 +8,8 @@ use Rattle.std.specs.BTreeMap.{is_at}
 use Rattle.std.specs.BTreeSet.{BTreeSet, contains, Updates}
 use Rattle.mesh_atoms.specs.Base.{Base, find, SetsOnly}
 use Rattle.mesh_nbrs.specs.TwoHops.Keyed.{Knows}
-use Rattle.mesh_atoms.proofs.Options.{none_is_not_some}
 use Rattle.mesh_atoms.proofs.Lists.{any_filter}
+use Rattle.mesh_atoms.proofs.Options.{none_is_some}
 
 pub knows_kept : {K V : Type 0} (eq : K → K → Bool) (cmp : K → K → Ordering) → ((x y : K) → eq x y ≡ is_eq (cmp x y)) → ((a b : K) → eq a b ≡ true → a ≡ b) → (base : Base K V) (old new : BTreeSet K)
     → Knows eq cmp old base → new.keys ≡ filter (λ k. is_some (find eq base k)) old.keys → Knows eq cmp new base
@@ -38,6 +38,6 @@ module _ {K V : Type 0} (eq : K → K → Bool) (cmp : K → K → Ordering) (ke
   pub knows_removed : ((x y : K) → eq x y ≡ is_eq (cmp x y)) → (keys keys' : BTreeSet K) → Knows eq cmp keys base → Updates cmp keys keys' key false → SetsOnly eq base base' key None → Knows eq cmp keys' base'
   knows_removed agree keys keys' knows updates only q e found = by_key (eq key q) refl where
     by_key : (b : Bool) → eq key q ≡ b → IsTrue (contains cmp keys' q)
-    by_key true is = absurd (none_is_not_some e (sym (only q ∙ ap (λ (b : Bool). cond b None (find eq base q)) is) ∙ found))
+    by_key true is = absurd (none_is_some (sym (only q ∙ ap (λ (b : Bool). cond b None (find eq base q)) is) ∙ found))
     by_key false is =
         updates.0 q ∙ ap (λ (b : Bool). cond b false (contains cmp keys q)) (sym (agree key q) ∙ is) ∙ knows q e (sym (only q ∙ ap (λ (b : Bool). cond b None (find eq base q)) is) ∙ found)

@@ -20,7 +20,7 @@ use Rattle.mesh_atoms.specs.RelayGraphs.{IsFloodingGraph, IsMetricOver, IsRoutin
 use Rattle.mesh_atoms.specs.Relays.{HasDistinctIds}
 use Rattle.mesh_atoms.specs.State.{State, HasLink, HasSymmetric, HasSymmetricWith, HasTwoHop, is_symmetric, neighbour_at, state_of}
 use Rattle.mesh_atoms.proofs.Lookups.{addr_equiv, tests_symmetric}
-use Rattle.mesh_atoms.proofs.Options.{one_some, some_equal}
+use Rattle.mesh_atoms.proofs.Options.{some_equal, same_some}
 use Rattle.mesh_routes.proofs.Listed.{IsListed, listed_by, listed_one}
 use Rattle.mesh_renewal.proofs.Existing.Listings.{each_or_not, list_such, true_or_not, upto_or_not}
 use Rattle.mesh_renewal.proofs.Existing.Listings.{list_elements, list_value, list_below, list_where, list_of}
@@ -150,7 +150,7 @@ module _ (s : State) where
         record { near = near; direct = direct; far = far },
         record { near = are_near; direct = are_direct; far = are_far },
         λ x y has has' ids. one_near s CostsIn costs_in to_route hop_in distinct
-            (λ n m k is is'. ap (λ (v : Metric). metric_value v) (one_some m k n.metric_in is is'))
+            (λ n m k is is'. ap (λ (v : Metric). metric_value v) (same_some is is'))
             x y ((are_near x).0 has) ((are_near y).0 has') ids,
       )
 

@@ -16,7 +16,7 @@ use Rattle.mesh_expire.specs.Keyed.{AreKeys}
 use Rattle.mesh_expire.proofs.Laws.{find_same}
 use Rattle.mesh_topo.specs.TcSets.Same.{SaysSame}
 use Rattle.mesh_topo.specs.TcSets.Sets.{GivenBy, GivenBefore, PutsGiven, PutsRows, Put, Stood, has_other_number, is_outdated}
-use Rattle.mesh_atoms.proofs.Options.{cond_same, none_is_not_some}
+use Rattle.mesh_atoms.proofs.Options.{cond_same, none_is_some}
 
 -- ---- rows that are put one after the other
 
@@ -165,7 +165,7 @@ module _ {K V : Type 0} (eq : K → K → Bool) (says : V → Option ℕ × Metr
   pub put_new : (laws : IsEquivalence eq) (key : K) (value : V) (until : ℕ) (old new : Base K V) → None ≡ option_map (λ e. e.0) (find eq old key) → SetsOnly eq old new key (Some (value, until)) → (true ≡ false) ↔ SaysSame eq says old new
   put_new laws key value until old new none sets = (
     λ apart. absurd cc,
-    λ says_same. absurd (none_is_not_some (says value) (ap (option_map says) none ∙ sym (says_of (find eq old key)) ∙ sym (says_same key) ∙ says_put laws key value until old new sets)),
+    λ says_same. absurd (none_is_some (ap (option_map says) none ∙ sym (says_of (find eq old key)) ∙ sym (says_same key) ∙ says_put laws key value until old new sets)),
   )
 
 -- ---- the set of the keys

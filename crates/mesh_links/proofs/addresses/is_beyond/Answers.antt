@@ -3,7 +3,8 @@ use Rattle.std.specs.Prelude.{Contains}
 use Rattle.std.proofs.lemmas.Bool.{false≢true}
 use Rattle.std.proofs.lemmas.List.Elements.{AllWithin-more, AllWithin-upto, All-from_all_within, All-contains, Contains-get_or}
 use Rattle.mesh_atoms.specs.declared.addr.Addr4.{Addr4}
-use Rattle.mesh_links.proofs.Tied.{at_any, not_both}
+use Rattle.mesh_links.proofs.Tied.{at_any}
+use Rattle.mesh_atoms.proofs.Options.{true_false}
 use Rattle.mesh_links.proofs.addresses.is_beyond.Goals as goal
 
 pub loop-addr-preserved : goal.loop-addr-preserved
@@ -18,7 +19,7 @@ returns-then-not-contains c =
       λ e. (
         get_or c.args.addrs.now c.loop-addr.addr-index none,
         Contains-get_or c.args.addrs.now c.loop-addr.addr-index none c.loop-addr-test.true,
-        λ has. not_both c.contains.result (c.contains.ensures.1 has) c.if-not-contains.true,
+        λ has. true_false (c.contains.ensures.1 has) c.if-not-contains.true,
       ),
       λ w. refl,
     )

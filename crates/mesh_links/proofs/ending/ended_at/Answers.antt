@@ -1,7 +1,8 @@
 use Rattle.std.proofs.Common.{ℕ, sym, subst}
 use Rattle.mesh_atoms.specs.declared.tuples.Link.{Link}
 use Rattle.mesh_links.specs.Ending.{Spares}
-use Rattle.mesh_links.proofs.Tied.{sole, unowned, unlinked, same_of, not_both}
+use Rattle.mesh_links.proofs.Tied.{sole, unowned, unlinked, same_of}
+use Rattle.mesh_atoms.proofs.Options.{true_false}
 use Rattle.mesh_links.proofs.ending.ended_at.Goals as goal
 
 pub returns-in_default-clause-none : goal.returns-in_default-clause-none
@@ -17,5 +18,5 @@ returns-then-is_spared-clause-none g c key e found has =
     let same = same_of _ (c.in-Some-get.link.now, c.in-Some-get._until) e c.in-Some-get.ensures one in
     subst (λ (x : Link × ℕ). Spares c.args.which x.0) same (c.is_spared.ensures.0 c.if-is_spared.true)
 
-pub returns-else-is_spared-clause-some : goal.returns-else-is_spared-clause-some
-returns-else-is_spared-clause-some g c = ((c.in-Some-get.link.now, c.in-Some-get._until), sym c.in-Some-get.ensures, λ stays. not_both c.is_spared.result (c.is_spared.ensures.1 stays) c.if-is_spared.false)
+pub returns-else-spares-clause-some : goal.returns-else-spares-clause-some
+returns-else-spares-clause-some g c = ((c.in-Some-get.link.now, c.in-Some-get._until), sym c.in-Some-get.ensures, λ stays. true_false (c.spares.ensures.1 stays) c.if-spares.false)

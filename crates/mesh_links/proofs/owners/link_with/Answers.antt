@@ -2,7 +2,8 @@ use Rattle.std.proofs.Common.{◌≡◌, ℕ, sym, subst}
 use Rattle.std.specs.Prelude.{Contains}
 use Rattle.mesh_atoms.specs.declared.tuples.Link.{Link}
 use Rattle.mesh_atoms.specs.Base.{find, link_eq}
-use Rattle.mesh_links.proofs.Tied.{sole, unowned, unlinked, same_of, not_both}
+use Rattle.mesh_links.proofs.Tied.{sole, unowned, unlinked, same_of}
+use Rattle.mesh_atoms.proofs.Options.{true_false}
 use Rattle.mesh_links.proofs.owners.link_with.Goals as goal
 
 pub returns-in_default-clause-none : goal.returns-in_default-clause-none
@@ -24,4 +25,4 @@ returns-else-contains-clause-none g c key e with =
     let one = (sole c.args.owners.now.entries (g.T.Table.content c.args.table.now) key e c.args.addr c.in-Some.key.now c.requires with.0 with.1 (sym c.in-Some.ensures.value)).1 in
     let same : (c.in-Some-get.link.now, c.in-Some-get.until) ≡ e = same_of (find link_eq (g.T.Table.content c.args.table.now) c.in-Some.key.now) (c.in-Some-get.link.now, c.in-Some-get.until) e c.in-Some-get.ensures one in
     let has : Contains c.in-Some-get.link.now.addrs c.args.addr = subst (λ (x : Link × ℕ). Contains x.0.addrs c.args.addr) (sym same) with.1 in
-    not_both c.contains.result (c.contains.ensures.1 (rw c.as_slice.ensures has)) c.if-contains.false
+    true_false (c.contains.ensures.1 (rw c.as_slice.ensures has)) c.if-contains.false

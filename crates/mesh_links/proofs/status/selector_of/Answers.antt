@@ -2,7 +2,8 @@ use Rattle.std.proofs.Common.{ℕ, ◌∙◌, sym, ap}
 use Rattle.mesh_atoms.specs.declared.tuples.Link.{Link}
 use Rattle.mesh_atoms.specs.State.{is_symmetric}
 use Rattle.mesh_links.specs.Links.{Linked, Unlinked}
-use Rattle.mesh_links.proofs.Tied.{one_at, not_both}
+use Rattle.mesh_links.proofs.Tied.{one_at}
+use Rattle.mesh_atoms.proofs.Options.{true_false}
 use Rattle.mesh_links.proofs.status.selector_of.Goals as goal
 
 pub returns-in_default : goal.returns-in_default
@@ -17,4 +18,4 @@ returns-else-is_symmetric g c =
     Unlinked (λ link with. (
     let (key, until, found, has, symmetric) = with in
     let same = one_at (g.T.Table.content c.args.table.now) c.in-Some.field-0-0.now key (c.in-Some.link.now, c.in-Some.field-0-2) (link, until) c.in-Some.ensures.some.0 found (c.in-Some.ensures.only key (link, until) (found, has)) in
-    not_both c.is_symmetric.result (c.is_symmetric.ensures ∙ (ap (λ (e : Link × ℕ). is_symmetric e.0 c.args.now) same ∙ symmetric)) c.if-is_symmetric.false))
+    true_false (c.is_symmetric.ensures ∙ (ap (λ (e : Link × ℕ). is_symmetric e.0 c.args.now) same ∙ symmetric)) c.if-is_symmetric.false))
