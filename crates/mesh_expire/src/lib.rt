@@ -2,18 +2,18 @@
 #![tactic(auto)]
 
 mod bases;
-mod expiring;
 mod index;
 mod keyed;
 mod keys;
 mod list_table;
 mod no_table;
+mod swept_table;
 mod table;
 
 pub use bases::{Bases, NoBases, PlainBases};
-pub use expiring::expire_each;
 pub use index::{IndexTable, IndexedBases};
 pub use keyed::{expire_keyed, put_keyed, remove_keyed};
 pub use list_table::ListTable;
 pub use no_table::NoTable;
+pub use swept_table::SweptTable;
 pub use table::{Key, Table};

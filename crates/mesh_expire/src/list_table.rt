@@ -1,5 +1,5 @@
 //! A table that is a list.
-ghost use Rattle.std.specs.Prelude.{◌≡◌, ◌+◌, ◌<◌, ◌≤◌, ℕ, length, false, if◌then◌else◌, is_some, OnOk, OnErr, IfSome, IfNone, IsTrue, IsSome, ◌↔◌, slice_get, option_map, Some, None};
+ghost use Rattle.std.specs.Prelude.{◌≡◌, ◌+◌, ◌<◌, ◌≤◌, ℕ, length, swap_remove, false, if◌then◌else◌, is_some, OnOk, OnErr, IfSome, IfNone, IsTrue, IsSome, ◌↔◌, slice_get, option_map, Some, None};
 ghost use Rattle.mesh_atoms.specs.Base.{HasDistinctKeys, find, SetsOnly, Expires, IsFresh};
 ghost use Rattle.mesh_expire.specs.Table.{changed_at, TakesExpired};
 
@@ -102,10 +102,25 @@ fn drop_expired<K: Key + Drop, V: Drop>(entries: &mut Vec<(K, (V, u64))>, now: u
     ensures distinct { HasDistinctKeys K.eq entries.new.items }
     ensures kept { Expires K.eq now entries.old.items entries.new.items }
     ensures count { result + length entries.new.items ≡ length entries.old.items }
+    ensures none { result ≡ 0 → entries.new.items ≡ entries.old.items }
 {
     let before = entries.len();
     entries.retain(|entry| now < entry.1.1);
     before - entries.len()
+}
+
+fn remove_from_place<K: Key + Drop, V: Drop>(entries: &mut Vec<(K, (V, u64))>, place: usize) -> bool
+    requires { HasDistinctKeys K.eq entries.old.items }
+    ensures distinct { HasDistinctKeys K.eq entries.new.items }
+    ensures found { IsTrue result ↔ (place < length entries.old.items) }
+    ensures removed { (e : K × (V × ℕ)) → slice_get entries.old.items place ≡ Some e → entries.new.items ≡ swap_remove entries.old.items place e }
+    ensures unchanged { result ≡ false → entries.new.items ≡ entries.old.items }
+{
+    if place >= entries.len() {
+        return false;
+    }
+    entries.swap_remove(place);
+    true
 }
 
 // Where an entry stands whose moment is at or below now.
@@ -190,6 +205,10 @@ impl<K: Key + Drop, V: Drop> Table<K, V> for ListTable<K, V> {
 
     fn remove(&mut self, key: &K) -> bool {
         remove_from(&mut self.entries, key)
+    }
+
+    fn remove_at(&mut self, place: usize) -> bool {
+        remove_from_place(&mut self.entries, place)
     }
 
     fn expire(&mut self, now: u64) -> usize {

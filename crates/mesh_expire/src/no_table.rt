@@ -40,6 +40,10 @@ impl<K: Key, V: Drop> Table<K, V> for NoTable {
         false
     }
 
+    fn remove_at(&mut self, _place: usize) -> bool {
+        false
+    }
+
     fn expire(&mut self, _now: u64) -> usize {
         0
     }

@@ -1,5 +1,5 @@
 //! What a table is.
-ghost use Rattle.std.specs.Prelude.{◌≡◌, ◌+◌, [], length, true, false, if◌then◌else◌, is_some, IfOk, OnOk, OnErr, IfSome, IfNone, IsTrue, IsSome, ◌↔◌, slice_get, option_map, Some, None};
+ghost use Rattle.std.specs.Prelude.{◌≡◌, ◌+◌, ◌<◌, ℕ, [], length, swap_remove, true, false, if◌then◌else◌, is_some, IfOk, OnOk, OnErr, IfSome, IfNone, IsTrue, IsSome, ◌↔◌, slice_get, option_map, Some, None};
 ghost use Rattle.std.specs.Option.{option_copied_mut};
 ghost use Rattle.std.specs.Borrow.{sem};
 ghost use Rattle.mesh_atoms.specs.Base.{Base, HasDistinctKeys, find, SetsOnly, Expires, IsFresh};
@@ -27,7 +27,7 @@ pub trait Table<K: Key, V>: Sized + Drop {
         ensures distinct { HasDistinctKeys K.eq (content self.now) };
 
     /// The entry at a place, counted from 0; `None` from the length on. An entry stays at its place up to the next `put`,
-    /// `remove`, `expire` or `expire_next`.
+    /// `remove`, `remove_at`, `expire` or `expire_next`.
     fn at(&self, place: usize) -> Option<(&K, &V, u64)>
         ensures { entry_of result ≡ slice_get (content self.now) place };
 
@@ -60,10 +60,21 @@ pub trait Table<K: Key, V>: Sized + Drop {
         ensures count { length (content self.new) + (if result then 1 else 0) ≡ length (content self.old) }
         ensures distinct { HasDistinctKeys K.eq (content self.new) };
 
-    /// Takes out each entry whose moment is at or below now, and gives their number. Takes no memory.
+    /// Takes out the entry at a place, and the last entry comes to its place; false, changing nothing, from the length on. No
+    /// other entry comes to another place. Takes no memory.
+    fn remove_at(&mut self, place: usize) -> bool
+        ensures found { IsTrue result ↔ (place < length (content self.old)) }
+        ensures removed { (e : K × (V × ℕ)) → slice_get (content self.old) place ≡ Some e
+            → content self.new ≡ swap_remove (content self.old) place e }
+        ensures unchanged { result ≡ false → content self.new ≡ content self.old }
+        ensures distinct { HasDistinctKeys K.eq (content self.new) };
+
+    /// Takes out each entry whose moment is at or below now, and gives their number; where there is none, no entry comes to
+    /// another place. Takes no memory.
     fn expire(&mut self, now: u64) -> usize
         ensures kept { Expires K.eq now (content self.old) (content self.new) }
         ensures count { result + length (content self.new) ≡ length (content self.old) }
+        ensures none { result ≡ 0 → content self.new ≡ content self.old }
         ensures distinct { HasDistinctKeys K.eq (content self.new) };
 
     /// Takes out one entry whose moment is at or below now, and gives its key and its record; `None`, changing nothing,

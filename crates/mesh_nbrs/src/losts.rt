@@ -7,7 +7,7 @@ ghost use Rattle.mesh_nbrs.specs.Losts.{SettlesAll};
 
 use indexmap::IndexSet;
 use mesh_atoms::{Addr4, Lost};
-use mesh_expire::{Table, expire_each};
+use mesh_expire::Table;
 use std::alloc::{AllocError, Global};
 use std::marker::Model;
 
@@ -83,7 +83,7 @@ impl<T: Table<Addr4, Lost>> LostSet<T> {
         ensures none { result ≡ 0 → self.new ≡ self.old }
         ensures distinct { HasDistinctKeys addr_eq self.new }
     {
-        expire_each(&mut self.table, now)
+        self.table.expire(now)
     }
 }
 

@@ -1,19 +1,19 @@
 //! Bases of indexed tables.
-use crate::Bases;
 use crate::index::index_table::IndexTable;
+use crate::{Bases, SweptTable};
 use mesh_atoms::{
     Addr4, AddressKey, AddressTuple, Advertiser, FloodKey, Link, LinkKey, Lost, Neighbour,
     NetworkKey, NetworkTuple, Noted, RouterKey, RouterTuple, TwoHop, TwoHopKey,
 };
 
-/// Bases of indexed tables.
+/// Bases of indexed tables, and of a swept one for the 2-hop tuples, which are many and go together.
 #[derive(Drop)]
 pub struct IndexedBases;
 
 impl Bases for IndexedBases {
     type Links = IndexTable<LinkKey, Link>;
 
-    type TwoHops = IndexTable<TwoHopKey, TwoHop>;
+    type TwoHops = SweptTable<TwoHopKey, TwoHop>;
 
     type Neighbours = IndexTable<Addr4, Neighbour>;
 

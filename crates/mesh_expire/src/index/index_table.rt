@@ -1,5 +1,5 @@
 //! A table with an index of its keys, and one of its moments.
-ghost use Rattle.std.specs.Prelude.{◌≡◌, ◌≤◌, ◌<◌, ℕ, ◌+◌, length, true, false, if◌then◌else◌, is_some, IfOk, OnOk, OnErr, IfSome, IfNone, IsTrue, IsSome, ◌↔◌, option_map, Some, None};
+ghost use Rattle.std.specs.Prelude.{◌≡◌, ◌≤◌, ◌<◌, ℕ, ◌+◌, length, slice_get, swap_remove, true, false, if◌then◌else◌, is_some, IfOk, OnOk, OnErr, IfSome, IfNone, IsTrue, IsSome, ◌↔◌, option_map, Some, None};
 ghost use Rattle.mesh_atoms.specs.Base.{HasDistinctKeys, find, SetsOnly, Expires, IsFresh};
 ghost use Rattle.mesh_expire.specs.Table.{changed_at, TakesExpired};
 ghost use Rattle.mesh_expire.specs.Index.Moments.{AreMomentsOf};
@@ -126,22 +126,23 @@ fn remove_from<K: Key + Hash + Drop, V: Drop>(
     true
 }
 
-fn drop_expired<K: Key + Hash + Drop, V: Drop>(
+fn remove_from_place<K: Key + Hash + Drop, V: Drop>(
     map: &mut IndexMap<K, (V, u64)>,
     moments: &mut BTreeMap<u64, Bucket<K>>,
-    now: u64,
-) -> usize
+    place: usize,
+) -> bool
     requires { AreMomentsOf K.eq moments.old map.old.entries }
     ensures tells { AreMomentsOf K.eq moments.new map.new.entries }
     ensures distinct { HasDistinctKeys K.eq map.new.entries }
-    ensures kept { Expires K.eq now map.old.entries map.new.entries }
-    ensures count { result + length map.new.entries ≡ length map.old.entries }
+    ensures found { IsTrue result ↔ (place < length map.old.entries) }
+    ensures removed { (e : K × (V × ℕ)) → slice_get map.old.entries place ≡ Some e → map.new.entries ≡ swap_remove map.old.entries place e }
+    ensures unchanged { result ≡ false → map.new.entries ≡ map.old.entries }
 {
-    let before = map.len();
-    while let Some(key) = take_expired(moments, now) {
-        map.swap_remove(&key);
-    }
-    before - map.len()
+    let Some((key, (_, until))) = map.swap_remove_index(place) else {
+        return false;
+    };
+    take_key(moments, until, &key);
+    true
 }
 
 fn take_next<K: Key + Hash + Drop, V: Drop>(
@@ -167,6 +168,23 @@ fn take_next<K: Key + Hash + Drop, V: Drop>(
         return None;
     };
     Some((key, value))
+}
+
+fn drop_expired<K: Key + Hash + Drop, V: Drop>(
+    map: &mut IndexMap<K, (V, u64)>,
+    moments: &mut BTreeMap<u64, Bucket<K>>,
+    now: u64,
+) -> usize
+    requires { AreMomentsOf K.eq moments.old map.old.entries }
+    ensures tells { AreMomentsOf K.eq moments.new map.new.entries }
+    ensures distinct { HasDistinctKeys K.eq map.new.entries }
+    ensures kept { Expires K.eq now map.old.entries map.new.entries }
+    ensures count { result + length map.new.entries ≡ length map.old.entries }
+    ensures none { result ≡ 0 → map.new.entries ≡ map.old.entries }
+{
+    let before = map.len();
+    while let Some(_gone) = take_next(map, moments, now) {}
+    before - map.len()
 }
 
 fn set_until_in<K: Key + Hash + Drop, V>(
@@ -231,6 +249,10 @@ impl<K: Key + Ord + Hash + Drop, V: Drop> Table<K, V> for IndexTable<K, V> {
 
     fn remove(&mut self, key: &K) -> bool {
         remove_from(&mut self.map, &mut self.moments, key)
+    }
+
+    fn remove_at(&mut self, place: usize) -> bool {
+        remove_from_place(&mut self.map, &mut self.moments, place)
     }
 
     fn expire(&mut self, now: u64) -> usize {

@@ -3,19 +3,16 @@ ghost use Rattle.std.specs.Prelude.{◌≡◌, ◌+◌, ◌↔◌, [], length, f
 ghost use Rattle.mesh_atoms.specs.Base.{Base, HasDistinctKeys, find, SetsOnly, Expires, two_hop_eq};
 ghost use Rattle.mesh_nbrs.specs.TwoHops.TwoHops.{DropsLink};
 
-use crate::two_hops::keyed::{purge_after, put_keyed, remove_keyed};
-use crate::two_hops::two_hop_order::drop_all;
+use crate::two_hops::dropping::drop_all;
 use mesh_atoms::{Addr4, LinkKey, Metric, TwoHop, TwoHopKey};
-use mesh_expire::{Table, expire_each};
+use mesh_expire::Table;
 use std::alloc::{AllocError, Global};
-use std::collections::BTreeSet;
 use std::marker::Model;
 
 /// The 2-hop tuples of one interface. After want of memory the set may only be dropped.
 #[derive(Drop)]
 pub struct TwoHopSet<T: Table<TwoHopKey, TwoHop>> {
     table: T,
-    keys: BTreeSet<TwoHopKey>,
 }
 
 impl<T: Table<TwoHopKey, TwoHop>> Model for TwoHopSet<T> {
@@ -26,15 +23,36 @@ impl<T: Table<TwoHopKey, TwoHop>> Model for TwoHopSet<T> {
     ghost Value = { Base TwoHopKey TwoHop };
 
     ghost use Rattle.mesh_atoms.specs.Base.{HasDistinctKeys, two_hop_eq};
-    ghost use Rattle.mesh_nbrs.specs.TwoHops.Keyed.{Knows};
 
     ghost view = { λ s. T.content s.table };
 
-    ghost invariant = { λ s. HasDistinctKeys two_hop_eq (T.content s.table) × Knows two_hop_eq ⟦<TwoHopKey as Ord>⟧.cmp s.keys (T.content s.table) };
+    ghost invariant = { λ s. HasDistinctKeys two_hop_eq (T.content s.table) };
 }
 
-// Whether that tuple stood there.
-fn stood(before: Option<TwoHop>, tuple: TwoHop) -> bool
+// Makes the tuple of a key, and gives the one that was there before. Want of memory leaves the table unchanged.
+fn put_tuple<T: Table<TwoHopKey, TwoHop>>(
+    table: &mut T,
+    key: TwoHopKey,
+    tuple: TwoHop,
+    until: u64,
+) -> Result<Option<TwoHop>, AllocError>
+    requires { HasDistinctKeys two_hop_eq (T.content table.old) }
+    ensures before { IfOk result (λ before. before ≡ option_map (λ e. e.0) (find two_hop_eq (T.content table.old) key)) }
+    ensures ok { OnOk result (SetsOnly two_hop_eq (T.content table.old) (T.content table.new) key (Some (tuple, until))) }
+    ensures count { OnOk result (length (T.content table.new)
+        ≡ length (T.content table.old) + (if is_some (find two_hop_eq (T.content table.old) key) then 0 else 1)) }
+    ensures err { OnErr result (T.content table.new ≡ T.content table.old) }
+    ensures distinct { HasDistinctKeys two_hop_eq (T.content table.new) }
+{
+    if let Some(before) = table.renew(&key, tuple, until)? {
+        return Ok(Some(before));
+    }
+    table.put(key, tuple, until)?;
+    Ok(None)
+}
+
+// Whether a tuple is that one.
+fn is_tuple(before: Option<TwoHop>, tuple: TwoHop) -> bool
     ensures { IsTrue result ↔ (before ≡ Some tuple) }
 {
     before == Some(tuple)
@@ -47,7 +65,6 @@ impl<T: Table<TwoHopKey, TwoHop>> TwoHopSet<T> {
     {
         Ok(TwoHopSet {
             table: T::new(alloc)?,
-            keys: BTreeSet::new(alloc),
         })
     }
 
@@ -85,8 +102,8 @@ impl<T: Table<TwoHopKey, TwoHop>> TwoHopSet<T> {
             metric_in,
             metric_out,
         };
-        let before = put_keyed(&mut self.table, &mut self.keys, key, tuple, until)?;
-        Ok(stood(before, tuple))
+        let before = put_tuple(&mut self.table, key, tuple, until)?;
+        Ok(is_tuple(before, tuple))
     }
 
     /// Takes out the tuple of a link and an address (RFC 6130, section 12.6); false, changing nothing, where there is none.
@@ -98,21 +115,20 @@ impl<T: Table<TwoHopKey, TwoHop>> TwoHopSet<T> {
         ensures unchanged { result ≡ false → self.new ≡ self.old }
         ensures distinct { HasDistinctKeys two_hop_eq self.new }
     {
-        remove_keyed(&mut self.table, &mut self.keys, &TwoHopKey { link, addr })
+        self.table.remove(&TwoHopKey { link, addr })
     }
 
-    /// Takes out all tuples of a link (RFC 6130, section 13), and gives their number. Takes no memory. Looks at no other link's
-    /// tuples.
+    /// Takes out all tuples of a link (RFC 6130, section 13), and gives their number. Takes no memory. Looks at
+    /// each tuple.
     pub fn drop_link(&mut self, link: LinkKey) -> usize
         ensures dropped { DropsLink link self.old self.new }
         ensures count { result + length self.new ≡ length self.old }
         ensures distinct { HasDistinctKeys two_hop_eq self.new }
     {
-        drop_all(&mut self.table, &mut self.keys, link)
+        drop_all(&mut self.table, link)
     }
 
-    /// Takes out the tuples whose moment is at or below now (RFC 6130, section 13). Takes no memory. Where some go, all keys are
-    /// looked at.
+    /// Takes out the tuples whose moment is at or below now (RFC 6130, section 13). Takes no memory.
     pub fn expire(&mut self, now: u64)
         ensures expired { Expires two_hop_eq now self.old self.new }
         ensures distinct { HasDistinctKeys two_hop_eq self.new }
@@ -127,8 +143,6 @@ impl<T: Table<TwoHopKey, TwoHop>> TwoHopSet<T> {
         ensures none { result ≡ 0 → self.new ≡ self.old }
         ensures distinct { HasDistinctKeys two_hop_eq self.new }
     {
-        let gone = expire_each(&mut self.table, now);
-        purge_after(&mut self.keys, &self.table, gone);
-        gone
+        self.table.expire(now)
     }
 }
