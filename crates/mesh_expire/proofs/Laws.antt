@@ -1,13 +1,17 @@
 -- What follows from the laws of a table.
-use Rattle.std.proofs.Common.{◌≡◌, ℕ, zero, suc, ◌+◌, ◌<◌, ◌≤◌, ◌++◌, take, drop, map, add-one, arith, Bool, true, false, cond, List, [], ◌∷◌, length, Option, Some, None, refl, sym, ap, subst, ◌∙◌}
-use Rattle.std.specs.Prelude.{option_map, slice_get, slice_set}
+use Rattle.std.proofs.Common.{◌≡◌, ℕ, zero, suc, ◌+◌, ◌-◌, ◌<◌, ◌≤◌, ◌++◌, inl, inr, take, drop, map, add-one, arith, Bool, true, false, cond, List, [], ◌∷◌, length, get_or, length-take, get_or-take, get_or-set_same, get_or-set_other, Option, Some, None, refl, sym, ap, subst, ◌∙◌}
+use Rattle.std.specs.Prelude.{option_map, slice_get, slice_set, swap_remove}
 use Rattle.std.specs.List.{IsDistinct, AllByRecursion}
+use Rattle.std.specs.List.Sorted.{IsPermutation}
 use Rattle.std.specs.Cmp.{IsEquivalence}
 use Rattle.std.specs.Map.{keys_of, set_value}
 use Rattle.std.proofs.lemmas.Map.{lookup-none}
-use Rattle.std.proofs.lemmas.Map.Keys.{IsDistinct-head, IsDistinct-tail}
+use Rattle.std.proofs.lemmas.Bool.{cases_order}
+use Rattle.std.proofs.lemmas.List.Sorted.{IsPermutation-map, IsPermutation-swap_remove}
+use Rattle.std.proofs.lemmas.Map.Keys.{IsDistinct-head, IsDistinct-tail, IsDistinct-IsPermutation}
 use Rattle.std.proofs.lemmas.Map.Entries.{none_past_head, place_from_lookup}
-use Rattle.std.proofs.lemmas.Option.{slice_get-map, slice_get_within}
+use Rattle.std.proofs.lemmas.Option.{slice_get-map, slice_get_within, slice_get_read, slice_get-get_or, get_or_from_slice_get}
+use Rattle.indexmap.proofs.MapLemmas.{lookup_permutation}
 use Rattle.mesh_atoms.specs.Base.{Base, find, HasDistinctKeys, SetsOnly}
 use Rattle.mesh_expire.specs.Table.{changed_at}
 
@@ -76,6 +80,25 @@ all_at : {A : Type 0} (P : A → Type 0) (xs : List A) (i : ℕ) (x : A) → All
 all_at P [] i x h at = absurd cc
 all_at P (y ∷ ys) zero x h at = let is : y ≡ x = cc in subst P is h.0
 all_at P (y ∷ ys) (suc i) x h at = all_at P ys i x h.1 at
+
+-- where the last comes to a place, what stands at a place stood there or further on
+pub swapped_at : {X : Type 0} (xs : List X) (i : ℕ) (d : X) (k : ℕ) (x : X) → slice_get (swap_remove xs i d) k ≡ Some x → (j : ℕ) × (slice_get xs j ≡ Some x) × (i ≤ k → i < j)
+swapped_at {X} xs i d k x at =
+    let n : ℕ = length xs - 1 in
+    let last : X = get_or xs n d in
+    let short : k < n = omega (arith, slice_get_within (swap_remove xs i d) k x at, length-take n (slice_set xs i last)) in
+    let read : get_or (slice_set xs i last) k x ≡ x = sym (get_or-take n (slice_set xs i last) k x short) ∙ get_or_from_slice_get (swap_remove xs i d) k x x at in
+    elim (cases_order k i) [
+      | inl same ↦
+          let is : last ≡ x = sym (get_or-set_same xs i last x (omega (arith, short, same))) ∙ ap (λ (m : ℕ). get_or (slice_set xs i last) m x) (sym same) ∙ read in
+          (n, slice_get-get_or xs n d (omega (arith, short)) ∙ ap Some is, λ _. omega (arith, short, same))
+      | inr (inl below) ↦
+          let stood : x ≡ get_or xs k x = sym read ∙ get_or-set_other xs i k last x (λ e. omega (arith, below, e)) in
+          (k, slice_get_read xs (length xs) k x refl (omega (arith, short)) stood, λ le. absurd (omega (arith, below, le)))
+      | inr (inr above) ↦
+          let stood : x ≡ get_or xs k x = sym read ∙ get_or-set_other xs i k last x (λ e. omega (arith, above, e)) in
+          (k, slice_get_read xs (length xs) k x refl (omega (arith, short)) stood, λ _. above)
+    ]
 
 -- keys that are equal are equal to the same keys
 same_key : {K : Type 0} {eq : K → K → Bool} (laws : IsEquivalence eq) (key q x : K) → eq q x ≡ true → eq key x ≡ eq key q
@@ -163,6 +186,25 @@ module _ {K V : Type 0} {eq : K → K → Bool} (laws : IsEquivalence eq) where
       rw (here, changed_at-absent eq key change es (absent_behind key e es distinct here), is) refl
   changed_at-place change (e ∷ es) (suc i) key entry distinct at =
       rw (apart_before e es i key entry distinct at, changed_at-place change es i key entry (IsDistinct-tail eq e.0 (keys_of es) distinct) at) refl
+
+  -- the entry of a place is taken out where the last comes to its place
+  pub swapped_out : (base : Base K V) (i : ℕ) (e : K × (V × ℕ)) → HasDistinctKeys eq base → slice_get base i ≡ Some e
+      → HasDistinctKeys eq (swap_remove base i e) × SetsOnly eq base (swap_remove base i e) e.0 None
+  swapped_out base i e distinct at = (IsDistinct-tail eq e.0 (keys_of left) both, λ q. by_key (eq e.0 q) refl) where
+    left : Base K V
+    left = swap_remove base i e
+
+    moves : IsPermutation base (e ∷ left)
+    moves = IsPermutation-swap_remove base i e (slice_get_within base i e at) (sym (get_or_from_slice_get base i e e at))
+
+    both : HasDistinctKeys eq (e ∷ left)
+    both = IsDistinct-IsPermutation eq laws.symm (keys_of base) (keys_of (e ∷ left)) (IsPermutation-map (λ (x : K × (V × ℕ)). x.0) base (e ∷ left) moves) distinct
+
+    by_key : {q : K} (b : Bool) → eq e.0 q ≡ b → find eq left q ≡ cond b None (find eq base q)
+    by_key {q} true is = absent_behind q e left both (laws.symm q e.0 ∙ is)
+    by_key {q} false is =
+        let behind : find eq (e ∷ left) q ≡ find eq left q = rw (laws.symm q e.0 ∙ is) refl in
+        sym behind ∙ lookup_permutation laws base (e ∷ left) moves both (eq q) (laws.congr q)
 
 module _ {A : Type 0} (f : A → A) where
   -- a walk that has changed the front of a list changes what stands at its place

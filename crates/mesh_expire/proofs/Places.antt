@@ -10,6 +10,7 @@ use Rattle.std.proofs.lemmas.Map.Made.{is_some-lookup}
 use Rattle.std.proofs.lemmas.Map.Keys.{IsDistinct-push, IsDistinct-tail}
 use Rattle.std.proofs.lemmas.Map.Entries.{lookup-filter-values, lookup_from_place, option_filter}
 use Rattle.std.proofs.lemmas.List.{map_push, take_all, drop_all, at_drop_more}
+use Rattle.std.proofs.lemmas.List.Sums.{length-filter, count_by-le-length}
 use Rattle.std.proofs.lemmas.Option.{slice_get_within, slice_get_read, get_or_from_slice_get}
 use Rattle.mesh_atoms.specs.Base.{Base, find, HasDistinctKeys, SetsOnly, IsFresh, if_live}
 use Rattle.mesh_expire.proofs.Laws.{find_same, walked, apart_before, changed_at-place, sets-changed_at, distinct-changed_at, length-changed_at}
@@ -122,6 +123,18 @@ if_live-filter now (Some e) = refl
 -- after the expired entries are gone
 pub lives : {K V : Type 0} {eq : K → K → Bool} (laws : IsEquivalence eq) (now : ℕ) (q : K) (es : Base K V) → HasDistinctKeys eq es → find eq (filter (λ (e : K × (V × ℕ)). is_live now e.1) es) q ≡ if_live now (find eq es q)
 lives {K} {V} {eq} laws now q es distinct = lookup-filter-values laws (is_live now) q es distinct ∙ if_live-filter now (lookup (eq q) es)
+
+-- where none goes, the list is as it was
+pub none_filtered : {X : Type 0} (p : X → Bool) (xs : List X) → length xs ≤ length (filter p xs) → filter p xs ≡ xs
+none_filtered p [] h = refl
+none_filtered {X} p (x ∷ xs) h = by_head (p x) refl (none_filtered p xs) where
+  by_head : (b : Bool) → p x ≡ b → (length xs ≤ length (filter p xs) → filter p xs ≡ xs) → filter p (x ∷ xs) ≡ x ∷ xs
+  by_head true is others =
+      let stays : filter p (x ∷ xs) ≡ x ∷ filter p xs = rw is refl in
+      stays ∙ ap (λ (l : List X). x ∷ l) (others (omega (arith, h, ap length stays)))
+  by_head false is others =
+      let goes : filter p (x ∷ xs) ≡ filter p xs = rw is refl in
+      absurd (omega (arith, h, ap length goes, length-filter p xs, count_by-le-length p xs))
 
 -- what holds of the moments up to a place holds with one more
 pub more_live : {E : Type 0} (moment : E → ℕ) (now : ℕ) (xs : List E) (i : ℕ) (x : E) → slice_get xs i ≡ Some x → now < moment x
