@@ -2,10 +2,10 @@
 pub mod Summaries  -- hello
 -- Lemmas of this crate alone.
 mod ByAddress
+mod Dropping
 pub mod Ended
 mod Listed
 pub mod Owning
 mod Sets
 mod Spoken
-mod TwoHopsLemmas
 mod Walks

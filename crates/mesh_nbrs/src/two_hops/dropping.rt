@@ -1,6 +1,6 @@
 //! The 2-hop tuples of a link that has ended (RFC 6130, section 13).
-ghost use Rattle.std.specs.Prelude.{◌≡◌, ◌+◌, ◌↔◌, length, slice_get, IsTrue, Some};
-ghost use Rattle.mesh_atoms.specs.Base.{HasDistinctKeys, two_hop_eq};
+ghost use Rattle.std.specs.Prelude.{◌≡◌, ◌+◌, ℕ, length, false, slice_get, Some, None};
+ghost use Rattle.mesh_atoms.specs.Base.{HasDistinctKeys, link_eq, two_hop_eq};
 ghost use Rattle.mesh_nbrs.specs.TwoHops.TwoHops.{DropsLink};
 ghost use Rattle.mesh_atoms.specs.declared.tuples.TwoHopKey.{TwoHopKey};
 ghost use Rattle.mesh_atoms.specs.declared.tuples.TwoHop.{TwoHop};
@@ -10,7 +10,8 @@ use mesh_expire::Table;
 
 // Whether the tuple at a place is one of that link.
 fn is_of<T: Table<TwoHopKey, TwoHop>>(table: &T, place: usize, link: LinkKey) -> bool
-    ensures { IsTrue result ↔ ((e : TwoHopKey × (TwoHop × ℕ)) × (slice_get (T.content table.now) place ≡ Some e) × (e.0.link ≡ link)) }
+    ensures there { (e : TwoHopKey × (TwoHop × ℕ)) → slice_get (T.content table.now) place ≡ Some e → result ≡ link_eq e.0.link link }
+    ensures past { slice_get (T.content table.now) place ≡ None → result ≡ false }
 {
     match table.at(place) {
         Some((key, _, _)) => key.link == link,

@@ -36,7 +36,6 @@ fn put_tuple<T: Table<TwoHopKey, TwoHop>>(
     tuple: TwoHop,
     until: u64,
 ) -> Result<Option<TwoHop>, AllocError>
-    requires { HasDistinctKeys two_hop_eq (T.content table.old) }
     ensures before { IfOk result (λ before. before ≡ option_map (λ e. e.0) (find two_hop_eq (T.content table.old) key)) }
     ensures ok { OnOk result (SetsOnly two_hop_eq (T.content table.old) (T.content table.new) key (Some (tuple, until))) }
     ensures count { OnOk result (length (T.content table.new)

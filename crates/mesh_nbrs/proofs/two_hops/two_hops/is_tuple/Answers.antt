@@ -4,7 +4,7 @@ use Rattle.std.proofs.lemmas.Bool.Decides.{Decides-and}
 use Rattle.mesh_atoms.specs.declared.codes.metric.Metric.{Metric}
 use Rattle.mesh_atoms.specs.declared.tuples.TwoHop.{TwoHop}
 use Rattle.mesh_atoms.proofs.Rows.{decides_so, metrics, options}
-use Rattle.mesh_nbrs.proofs.two_hops.two_hops.stood.Goals as goal
+use Rattle.mesh_nbrs.proofs.two_hops.two_hops.is_tuple.Goals as goal
 
 abbrev same_known : Option Metric → Option Metric → Bool
 same_known = option_eq (λ (m n : Metric). eqb m.code n.code)

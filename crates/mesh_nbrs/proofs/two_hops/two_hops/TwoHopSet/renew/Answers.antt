@@ -7,4 +7,4 @@ pub returns-clause-count : goal.returns-clause-count
 returns-clause-count g c = rw (← c.self.view_is) c.in_ok-before.ensures.count
 
 pub returns-clause-same : goal.returns-clause-same
-returns-clause-same g c = rw (← c.self.view_is, ← c.in_ok-before.ensures.before) c.stood.ensures
+returns-clause-same g c = rw (← c.self.view_is, ← c.in_ok-before.ensures.before) c.is_tuple.ensures
