@@ -1,7 +1,7 @@
 -- Elements of lists.
-use Rattle.mesh_atoms.proofs.Options.{not_both}
+use Rattle.mesh_atoms.proofs.Options.{none_is_some, not_both}
 use Rattle.mesh_atoms.specs.Settings.{are_distinct}
-use Rattle.std.proofs.Common.{Bool, Contains, List, Some, [], ap, append_assoc, arith, cond, false, filter, get_or, inl, inr, length, length-append, map, refl, slice_get, subst, suc, sym, true, zero, ℕ, ◌++◌, ◌+◌, ◌<◌, ◌∙◌, ◌∷◌, ◌≡◌, ◌≤◌, ◌⊎◌}
+use Rattle.std.proofs.Common.{All, Bool, Contains, List, None, Option, Some, [], ap, append_assoc, arith, cond, drop, false, filter, get_or, inl, inr, length, length-append, map, refl, slice_get, subst, suc, sym, take, true, zero, ℕ, ◌++◌, ◌+◌, ◌-◌, ◌<◌, ◌∙◌, ◌∷◌, ◌≡◌, ◌≤◌, ◌⊎◌}
 use Rattle.std.proofs.lemmas.Bool.{and_parts}
 use Rattle.std.proofs.lemmas.List.{get_or-map, length-map}
 use Rattle.std.proofs.lemmas.List.Elements.{All-contains, All-contains_itself, All-filter, Contains-append_cases, Contains-append_left, Contains-append_right, filter_passes}
@@ -10,8 +10,8 @@ use Rattle.std.proofs.lemmas.List.Kept.{AllPairs-cons}
 use Rattle.std.proofs.lemmas.Map.Views.{list_any-from_Contains}
 use Rattle.std.proofs.lemmas.Option.{get_or_from_slice_get, slice_get-get_or, slice_get_read, slice_get_within}
 use Rattle.std.specs.Cmp.{IsEquivalence}
-use Rattle.std.specs.List.{AllPairs, flat_map, list_all, list_any}
-use Rattle.std.specs.Prelude.{not}
+use Rattle.std.specs.List.{AllPairs, cons_option, flat_map, list_all, list_any}
+use Rattle.std.specs.Prelude.{not, slice_set, slice_range}
 
 pub contains_head : {A : Type 0} (a : A) (rest : List A) → Contains (a ∷ rest) a
 contains_head a rest = (0, omega arith, refl)
@@ -194,3 +194,41 @@ one_part equiv f (x ∷ xs) (suc k) zero u v a h at to c d =
 one_part {eq = eq} equiv f (x ∷ xs) (suc k) (suc l) u v a h at to c d =
     let same : k ≡ l = one_part equiv f xs k l u v a (back_distinct eq (f x) (flat_map f xs) h) at to c d in
     ap (λ (n : ℕ). suc n) same
+
+-- a place within a list isn't empty
+pub none_within : {X B : Type 0} (xs : List X) (k : ℕ) → k < length xs → None ≡ slice_get xs k → B
+none_within xs k less none = let there = item_at xs k less in none_is_some (none ∙ there.1)
+
+pub single_of : {X : Type 0} (xs : List X) → length xs ≡ 1 → (x : X) × (xs ≡ x ∷ [])
+single_of [] e = absurd (omega arith)
+single_of (x ∷ []) e = (x, refl)
+single_of (x ∷ y ∷ rest) e = absurd (omega arith)
+
+-- an element of a list that may begin with one more
+pub option_cases : {X : Type 0} (o : Option X) (x : X) (rest : List X) → Contains (cons_option o rest) x → (o ≡ Some x) ⊎ Contains rest x
+option_cases None x rest c = inr c
+option_cases (Some y) x rest c = elim (contains_cases y rest x c) [ inl e ↦ inl (ap Some e) | inr later ↦ inr later ]
+
+-- what all have, the item has that is read at a place
+pub all_read : {A B : Type 0} (view : A → B) (P : B → Type 0) (xs : List A) (i : ℕ) (x : A) → All P (map view xs) → i < length xs → x ≡ get_or xs i x → P (view x)
+all_read view P xs i x h lt is =
+    subst (λ y. P (view y)) (sym is) (subst P (get_or-map view xs i x (view x) lt) (h i (view x) (omega (arith, lt, length-map xs view))))
+
+pub set_here : {A : Type 0} (xs : List A) (i : ℕ) (x y : A) → slice_get xs i ≡ Some y → slice_get (slice_set xs i x) i ≡ Some x
+set_here [] i x y h = absurd (cc)
+set_here (z ∷ xs) zero x y h = refl
+set_here (z ∷ xs) (suc i) x y h = set_here xs i x y h
+
+-- the middle of three lists
+pub middle_range : {X : Type 0} (xs ys zs : List X) → slice_range (xs ++ (ys ++ zs)) (length xs) (length xs + length ys) ≡ ys
+middle_range xs ys zs =
+    let e : length xs + length ys - length xs ≡ length ys = omega arith in
+    ap (λ n. take n (drop (length xs) (xs ++ (ys ++ zs)))) e ∙ ap (take (length ys)) (behind xs (ys ++ zs)) ∙ front ys zs
+  where
+    behind : {X : Type 0} (xs ys : List X) → drop (length xs) (xs ++ ys) ≡ ys
+    behind [] ys = refl
+    behind (x ∷ xs) ys = behind xs ys
+
+    front : {X : Type 0} (xs ys : List X) → take (length xs) (xs ++ ys) ≡ xs
+    front [] ys = refl
+    front (x ∷ xs) ys = ap (λ ws. x ∷ ws) (front xs ys)

@@ -2,7 +2,7 @@
 use Rattle.std.proofs.Common.{Bool, Err, None, Ok, OnOk, Option, Result, Some, cond, false, refl, sym, true, ◌∙◌, ◌≡◌}
 use Rattle.std.proofs.lemmas.Bool.{false≢true}
 use Rattle.std.specs.Option.{is_some}
-use Rattle.std.specs.Prelude.{IfOk, OnErr, not}
+use Rattle.std.specs.Prelude.{IfOk, IsTrue, OnErr, not, ◌↔◌}
 
 pub some_of : {X : Type 0} (o : Option X) → is_some o ≡ true → (x : X) × (o ≡ Some x)
 some_of None e = cc
@@ -53,3 +53,28 @@ cond_same false x = refl
 
 pub some_equal : {A : Type 0} (x y : A) → Some x ≡ Some y → x ≡ y
 some_equal x y h = cc
+
+pub same_ok : {A E : Type 0} {r : Result A E} {a b : A} → r ≡ Ok a → r ≡ Ok b → a ≡ b
+same_ok e f = cc
+
+pub ok_not_err : {A B E : Type 0} {r : Result A E} {a : A} {x : E} → r ≡ Ok a → r ≡ Err x → B
+ok_not_err e f = absurd (cc)
+
+pub on_err_of : {A E P : Type 0} (r : Result A E) → P → OnErr r P
+on_err_of (Ok x) p = tt
+on_err_of (Err e) p = p
+
+pub not_true : (b : Bool) → not b ≡ true → b ≡ false
+not_true true h = sym h
+not_true false h = refl
+
+pub not_false : (b : Bool) → not b ≡ false → b ≡ true
+not_false true h = refl
+not_false false h = sym h
+
+-- two answers to one question
+pub same_answer : {P : Type 0} (a b : Bool) → (IsTrue a ↔ P) → (IsTrue b ↔ P) → a ≡ b
+same_answer true true h k = refl
+same_answer false false h k = refl
+same_answer true false h k = absurd (false≢true (k.1 (h.0 refl)))
+same_answer false true h k = absurd (false≢true (h.1 (k.0 refl)))
