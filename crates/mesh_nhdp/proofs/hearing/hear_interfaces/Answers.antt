@@ -8,8 +8,8 @@ use Rattle.mesh_nhdp.proofs.RowsRepeat.{repeated_before}
 use Rattle.mesh_nhdp.proofs.hearing.hear_interfaces.Goals as goal
 use Rattle.mesh_atoms.proofs.Options.{on_ok_weaker as on_ok, if_ok_weaker as if_ok}
 
-pub stands-stood-requires : goal.stands-stood-requires
-stands-stood-requires g c = c.requires.iface
+pub has_link-stood-requires : goal.has_link-stood-requires
+has_link-stood-requires g c = c.requires.iface
 
 pub change_all-requires-clause-ready : goal.change_all-requires-clause-ready
 change_all-requires-clause-ready g c = c.requires.ready
