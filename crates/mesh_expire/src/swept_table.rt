@@ -27,7 +27,7 @@ impl<K: Key + Hash, V> Model for SweptTable<K, V> {
 
     ghost view = { λ t. t.map.entries };
 
-    ghost invariant = { λ t. AreNotBefore t.soonest t.map.entries };
+    ghost invariant = { λ t. AreNotBefore K.eq t.soonest t.map.entries };
 }
 
 // Takes out each entry whose moment is at or below now, from the last place on, and gives the least moment of the others.
@@ -36,7 +36,7 @@ fn sweep<K: Key + Hash + Drop, V: Drop>(map: &mut IndexMap<K, (V, u64)>, now: u6
     ensures kept { Expires K.eq now map.old.entries map.new.entries }
     ensures none { length map.new.entries ≡ length map.old.entries → map.new.entries ≡ map.old.entries }
     ensures fewer { length map.new.entries ≤ length map.old.entries }
-    ensures soonest { AreNotBefore result map.new.entries }
+    ensures soonest { AreNotBefore K.eq result map.new.entries }
 {
     let mut place = map.len();
     let mut soonest = u64::MAX;
@@ -45,12 +45,11 @@ fn sweep<K: Key + Hash + Drop, V: Drop>(map: &mut IndexMap<K, (V, u64)>, now: u6
         let Some((_, entry)) = map.get_index(place) else {
             continue;
         };
-        let until = entry.1;
-        if until <= now {
-            map.swap_remove_index(place);
-        } else if until < soonest {
-            soonest = until;
+        if now < entry.1 {
+            soonest = soonest.min(entry.1);
+            continue;
         }
+        map.swap_remove_index(place);
     }
     soonest
 }
@@ -61,10 +60,9 @@ fn expired_place<K: Key + Hash, V>(map: &IndexMap<K, (V, u64)>, now: u64) -> Opt
     ensures none { IfNone result ((i : ℕ) (e : K × (V × ℕ)) → slice_get map.now.entries i ≡ Some e → now < e.1.1) }
 {
     for place in 0..map.len() {
-        if let Some((_, entry)) = map.get_index(place) {
-            if entry.1 <= now {
-                return Some(place);
-            }
+        let (_, entry) = map.get_index(place)?;
+        if entry.1 <= now {
+            return Some(place);
         }
     }
     None
@@ -77,8 +75,8 @@ fn put_in<K: Key + Hash + Drop, V: Drop>(
     value: V,
     until: u64,
 ) -> Result<(), AllocError>
-    requires { AreNotBefore soonest.old map.old.entries }
-    ensures soonest { AreNotBefore soonest.new map.new.entries }
+    requires { AreNotBefore K.eq soonest.old map.old.entries }
+    ensures soonest { AreNotBefore K.eq soonest.new map.new.entries }
     ensures distinct { HasDistinctKeys K.eq map.new.entries }
     ensures ok { OnOk result (SetsOnly K.eq map.old.entries map.new.entries key (Some (value, until))) }
     ensures err { OnErr result (map.new.entries ≡ map.old.entries) }
@@ -96,8 +94,8 @@ fn renew_in<K: Key + Hash + Drop, V: Drop>(
     value: V,
     until: u64,
 ) -> Option<V>
-    requires { AreNotBefore soonest.old map.old.entries }
-    ensures soonest { AreNotBefore soonest.new map.new.entries }
+    requires { AreNotBefore K.eq soonest.old map.old.entries }
+    ensures soonest { AreNotBefore K.eq soonest.new map.new.entries }
     ensures distinct { HasDistinctKeys K.eq map.new.entries }
     ensures before { result ≡ option_map (λ e. e.0) (find K.eq map.old.entries key.now) }
     ensures changed { map.new.entries ≡ changed_at K.eq map.old.entries key.now (λ _. (value, until)) }
@@ -114,8 +112,8 @@ fn set_until_in<K: Key + Hash + Drop, V>(
     key: &K,
     until: u64,
 ) -> bool
-    requires { AreNotBefore soonest.old map.old.entries }
-    ensures soonest { AreNotBefore soonest.new map.new.entries }
+    requires { AreNotBefore K.eq soonest.old map.old.entries }
+    ensures soonest { AreNotBefore K.eq soonest.new map.new.entries }
     ensures distinct { HasDistinctKeys K.eq map.new.entries }
     ensures found { IsTrue result ↔ IsSome (find K.eq map.old.entries key.now) }
     ensures changed { map.new.entries ≡ changed_at K.eq map.old.entries key.now (λ e. (e.0, until)) }
@@ -133,8 +131,8 @@ fn expire_in<K: Key + Hash + Drop, V: Drop>(
     soonest: &mut u64,
     now: u64,
 ) -> usize
-    requires { AreNotBefore soonest.old map.old.entries }
-    ensures soonest { AreNotBefore soonest.new map.new.entries }
+    requires { AreNotBefore K.eq soonest.old map.old.entries }
+    ensures soonest { AreNotBefore K.eq soonest.new map.new.entries }
     ensures distinct { HasDistinctKeys K.eq map.new.entries }
     ensures kept { Expires K.eq now map.old.entries map.new.entries }
     ensures count { result + length map.new.entries ≡ length map.old.entries }
@@ -153,8 +151,8 @@ fn take_next<K: Key + Hash + Drop, V: Drop>(
     soonest: u64,
     now: u64,
 ) -> Option<(K, V)>
-    requires { AreNotBefore soonest map.old.entries }
-    ensures soonest { AreNotBefore soonest map.new.entries }
+    requires { AreNotBefore K.eq soonest map.old.entries }
+    ensures soonest { AreNotBefore K.eq soonest map.new.entries }
     ensures distinct { HasDistinctKeys K.eq map.new.entries }
     ensures some { IfSome result (λ e. TakesExpired K.eq now e.0 e.1 map.old.entries map.new.entries) }
     ensures none { IfNone result (map.new.entries ≡ map.old.entries) }

@@ -6,6 +6,7 @@ use Rattle.std.specs.Ordering.{nat_cmp}
 use Rattle.std.specs.Cmp.{IsEquivalence, unsigned_ties, nat_eq_equiv}
 use Rattle.std.specs.BTreeMap.{BTreeMap, get, is_at}
 use Rattle.std.specs.Map.{set_value}
+use Rattle.std.proofs.lemmas.Map.Entries.{lookup_from_place}
 use Rattle.mesh_atoms.specs.Base.{Base, HasDistinctKeys, find, SetsOnly, Expires, IsFresh, if_live}
 use Rattle.mesh_expire.specs.Index.Moments.{once_if, times_in, times_at, PutsAt, TakesAt, is_moment, until_of, AreMomentsOf, SetsMoment}
 use Rattle.mesh_expire.specs.Table.{changed_at, TakesExpired}
@@ -190,6 +191,13 @@ module _ {K : Type 0} (eq : K → K → Bool) where
       by_key : (e : Bool) → eq key q ≡ e → if_live now (cond e None (find eq base q)) ≡ if_live now (find eq base q)
       by_key true is = gone now moment value late ∙ ap (if_live now) (sym (find_same laws key q is base ∙ found))
       by_key false is = refl
+
+    -- the entry of a place goes, and its moment with it
+    pub goes_from_place : (laws : IsEquivalence eq) (old new : BTreeMap ℕ (List K)) (base base' : Base K V) (place : ℕ) (x : K × (V × ℕ)) → AreMomentsOf eq old base → HasDistinctKeys eq base → slice_get base place ≡ Some x
+        → TakesAt eq old new x.1.1 x.0 → SetsOnly eq base base' x.0 None → AreMomentsOf eq new base'
+    goes_from_place laws old new base base' place x tells distinct at taken only =
+        let was : SetsMoment eq old old x.0 (Some x.1.1) = subst (λ (o : Option (V × ℕ)). SetsMoment eq old old x.0 (until_of o)) (lookup_from_place laws base place x.0 x.1 distinct at) (told laws old base x.0 tells) in
+        tells_set old new base base' x.0 None tells (goes_out old new x.0 x.1.1 was taken) only
 
     module _ (laws : IsEquivalence eq) (old new : BTreeMap ℕ (List K)) (base base' : Base K V) (now : ℕ) (key : K) (tells : AreMomentsOf eq old base)
         (taken : (moment : ℕ) × (moment ≤ now) × (0 < times_at eq old moment key) × TakesAt eq old new moment key) where

@@ -138,10 +138,12 @@ fn remove_from_place<K: Key + Hash + Drop, V: Drop>(
     ensures removed { (e : K × (V × ℕ)) → slice_get map.old.entries place ≡ Some e → map.new.entries ≡ swap_remove map.old.entries place e }
     ensures unchanged { result ≡ false → map.new.entries ≡ map.old.entries }
 {
-    let Some((key, (_, until))) = map.swap_remove_index(place) else {
+    // Its keys are distinct, which the proof needs.
+    let _count = map.len();
+    let Some((key, entry)) = map.swap_remove_index(place) else {
         return false;
     };
-    take_key(moments, until, &key);
+    take_key(moments, entry.1, &key);
     true
 }
 

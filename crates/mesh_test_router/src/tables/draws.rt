@@ -1,6 +1,6 @@
-//! The same 2,000 calls on a plain list and on an indexed table, drawn from words of ChaCha20.
+//! The same 2,000 calls on a plain list and on another table, drawn from words of ChaCha20.
 use mesh_atoms::Addr4;
-use mesh_expire::{IndexTable, ListTable, Table};
+use mesh_expire::{IndexTable, ListTable, SweptTable, Table};
 use rand_chacha::ChaCha20Rng;
 use rand_core::SeedableRng;
 use rand_core::utils::NextWord;
@@ -28,11 +28,25 @@ struct Draw {
 
 fn draw_of(word: u32, value: u64) -> Draw {
     Draw {
-        kind: word % 5,
-        key: Addr4(word / 5 % 32),
-        moment: u64::from(word / 160 % 64),
+        kind: word % 6,
+        key: Addr4(word / 6 % 32),
+        moment: u64::from(word / 192 % 64),
         value,
     }
+}
+
+/// Takes out the entry of a key by its place.
+fn remove_by_place<T: Table<Addr4, u64>>(table: &mut T, key: Addr4) -> bool {
+    for place in 0..table.len() {
+        let is_there = match table.at(place) {
+            Some((other, _, _)) => *other == key,
+            None => false,
+        };
+        if is_there {
+            return table.remove_at(place);
+        }
+    }
+    false
 }
 
 fn call<T: Table<Addr4, u64>>(table: &mut T, draw: Draw) -> Result<Reply, AllocError> {
@@ -43,7 +57,8 @@ fn call<T: Table<Addr4, u64>>(table: &mut T, draw: Draw) -> Result<Reply, AllocE
         }
         1 => Ok(Reply::Renewed(table.renew(&draw.key, draw.value, draw.moment)?)),
         2 => Ok(Reply::Removed(table.remove(&draw.key))),
-        3 => Ok(Reply::Set(table.set_until(&draw.key, draw.moment)?)),
+        3 => Ok(Reply::Removed(remove_by_place(table, draw.key))),
+        4 => Ok(Reply::Set(table.set_until(&draw.key, draw.moment)?)),
         _ => Ok(Reply::Expired(table.expire(draw.moment))),
     }
 }
@@ -108,11 +123,12 @@ fn stay_alike_long<S: Table<Addr4, u64>, T: Table<Addr4, u64>>(
     Ok(true)
 }
 
-fn tables_stay_alike(alloc: Global) -> Result<bool, AllocError> {
+/// A table and a list.
+fn stays_like_a_list<T: Table<Addr4, u64>>(alloc: Global) -> Result<bool, AllocError> {
     let mut list = ListTable::<Addr4, u64>::new(alloc)?;
-    let mut index = IndexTable::<Addr4, u64>::new(alloc)?;
+    let mut table = T::new(alloc)?;
     let mut words = ChaCha20Rng::from_seed([0; 32]);
-    stay_alike_long(&mut list, &mut index, &mut words, 2000)
+    stay_alike_long(&mut list, &mut table, &mut words, 2000)
 }
 
 /// The first word of the key of zeros (RFC 7539, appendix A.1).
@@ -121,8 +137,9 @@ fn begins_right() -> bool {
 }
 
 #[test]
-fn both_tables_answer_alike(rt: HostRuntime) -> Result<(), Fail> {
+fn tables_answer_alike(rt: HostRuntime) -> Result<(), Fail> {
     assert!(rt; begins_right());
-    assert!(rt; tables_stay_alike(rt.alloc())?);
+    assert!(rt; stays_like_a_list::<IndexTable<Addr4, u64>>(rt.alloc())?);
+    assert!(rt; stays_like_a_list::<SweptTable<Addr4, u64>>(rt.alloc())?);
     Ok(())
 }

@@ -10,5 +10,6 @@ pub returns : goal.returns
 returns g c = rw (← c.self.view_is) (record {
   kept = c.drop_expired.ensures.kept;
   count = c.drop_expired.ensures.count;
+  none = c.drop_expired.ensures.none;
   distinct = c.drop_expired.ensures.distinct;
 })

@@ -1,0 +1,15 @@
+use Rattle.std.proofs.Common.{sym, subst}
+use Rattle.std.specs.Prelude.{IfNone}
+use Rattle.mesh_atoms.specs.Base.{IsFresh}
+use Rattle.mesh_expire.proofs.Places.{all_fresh}
+use Rattle.mesh_expire.proofs.Sweeping.{taken_found}
+use Rattle.mesh_expire.proofs.swept_table.take_next.Goals as goal
+
+pub returns-in_err-place-clause-fresh : goal.returns-in_err-place-clause-fresh
+returns-in_err-place-clause-fresh g c =
+    subst (λ o. IfNone o (IsFresh g.K.PartialEq.eq c.args.now c.args.map.now.entries)) (sym c.from_residual.ensures) (all_fresh g.met.K.Key.exact c.args.now c.args.map.now.entries c.in_err-place.ensures.none)
+
+pub returns-clause-some : goal.returns-clause-some
+returns-clause-some g c =
+    taken_found g.K.PartialEq.eq g.met.K.Eq.laws c.args.now c.args.map.now.entries c.swap_remove_index.new.self.entries c.in_ok-place.place (c.in_ok-key.key, c.in_ok-key.entry)
+    c.in_ok-key.ensures.entry c.in_ok-place.ensures.some c.len-count.ensures.unique (λ q. c.in_ok-key.ensures.updates.0 q)
