@@ -4,6 +4,7 @@ pub mod Summaries  -- hello
 mod ByAddress
 mod Dropping
 pub mod Ended
+mod KnownLinks
 mod Listed
 pub mod Owning
 mod Sets

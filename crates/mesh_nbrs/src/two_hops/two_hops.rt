@@ -1,18 +1,21 @@
 //! The set of the 2-hop tuples of one interface.
 ghost use Rattle.std.specs.Prelude.{◌≡◌, ◌+◌, ◌↔◌, [], length, false, if◌then◌else◌, is_some, option_map, IfOk, OnOk, OnErr, IsTrue, IsSome, Some, None};
 ghost use Rattle.mesh_atoms.specs.Base.{Base, HasDistinctKeys, find, SetsOnly, Expires, two_hop_eq};
-ghost use Rattle.mesh_nbrs.specs.TwoHops.TwoHops.{DropsLink};
+ghost use Rattle.mesh_nbrs.specs.TwoHops.TwoHops.{DropsLink, KnowsLinks};
 
 use crate::two_hops::dropping::drop_all;
 use mesh_atoms::{Addr4, LinkKey, Metric, TwoHop, TwoHopKey};
 use mesh_expire::Table;
 use std::alloc::{AllocError, Global};
+use std::collections::BTreeSet;
 use std::marker::Model;
 
 /// The 2-hop tuples of one interface. After want of memory the set may only be dropped.
 #[derive(Drop)]
 pub struct TwoHopSet<T: Table<TwoHopKey, TwoHop>> {
     table: T,
+    // The links that may have tuples; one without tuples may be here up to its `drop_link`.
+    links: BTreeSet<LinkKey>,
 }
 
 impl<T: Table<TwoHopKey, TwoHop>> Model for TwoHopSet<T> {
@@ -23,19 +26,24 @@ impl<T: Table<TwoHopKey, TwoHop>> Model for TwoHopSet<T> {
     ghost Value = { Base TwoHopKey TwoHop };
 
     ghost use Rattle.mesh_atoms.specs.Base.{HasDistinctKeys, two_hop_eq};
+    ghost use Rattle.mesh_nbrs.specs.TwoHops.TwoHops.{KnowsLinks};
 
     ghost view = { λ s. T.content s.table };
 
-    ghost invariant = { λ s. HasDistinctKeys two_hop_eq (T.content s.table) };
+    ghost invariant = { λ s. HasDistinctKeys two_hop_eq (T.content s.table) × KnowsLinks s.links (T.content s.table) };
 }
 
-// Makes the tuple of a key, and gives the one that was there before. Want of memory leaves the table unchanged.
+// Makes the tuple of a key, and gives the one that was there before. Want of memory leaves the table unchanged; the links may then have
+// the key's link all the same.
 fn put_tuple<T: Table<TwoHopKey, TwoHop>>(
     table: &mut T,
+    links: &mut BTreeSet<LinkKey>,
     key: TwoHopKey,
     tuple: TwoHop,
     until: u64,
 ) -> Result<Option<TwoHop>, AllocError>
+    requires { KnowsLinks links.old (T.content table.old) }
+    ensures knows { KnowsLinks links.new (T.content table.new) }
     ensures before { IfOk result (λ before. before ≡ option_map (λ e. e.0) (find two_hop_eq (T.content table.old) key)) }
     ensures ok { OnOk result (SetsOnly two_hop_eq (T.content table.old) (T.content table.new) key (Some (tuple, until))) }
     ensures count { OnOk result (length (T.content table.new)
@@ -46,6 +54,7 @@ fn put_tuple<T: Table<TwoHopKey, TwoHop>>(
     if let Some(before) = table.renew(&key, tuple, until)? {
         return Ok(Some(before));
     }
+    links.insert(key.link)?;
     table.put(key, tuple, until)?;
     Ok(None)
 }
@@ -64,6 +73,7 @@ impl<T: Table<TwoHopKey, TwoHop>> TwoHopSet<T> {
     {
         Ok(TwoHopSet {
             table: T::new(alloc)?,
+            links: BTreeSet::new(alloc),
         })
     }
 
@@ -101,7 +111,7 @@ impl<T: Table<TwoHopKey, TwoHop>> TwoHopSet<T> {
             metric_in,
             metric_out,
         };
-        let before = put_tuple(&mut self.table, key, tuple, until)?;
+        let before = put_tuple(&mut self.table, &mut self.links, key, tuple, until)?;
         Ok(is_tuple(before, tuple))
     }
 
@@ -117,13 +127,16 @@ impl<T: Table<TwoHopKey, TwoHop>> TwoHopSet<T> {
         self.table.remove(&TwoHopKey { link, addr })
     }
 
-    /// Takes out all tuples of a link (RFC 6130, section 13), and gives their number. Takes no memory. Looks at
-    /// each tuple.
+    /// Takes out all tuples of a link (RFC 6130, section 13), and gives their number. Takes no memory. Where the
+    /// link isn't among those that may have tuples, none is looked at, and else each one is.
     pub fn drop_link(&mut self, link: LinkKey) -> usize
         ensures dropped { DropsLink link self.old self.new }
         ensures count { result + length self.new ≡ length self.old }
         ensures distinct { HasDistinctKeys two_hop_eq self.new }
     {
+        if !self.links.remove(&link) {
+            return 0;
+        }
         drop_all(&mut self.table, link)
     }
 
