@@ -6,7 +6,7 @@ use Rattle.std.proofs.lemmas.Bool.{eqb-true, and_parts}
 use Rattle.std.proofs.lemmas.Map.Entries.{lookup_from_place}
 use Rattle.std.proofs.lemmas.Map.Made.{lookup-map_values}
 use Rattle.std.proofs.lemmas.Option.{slice_get_cases}
-use Rattle.std.proofs.lemmas.List.{take_all, length-drop}
+use Rattle.std.proofs.lemmas.List.{take_all, length-drop, nil_from_length}
 use Rattle.mesh_atoms.specs.declared.addr.Addr4.{Addr4}
 use Rattle.mesh_atoms.specs.declared.admit.Admit.{Admit}
 use Rattle.mesh_atoms.specs.declared.admit.QualityStep.{QualityStep}
@@ -103,14 +103,10 @@ qualities among now (s ∷ ss) none =
 pub steady_quality : (rule : Admit) (addrs : List Addr4) (now : ℕ) → is_steady rule ≡ true → quality_at rule addrs now ≡ 100
 steady_quality rule addrs now steady = qualities (λ s. list_any (addr_eq s.sender) addrs) now rule.senders steady
 
-none_left : {A : Type 0} (xs : List A) → length xs ≡ 0 → xs ≡ []
-none_left [] h = refl
-none_left (x ∷ xs) h = absurd (omega (arith, h))
-
 pub admits_links : (rule : Admit) (hold now : ℕ) (old new : Base LinkKey Link) (place : ℕ) → length old ≤ place → new ≡ map (λ e. (e.0, admitted rule hold now e.1)) (take place old) ++ drop place old → AdmitsLinks rule hold now old new
 admits_links rule hold now old new place all so_far key =
     let whole : take place old ≡ old = take_all place old all in
-    let rest : drop place old ≡ [] = none_left (drop place old) (let h = length-drop place old in omega (arith, h, all)) in
+    let rest : drop place old ≡ [] = nil_from_length (drop place old) (let h = length-drop place old in omega (arith, h, all)) in
     let is : new ≡ map (λ e. (e.0, admitted rule hold now e.1)) old = so_far ∙ ap (λ (l : Base LinkKey Link). map (λ e. (e.0, admitted rule hold now e.1)) (take place old) ++ l) rest
     ∙ append_nothing (map (λ e. (e.0, admitted rule hold now e.1)) (take place old)) ∙ ap (λ (l : Base LinkKey Link). map (λ e. (e.0, admitted rule hold now e.1)) l) whole in
     ap (λ (l : Base LinkKey Link). find link_eq l key) is ∙ lookup-map_values (admitted rule hold now) (link_eq key) old

@@ -3,4 +3,4 @@ mod Left
 pub mod Renewed
 mod Room
 mod Tables
-mod Tied
+pub mod Tied

@@ -22,6 +22,7 @@ use Rattle.std.proofs.lemmas.List.{get_or_default}
 use Rattle.std.proofs.lemmas.List.Elements.{AllWithin-more, Contains-get_or}
 use Rattle.mesh_atoms.proofs.Lookups.{link_equiv, same_link, same_addr, addr_equiv}
 use Rattle.mesh_links.proofs.Renewed.{addrs-trimmed}
+use Rattle.mesh_atoms.proofs.Options.{same_some, none_not}
 
 -- fewer links
 pub owned_fewer : (owners : List (Addr4 × LinkKey)) (old new : Base LinkKey Link) → HasLinkOwners owners old → IsFewer old new → HasLinkOwners owners new
@@ -84,20 +85,18 @@ owned_more old new links addrs key owned first apart more = record { owner = by_
     ]
   ]
 
--- the links of a table that stay
-pub stays_there : (Stays : Link × ℕ → Type 0) (o new : Option (Link × ℕ)) (e : Link × ℕ) → IsKept Stays o new → new ≡ Some e → Stays e × (o ≡ Some e)
-stays_there Stays None new e kept found = let both : None ≡ Some e = sym kept ∙ found in absurd cc
-stays_there Stays (Some f) new e kept found = elim kept [
-  | inl stays ↦ let same : Some f ≡ Some e = sym stays.1 ∙ found in let is : f ≡ e = cc in (subst Stays is stays.0, ap Some is)
-  | inr ends ↦ let both : None ≡ Some e = sym ends.1 ∙ found in absurd cc
-]
+-- what a kept entry was
+pub kept_from : {A : Type 0} (P : A → Type 0) (old new : Option A) (e : A) → IsKept P old new → new ≡ Some e → P e × (old ≡ Some e)
+kept_from P None new e k is = none_not k is
+kept_from P (Some f) new e (inl k) is = let same : f ≡ e = same_some refl (sym k.1 ∙ is) in (subst P same k.0, ap Some same)
+kept_from P (Some f) new e (inr k) is = none_not k.1 is
 
 pub fewer_kept : (Stays : Link × ℕ → Type 0) (old new : Base LinkKey Link) → ((key : LinkKey) → IsKept Stays (find link_eq old key) (find link_eq new key)) → IsFewer old new
-fewer_kept Stays old new kept key e found = (e, (stays_there Stays (find link_eq old key) (find link_eq new key) e (kept key) found).1, refl)
+fewer_kept Stays old new kept key e found = (e, (kept_from Stays (find link_eq old key) (find link_eq new key) e (kept key) found).1, refl)
 
 -- the links from which a HELLO begins
 pub begins_before : (rule : Admit) (shown : Shown) (now : ℕ) (o mid : Option (Link × ℕ)) (start : Link × ℕ) → IsKept (λ e. IsApart shown.sending e.0) o mid → LinkKeptOrMade rule shown now mid start → LinkKeptOrMade rule shown now o start
-begins_before rule shown now o mid start kept (Stood e at same) = Stood e (stays_there (λ x. IsApart shown.sending x.0) o mid e kept at).1 same
+begins_before rule shown now o mid start kept (Stood e at same) = Stood e (kept_from (λ x. IsApart shown.sending x.0) o mid e kept at).1 same
 begins_before rule shown now o mid start kept (Made none) = Made (λ e at same. by_kept o kept e at same) where
   by_kept : (p : Option (Link × ℕ)) → IsKept (λ x. IsApart shown.sending x.0) p mid → (e : Link × ℕ) → p ≡ Some e → e.0.addrs ≡ shown.sending → ⊥
   by_kept None k e at same = absurd cc

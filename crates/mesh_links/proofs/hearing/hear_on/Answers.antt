@@ -5,7 +5,7 @@ use Rattle.mesh_atoms.specs.declared.tuples.LinkKey.{LinkKey}
 use Rattle.mesh_atoms.specs.Base.{find, link_eq}
 use Rattle.mesh_atoms.specs.AfterHello.{IsApart}
 use Rattle.mesh_links.specs.Links.{HearsOn}
-use Rattle.mesh_links.proofs.Tied.{hears_after, owned_more, stays_there}
+use Rattle.mesh_links.proofs.Tied.{hears_after, owned_more, kept_from}
 use Rattle.mesh_links.proofs.hearing.hear_on.Goals as goal
 
 pub returns-in_err-own_all-in-Some-clause-owned : goal.returns-in_err-own_all-in-Some-clause-owned
@@ -15,7 +15,7 @@ returns-in_err-own_all-in-Some-clause-owned g c =
     let key : LinkKey = record { addr = c.in-Some.addr.now } in
     let sending = c.args.shown.now.sending in
     owned_more c.args.owners.now.entries c.own_all.new.owners.entries mid sending key c.end_all.ensures.owned (sym c.in-Some.ensures)
-    (λ q e found. (stays_there (λ x. IsApart sending x.0) (find link_eq old q) (find link_eq mid q) e (rw c.as_slice-sending.ensures at c.end_all.ensures.kept q) found).0)
+    (λ q e found. (kept_from (λ x. IsApart sending x.0) (find link_eq old q) (find link_eq mid q) e (rw c.as_slice-sending.ensures at c.end_all.ensures.kept q) found).0)
     (rw c.as_slice-sending.ensures at c.own_all.ensures.more)
 
 pub renew_at-requires-clause-owned : goal.renew_at-requires-clause-owned
@@ -25,7 +25,7 @@ renew_at-requires-clause-owned g c =
     let key : LinkKey = record { addr = c.in-Some.addr.now } in
     let sending = c.args.shown.now.sending in
     owned_more c.args.owners.now.entries c.own_all.new.owners.entries mid sending key c.end_all.ensures.owned (sym c.in-Some.ensures)
-    (λ q e found. (stays_there (λ x. IsApart sending x.0) (find link_eq old q) (find link_eq mid q) e (rw c.as_slice-sending.ensures at c.end_all.ensures.kept q) found).0)
+    (λ q e found. (kept_from (λ x. IsApart sending x.0) (find link_eq old q) (find link_eq mid q) e (rw c.as_slice-sending.ensures at c.end_all.ensures.kept q) found).0)
     (rw c.as_slice-sending.ensures at c.own_all.ensures.more)
 
 pub returns-in_ok-own_all-in-Some-clause-ok : goal.returns-in_ok-own_all-in-Some-clause-ok

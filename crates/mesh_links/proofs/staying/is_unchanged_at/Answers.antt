@@ -1,20 +1,15 @@
-use Rattle.std.proofs.Common.{◌≡◌, ◌∙◌, ℕ, Some, None, sym, subst, refl}
+use Rattle.std.proofs.Common.{◌∙◌, ℕ, sym, subst, refl}
 use Rattle.mesh_atoms.specs.declared.tuples.LinkKey.{LinkKey}
 use Rattle.mesh_atoms.specs.declared.tuples.Link.{Link}
 use Rattle.mesh_links.specs.Links.{IsLinkUnchanged}
+use Rattle.mesh_atoms.proofs.Options.{some_equal, none_is_some}
 use Rattle.mesh_links.proofs.staying.is_unchanged_at.Goals as goal
-
-some_is : {A : Type 0} (x y : A) → Some x ≡ Some y → x ≡ y
-some_is x y e = cc
-
-none_is : {A B : Type 0} (x : A) → None ≡ Some x → B
-none_is x e = absurd cc
 
 pub returns-in-Some : goal.returns-in-Some
 returns-in-Some g c = (
-  λ yes x at. subst (λ (y : LinkKey × (Link × ℕ)). IsLinkUnchanged c.args.rule.now c.args.hold c.args.last c.args.now y.1) (some_is _ x (c.in-Some.ensures ∙ at)) (c.is_unchanged.ensures.0 yes),
+  λ yes x at. subst (λ (y : LinkKey × (Link × ℕ)). IsLinkUnchanged c.args.rule.now c.args.hold c.args.last c.args.now y.1) (some_equal _ x (c.in-Some.ensures ∙ at)) (c.is_unchanged.ensures.0 yes),
   λ all. c.is_unchanged.ensures.1 (all _ (sym c.in-Some.ensures)),
 )
 
 pub returns-in-None : goal.returns-in-None
-returns-in-None g c = ((λ yes x at. none_is x (c.in-None.ensures ∙ at)), (λ all. refl))
+returns-in-None g c = ((λ yes x at. none_is_some (c.in-None.ensures ∙ at)), (λ all. refl))
