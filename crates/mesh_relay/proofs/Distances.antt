@@ -1,19 +1,13 @@
 -- Equal distances.
 use Rattle.std.specs.Prelude.{Contains}
-use Rattle.std.proofs.Common.{List, inl, inr, subst, ◌≡◌, ℕ, ◌≤◌, ◌↔◌, Option, Some, None, refl, ap, arith}
+use Rattle.std.proofs.Common.{List, inl, inr, subst, ◌≡◌, ℕ, ◌≤◌, ◌↔◌, Option, Some, None, refl, ap, arith, sym}
 use Rattle.mesh_atoms.specs.declared.addr.Addr4.{Addr4}
 use Rattle.mesh_atoms.specs.declared.graphs.Near.{Near}
 use Rattle.mesh_atoms.specs.declared.graphs.Far.{Far}
 use Rattle.mesh_atoms.specs.declared.graphs.NeighbourGraph.{NeighbourGraph}
 use Rattle.mesh_relay.specs.Laws.{KeepsDistances}
 use Rattle.mesh_atoms.specs.Relays.{IsDistance, IsAsCheap, HasSameDistance, IsWilling, IsRelay, Covers, HasDistinctIds}
-use Rattle.mesh_atoms.proofs.Options.{some_equal}
-
-no_some : (m : ℕ) → None ≡ Some m → ⊥
-no_some m e = cc
-
-some_no : (m : ℕ) → Some m ≡ None → ⊥
-some_no m e = cc
+use Rattle.mesh_atoms.proofs.Options.{some_equal, none_is_some}
 
 equal_from : (l m e f : ℕ) → l ≤ e → e ≤ m → m ≤ f → f ≤ l → l ≡ m
 equal_from l m e f p q r s = omega arith
@@ -26,8 +20,8 @@ through_back l m c e h = omega arith
 
 pub tells : (g : NeighbourGraph) (A B : Near → Type 0) (y : Addr4) (a b : Option ℕ) → IsDistance g A y a → IsDistance g B y b → (HasSameDistance g A B y ↔ (a ≡ b))
 tells g A B y None None here there = (λ h. refl, λ e. (λ c o. absurd (there c o), λ c o. absurd (here c o)))
-tells g A B y None (Some m) here there = (λ h. absurd (let w = h.0 m there.0 in here w.0 w.1), λ e. absurd (no_some m e))
-tells g A B y (Some l) None here there = (λ h. absurd (let w = h.1 l here.0 in there w.0 w.1), λ e. absurd (some_no l e))
+tells g A B y None (Some m) here there = (λ h. absurd (let w = h.0 m there.0 in here w.0 w.1), λ e. none_is_some e)
+tells g A B y (Some l) None here there = (λ h. absurd (let w = h.1 l here.0 in there w.0 w.1), λ e. none_is_some (sym e))
 tells g A B y (Some l) (Some m) here there = (
   λ h.
       let w = h.0 m there.0 in

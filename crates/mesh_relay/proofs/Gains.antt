@@ -1,9 +1,10 @@
 -- The neighbour that is taken next.
 use Rattle.std.proofs.Common.{◌≡◌, ℕ, ◌+◌, ◌≤◌, ◌<◌, ◌⊎◌, Bool, true, false, cond, List, [], ◌∷◌, Option, Some, None, get_or, set, zero, suc, refl, sym, ◌∙◌, inl, inr, arith, below_more}
 use Rattle.std.specs.Prelude.{slice_index}
-use Rattle.std.proofs.lemmas.Bool.{false≢true, true≢false, cases_lt, ltb-true}
+use Rattle.std.proofs.lemmas.Bool.{false≢true, true≢false, ltb-true}
 use Rattle.mesh_relay.specs.Taken.{IsTaken, IsFree, free_count, is_better, IsBest}
 use Rattle.mesh_relay.proofs.Directs.{not_lower as not_less}
+use Rattle.std.proofs.Math.Nat.{eq-or-lt_of_le}
 
 -- the neighbour's gain is no greater than the best one's, or it comes first
 abbrev NoBetter : List ℕ → List Bool → ℕ → ℕ → Type 0
@@ -16,9 +17,6 @@ best_if_taken gains taken place (Some best) h e =
     let lt : best < place = h.0 in
     (omega arith, h.1, below_more (NoBetter gains taken best) place h.2 (λ free. absurd (false≢true (sym free ∙ e))))
 
-less_or_same : (a b : ℕ) → a ≤ b → (a < b) ⊎ (a ≡ b)
-less_or_same a b le = elim (cases_lt a b) [ inl lt ↦ inl lt | inr ge ↦ inr (omega arith) ]
-
 pub best_if_no_better : (gains : List ℕ) (taken : List Bool) (place : ℕ) (best : Option ℕ) → IsBest gains taken place best → is_better gains place best ≡ false → IsBest gains taken (place + 1) best
 best_if_no_better gains taken place None h e = absurd (true≢false e)
 best_if_no_better gains taken place (Some best) h e =
@@ -26,9 +24,9 @@ best_if_no_better gains taken place (Some best) h e =
       omega arith,
       h.1,
       below_more (NoBetter gains taken best) place h.2 (λ free.
-          elim (less_or_same (slice_index gains place) (slice_index gains best) (not_less (slice_index gains best) (slice_index gains place) e)) [
-            | inl less ↦ inl less
-            | inr same' ↦ inr (same', omega arith)
+          elim (eq-or-lt_of_le (not_less (slice_index gains best) (slice_index gains place) e)) [
+            | inl same' ↦ inr (same', omega arith)
+            | inr less ↦ inl less
           ]),
     )
 

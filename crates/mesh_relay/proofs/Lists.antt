@@ -1,9 +1,9 @@
 -- Elements of lists.
-use Rattle.std.proofs.Common.{◌≡◌, ◌⊎◌, Bool, true, false, cond, List, [], ◌∷◌, Option, Some, None, refl, sym, ap, subst, inl, inr}
+use Rattle.std.proofs.Common.{◌≡◌, ◌⊎◌, Bool, true, false, cond, List, [], ◌∷◌, Option, Some, None, refl, sym, subst, inl, inr}
 use Rattle.std.specs.Prelude.{Contains, filter_map}
 use Rattle.std.specs.List.{dedup, dedup_from, cons_option}
 use Rattle.std.proofs.lemmas.Bool.{false≢true}
-use Rattle.mesh_atoms.proofs.Lists.{contains_head, contains_none, contains_cases, contains_tail}
+use Rattle.mesh_atoms.proofs.Lists.{contains_head, contains_none, contains_cases, contains_tail, option_cases}
 
 -- Elements that pass a test
 
@@ -15,15 +15,7 @@ filter_first : {X : Type 0} (b : Bool) (y : X) (rest : List X) → b ≡ true �
 filter_first true y rest e = contains_head y rest
 filter_first false y rest e = absurd (false≢true e)
 
-filter_later : {X : Type 0} (b : Bool) (x y : X) (rest : List X) → Contains rest x → Contains (cond b (y ∷ rest) rest) x
-filter_later true x y rest w = contains_tail y rest x w
-filter_later false x y rest w = w
-
 -- What a function gives for elements
-
-option_cases : {X : Type 0} (o : Option X) (x : X) (rest : List X) → Contains (cons_option o rest) x → (o ≡ Some x) ⊎ Contains rest x
-option_cases None x rest w = inr w
-option_cases (Some y) x rest w = elim (contains_cases y rest x w) [ inl e ↦ inl (ap (λ z. Some z) e) | inr v ↦ inr v ]
 
 option_first : {X : Type 0} (o : Option X) (x : X) (rest : List X) → o ≡ Some x → Contains (cons_option o rest) x
 option_first o x rest e = subst (λ p. Contains (cons_option p rest) x) (sym e) (contains_head x rest)

@@ -3,7 +3,6 @@ use Rattle.std.proofs.Common.{◌≡◌, ℕ, ◌+◌, ◌≤◌, ◌<◌, ◌�
 use Rattle.std.specs.Prelude.{Contains, AllPairs, replicate}
 use Rattle.std.proofs.lemmas.Bool.{false≢true, cases_Bool}
 use Rattle.std.proofs.lemmas.List.{drop_more, append_assoc, get_or-replicate}
-use Rattle.std.proofs.lemmas.List.Elements.{Contains-get_or}
 use Rattle.mesh_atoms.specs.declared.addr.Addr4.{Addr4}
 use Rattle.mesh_atoms.specs.declared.graphs.Near.{Near}
 use Rattle.mesh_atoms.specs.declared.graphs.Far.{Far}
@@ -16,7 +15,7 @@ use Rattle.mesh_relay.specs.Taken.{ids_of, IsTaken, reaches}
 use Rattle.mesh_relay.proofs.Decide.{OffersWithin}
 use Rattle.mesh_relay.proofs.Hits.{all_hit, one_missed}
 use Rattle.mesh_relay.proofs.Willing.{one_place, later_order}
-use Rattle.mesh_atoms.proofs.Lists.{contains_none, contains_head, contains_cases, contains_tail}
+use Rattle.mesh_atoms.proofs.Lists.{contains_none, contains_head, contains_cases, contains_cond, all_pairs_cons}
 
 -- Ids
 
@@ -27,10 +26,6 @@ ids_cond false id x rest w = inr w
 ids_first : (t : Bool) (x : Addr4) (rest : List Addr4) → t ≡ true → Contains (cond t (x ∷ rest) rest) x
 ids_first true x rest e = contains_head x rest
 ids_first false x rest e = absurd (false≢true e)
-
-ids_later : (t : Bool) (x id : Addr4) (rest : List Addr4) → Contains rest id → Contains (cond t (x ∷ rest) rest) id
-ids_later true x id rest w = contains_tail x rest id w
-ids_later false x id rest w = w
 
 -- the neighbour of that id that is taken
 pub record TakenOf (ns : List Near) (ts : List Bool) (id : Addr4) : Type 0 where
@@ -61,7 +56,7 @@ id_taken (m ∷ ns) [] k n at taken = absurd (nothing_taken k taken)
 id_taken (m ∷ ns) (t ∷ ts) zero n at taken =
     subst (λ (x : Near). Contains (ids_of (m ∷ ns) (t ∷ ts)) x.id) at.1 (ids_first t m.id (ids_of ns ts) taken)
 id_taken (m ∷ ns) (t ∷ ts) (suc k) n at taken =
-    ids_later t m.id n.id (ids_of ns ts) (id_taken ns ts k n (omega (arith, at.0), at.1) taken)
+    contains_cond t m.id n.id (ids_of ns ts) (id_taken ns ts k n (omega (arith, at.0), at.1) taken)
 
 pub taken_at : (g : NeighbourGraph) (willing : List Near) (ts : List Bool) (k : ℕ) (n : Near) → AreWilling g willing → IsAt willing k n → Contains (ids_of willing ts) n.id → IsTaken ts k
 taken_at g willing ts k n are at w =
@@ -78,12 +73,7 @@ taken_near g willing ts n distinct are near w =
     (h.place, subst (IsAt willing h.place) is h.at, h.taken)
 
 ascending_cond : (t : Bool) (x : Addr4) (rest : List Addr4) → ((id : Addr4) → Contains rest id → x.0 < id.0) → IsAscending rest → IsAscending (cond t (x ∷ rest) rest)
-ascending_cond true x rest below h = ascending_cons x rest below h where
-  ascending_cons : (y : Addr4) (ids : List Addr4) → ((b : Addr4) → Contains ids b → y.0 < b.0) → IsAscending ids → IsAscending (y ∷ ids)
-  ascending_cons y ids below' h' zero zero d lt within = absurd (omega arith)
-  ascending_cons y ids below' h' zero (suc j) d lt within = below' (get_or ids j d) (Contains-get_or ids j d (omega arith))
-  ascending_cons y ids below' h' (suc i) zero d lt within = absurd (omega arith)
-  ascending_cons y ids below' h' (suc i) (suc j) d lt within = h' i j d (omega arith) (omega arith)
+ascending_cond true x rest below h = all_pairs_cons (λ (a b : Addr4). a.0 < b.0) x rest below h
 ascending_cond false x rest below h = h
 
 none_ascending : IsAscending []
