@@ -7,7 +7,7 @@ use Rattle.std.specs.BTreeMap as tree
 use Rattle.std.specs.BTreeSet as sorted
 use Rattle.std.specs.BTreeMap.{BTreeMap}
 use Rattle.std.specs.BTreeSet.{BTreeSet}
-use Rattle.std.proofs.lemmas.Bool.{cases_Bool}
+use Rattle.std.proofs.lemmas.Bool.{cases_Bool, cond_both}
 use Rattle.std.proofs.lemmas.Cmp.{then_total, on_total, nat_cmp_total, tied_itself}
 use Rattle.std.proofs.lemmas.Map.Lookups.{CmpEqualImpliesEq, exact_unsigned}
 use Rattle.std.proofs.lemmas.Map.Views.{btree_set_contains_iff}
@@ -45,11 +45,7 @@ module _ {K : Type 0} {cmp : K → K → Ordering} (o : IsTotalOrder cmp) (exact
     added = (listed n k).0 (at k ∙ ap (λ (b : Bool). cond b true (sorted.contains cmp s k)) (tied k))
 
     pub stays : (q : K) → Contains s.keys q → Contains n.keys q
-    stays q has = (listed n q).0 (at q ∙ either (is_eq (cmp k q)) (sorted.contains cmp s q) ((listed s q).1 has))
-      where
-        either : (b x : Bool) → x ≡ true → cond b true x ≡ true
-        either true x e = refl
-        either false x e = e
+    stays q has = (listed n q).0 (at q ∙ cond_both (is_eq (cmp k q)) true (sorted.contains cmp s q) (λ x. x ≡ true) (λ e. refl) (λ e. (listed s q).1 has))
 
     pub came : (q : K) → Contains n.keys q → (q ≡ k) ⊎ Contains s.keys q
     came q has = elim (cases_Bool (is_eq (cmp k q))) [

@@ -17,10 +17,11 @@ use Rattle.mesh_atoms.specs.State.{State, IsOriginator}
 use Rattle.mesh_paths.specs.SettledRoutes.{IsSettledNetwork}
 use Rattle.mesh_paths.proofs.SettledDecisions.{attaches}
 use Rattle.mesh_paths.proofs.SettledWalks.{View}
-use Rattle.mesh_paths.proofs.SettledNeighbours.{originator_address, held, owner, same_settings, address_in, state_there, near_of, apart, same_metric, known, known_address, known_by, neighbouring, has_with, some_one, hop_of, shown_near, shown_out}
+use Rattle.mesh_paths.proofs.SettledNeighbours.{originator_address, held, owner, same_settings, address_in, state_there, near_of, apart, same_metric, known, known_address, known_by, neighbouring, has_with, hop_of, shown_near, shown_out}
 use Rattle.mesh_paths.proofs.SettledRelays.{IsRelayOf, relays_willing, cover, gives, takes}
 use Rattle.mesh_atoms.proofs.CodesLemmas.CodeLaws.{metric_above_zero}
 use Rattle.mesh_atoms.proofs.Values.{same_host}
+use Rattle.mesh_atoms.proofs.Options.{same_some}
 
 module _ (s : Scenario) (states : List State) (now : ℕ) (S : IsSettledNetwork s states now) where
   -- Router x's own graph
@@ -130,7 +131,7 @@ module _ (s : Scenario) (states : List State) (now : ℕ) (S : IsSettledNetwork 
   pub arc_cases : (x : ℕ) (p : State) → At states x p → (m n : NetAddr) (c : ℕ) → RouteArc p m n c → ArcCase x m n c
   arc_cases x p at _ _ _ (To_neighbour {self = self} {a = a} {m = m} o n is has out) =
       let (y, k) = known s states now S o n at has.0 in
-      inl (y, first_of self at is, hop_of s states now S k.there m k.metric (some_one s states now S k.there m n.metric_out k.is.metric_out out), (a, refl, known_address s states now S k a has.1))
+      inl (y, first_of self at is, hop_of s states now S k.there m k.metric (same_some k.is.metric_out out), (a, refl, known_address s states now S k a has.1))
   arc_cases x p at _ _ _ (To_two_hop {o = o} {a = a} {m = m} i link t n has with wills out) =
       let (w, j, q, there, home, to_at, joins, by) = (S.settled x p at).two_hop_from i (record { link = link; addr = a }) t has in
       let k = known_by s states now S link.addr o n w at with (address_in s states now S link.addr to_at (j, by.link.0)) in

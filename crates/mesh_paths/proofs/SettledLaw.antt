@@ -16,10 +16,11 @@ use Rattle.mesh_paths.specs.SettledRoutes.{IsSettledNetwork, HasRow, RowsAreLeas
 use Rattle.mesh_paths.proofs.SettledWalks.{View}
 use Rattle.mesh_paths.proofs.SettledLeast.{row_least, least_row, row_least_net, least_row_net}
 use Rattle.mesh_paths.proofs.SettledHops.{ends_at, same_least, next_hop, next_hop_net, LeadsTo, LeadsToNet}
-use Rattle.mesh_paths.proofs.SettledNeighbours.{held, owner, address_in, has_address, same_settings, originator_address, known_by, known_address, some_one, same_metric, state_there, near_of}
+use Rattle.mesh_paths.proofs.SettledNeighbours.{held, owner, address_in, has_address, same_settings, originator_address, known_by, known_address, same_metric, state_there, near_of}
 use Rattle.mesh_paths.proofs.SettledArcs.{view}
 use Rattle.mesh_atoms.proofs.Values.{same_host}
 use Rattle.mesh_atoms.proofs.CodesLemmas.CodeLaws.{metric_above_zero}
+use Rattle.mesh_atoms.proofs.Options.{same_some}
 
 module _ (s : Scenario) (states : List State) (now : ℕ) (S : IsSettledNetwork s states now) where
   abbrev V : (x : ℕ) (p : State) → At states x p → View NetAddr
@@ -107,7 +108,7 @@ module _ (s : Scenario) (states : List State) (now : ℕ) (S : IsSettledNetwork 
       let (y, j, q, there, back, q_at, joins, by) = (S.settled x p at).link_from row.iface (record { addr = row.next }) h.way.link h.way.stands h.way.state in
       let on_y : AddressOf s y row.next = address_in s states now S row.next q_at (j, by.keyed.0) in
       let same : y ≡ n = owner s states now S y n row.next on_y (known_address s states now S k row.next h.way.of_it) in
-      let this : metric_value there ≡ metric_value h.metric = ap metric_value (some_one s states now S there h.metric h.way.link.link_out by.link_out h.way.out) in
+      let this : metric_value there ≡ metric_value h.metric = ap metric_value (same_some by.link_out h.way.out) in
       -- the cheapest of the joined interfaces has a link, which is no cheaper than the row's
       let (i, l, home, best) = k.metric.some in
       let (key, link, stands, symmetric, given) = (S.settled x p at).link_to i n l k.to k.there home k.at best in

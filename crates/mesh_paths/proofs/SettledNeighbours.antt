@@ -19,6 +19,7 @@ use Rattle.mesh_paths.specs.SettledRoutes.{IsSettledNetwork}
 use Rattle.mesh_paths.proofs.RadioLaw.{adjacent_back}
 use Rattle.mesh_paths.proofs.SettledDecisions.{shows_link}
 use Rattle.mesh_atoms.proofs.Lists.{contains_at}
+use Rattle.mesh_atoms.proofs.Options.{same_some}
 
 pub originator_address : (r : RouterSettings) (a : Addr4) → IsOriginator r a → HasAddress r a
 originator_address r a o =
@@ -149,9 +150,6 @@ module _ (s : Scenario) (states : List State) (now : ℕ) (S : IsSettledNetwork 
   pub has_with : {y z : ℕ} {q : State} → (b : Neighbouring y q z) → (a : Addr4) → AddressOf s z a → HasSymmetricWith q a b.o b.n
   has_with b a is = (b.has, (b.k.is.addresses a).1 (has_address a b.k.at is))
 
-  pub some_one : {A : Type 0} (a b : A) (o : Option A) → o ≡ Some a → o ≡ Some b → a ≡ b
-  some_one a b o e f = cc
-
   pub hop_of : {y z : ℕ} (m n : Metric) → IsMetric s y z m → m ≡ n → HopCosts s y z (metric_value n)
   hop_of {y} {z} m n is e = let P : Metric → Type 0 = λ b. IsMetric s y z b in (n, subst P e is, refl)
 
@@ -161,13 +159,13 @@ module _ (s : Scenario) (states : List State) (now : ℕ) (S : IsSettledNetwork 
   near_in_is j u a m at is shows =
       let (o, n, has, e) = shows in
       let k = known_by a o n u at has is in
-      hop_of k.home m k.metric_back (some_one k.home m n.metric_in k.is.metric_in e)
+      hop_of k.home m k.metric_back (same_some k.is.metric_in e)
 
   pub near_out_is : {w : ℕ} {q : State} (j u : ℕ) (a : Addr4) (m : Metric) → At states w q → AddressOf s u a → Says q j now a (Near_out m) → HopCosts s w u (metric_value m)
   near_out_is j u a m at is shows =
       let (o, n, has, e) = shows in
       let k = known_by a o n u at has is in
-      hop_of k.there m k.metric (some_one k.there m n.metric_out k.is.metric_out e)
+      hop_of k.there m k.metric (same_some k.is.metric_out e)
 
   pub shown_near : {w : ℕ} {q : State} (j : ℕ) (a : Addr4) → At states w q → SaysSymmetric q j now a → (u : ℕ) × AddressOf s u a × Adjacent s w u
   shown_near {w} {q} j a at shows = elim shows [

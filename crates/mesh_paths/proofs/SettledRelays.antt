@@ -19,7 +19,8 @@ use Rattle.mesh_atoms.specs.Relays.{Offers, IsWilling, IsRelay}
 use Rattle.mesh_atoms.specs.Settled.{At, IsTwoHopBy}
 use Rattle.mesh_atoms.specs.State.{State, HasTwoHop, HasSymmetric}
 use Rattle.mesh_paths.specs.SettledRoutes.{IsSettledNetwork}
-use Rattle.mesh_paths.proofs.SettledNeighbours.{held, owner, same_state, same_settings, address_in, has_address, back, state_there, near_of, apart, same_metric, Known, known, known_address, known_originator, known_by, known_as, neighbouring, has_with, some_one, hop_of, shown_in, shows_neighbour}
+use Rattle.mesh_paths.proofs.SettledNeighbours.{held, owner, same_state, same_settings, address_in, has_address, back, state_there, near_of, apart, same_metric, Known, known, known_address, known_originator, known_by, known_as, neighbouring, has_with, hop_of, shown_in, shows_neighbour}
+use Rattle.mesh_atoms.proofs.Options.{same_some}
 
 module _ (s : Scenario) (states : List State) (now : ℕ) (S : IsSettledNetwork s states now) where
   -- Relays
@@ -94,7 +95,7 @@ module _ (s : Scenario) (states : List State) (now : ℕ) (S : IsSettledNetwork 
       let (o, n, m, has, metric_in, value) = ((held s states now S z q at).is_graph.direct d).0 stands in
       let P : Addr4 → Type 0 = λ b. AddressOf s u b in
       let k = known_by s states now S d.addr o n u at has (subst P (sym of_a) is) in
-      (metric_value m, hop_of s states now S k.home m k.metric_back (some_one s states now S k.home m n.metric_in k.is.metric_in metric_in), omega arith)
+      (metric_value m, hop_of s states now S k.home m k.metric_back (same_some k.is.metric_in metric_in), omega arith)
 
   -- what a relay offers is a hop to it, and its hop
   pub by_way : (u z : ℕ) (q : State) (at : At states z q) (a : Addr4) (e most : ℕ) →
@@ -113,7 +114,7 @@ module _ (s : Scenario) (states : List State) (now : ℕ) (S : IsSettledNetwork 
       let Q : Addr4 → Type 0 = λ b. AddressOf s u b in
       let here : AddressOf s u key.addr = subst Q (sym (at_a ∙ of_a)) is in
       let first : HopCosts s u w (metric_value m') = shown_in s states now S j u key.addr m' t.metric_in to_at here by.shown shown_m by.metric_in in
-      let second : HopCosts s w z (metric_value m) = hop_of s states now S k.home m k.metric_back (some_one s states now S k.home m n.metric_in k.is.metric_in metric_in) in
+      let second : HopCosts s w z (metric_value m) = hop_of s states now S k.home m k.metric_back (same_some k.is.metric_in metric_in) in
       let relay : IsRelayOf z w = record { q = q; at = at; o = near.id; n = n; has = has; k = k; chosen = chosen } in
       (w, metric_value m', metric_value m, first, second, relay, omega arith)
 
@@ -162,7 +163,7 @@ module _ (s : Scenario) (states : List State) (now : ℕ) (S : IsSettledNetwork 
         | inl has ↦ known_address s states now S k a has
         | inr e ↦ (let P : Addr4 → Type 0 = λ b. AddressOf s z b in subst P (sym e) (known_originator s states now S k))
       ] in
-      record { z = z; k = k; is = is; same = some_one s states now S k.there m g.neighbour.metric_out k.is.metric_out g.metric }
+      record { z = z; k = k; is = is; same = same_some k.is.metric_out g.metric }
 
   -- a router with a selector is its routing relay
   pub selected : {w z : ℕ} {q : State} (o : Addr4) (n : Neighbour) → At states w q → (k : Known s states now S w q z o n) → IsTrue n.selector → IsRelayOf z w
