@@ -15,15 +15,11 @@ use Rattle.mesh_nbrs.specs.Owners.{owner_of, is_owner, Owned}
 use Rattle.mesh_nbrs.proofs.Listed.{listed_of, contains_of, listed_where, found_of}
 use Rattle.mesh_nbrs.proofs.Owning.{Owners, Nbrs, from_at, noted_of}
 use Rattle.mesh_atoms.proofs.Options.{some_of}
-use Rattle.std.proofs.lemmas.Bool.{and_parts}
+use Rattle.std.proofs.lemmas.Bool.{and_parts, cond_both}
 
 is_owner_so : (p : Option Addr4) (o : Addr4) → is_owner p o ≡ true → p ≡ Some o
 is_owner_so None o h = absurd cc
 is_owner_so (Some p) o h = ap Some (same_addr p o h)
-
-true_either : (b r : Bool) → r ≡ true → cond b true r ≡ true
-true_either true r h = refl
-true_either false r h = h
 
 module _ (owners : Owners) (base : Nbrs) (originator : Addr4) (listed keys : List Addr4) (owned : Owned owners base)
     (are : (o : Addr4) → list_any (addr_eq o) keys ≡ cond (is_some (find addr_eq base originator) && addr_eq originator o) true (list_any (λ x. is_owner (owner_of owners x) o) listed)) where
@@ -45,8 +41,8 @@ module _ (owners : Owners) (base : Nbrs) (originator : Addr4) (listed keys : Lis
   by_match o e found (inl mine) = rw (ap (find addr_eq base) (sym mine) ∙ found, ap (addr_eq originator) mine ∙ addr_equiv.refl originator) refl
   by_match o e found (inr met) =
       let noted : owner_of owners met.0 ≡ Some o = noted_of owners base owned met.0 o e found met.1 in
-      true_either (is_some (find addr_eq base originator) && addr_eq originator o) (list_any (λ x. is_owner (owner_of owners x) o) listed)
-      (list_any_at (λ x. is_owner (owner_of owners x) o) listed met.2.0 met.0 met.2.1 (rw (met.2.2, noted) (addr_equiv.refl o)))
+      cond_both (is_some (find addr_eq base originator) && addr_eq originator o) true (list_any (λ x. is_owner (owner_of owners x) o) listed) (λ x. x ≡ true) (λ e. refl)
+      (λ e. list_any_at (λ x. is_owner (owner_of owners x) o) listed met.2.0 met.0 met.2.1 (rw (met.2.2, noted) (addr_equiv.refl o)))
 
   pub spoken : (o : Addr4) → Contains keys o ↔ IsSpokenOf base originator listed o
   spoken o = (

@@ -7,6 +7,7 @@ use Rattle.std.proofs.lemmas.Map.Entries.{lookup_from_place}
 use Rattle.mesh_atoms.specs.Base.{Base, find, HasDistinctKeys}
 use Rattle.mesh_expire.specs.Table.{changed_at}
 use Rattle.mesh_expire.proofs.Laws.{walked, find-changed_at, changed_at-place, distinct-changed_at, length-changed_at}
+use Rattle.mesh_atoms.proofs.Lists.{set_here}
 
 -- the entries before a place are changed as they may be, and the others are as they were
 pub record IsWalked {K V : Type 0} (eq : K → K → Bool) (May : V × ℕ → V × ℕ → Type 0) (before now : Base K V) (place : ℕ) : Type 0 where
@@ -22,11 +23,6 @@ other_place (x ∷ xs) zero zero y apart = absurd (apart refl)
 other_place (x ∷ xs) zero (suc k) y apart = refl
 other_place (x ∷ xs) (suc i) zero y apart = refl
 other_place (x ∷ xs) (suc i) (suc k) y apart = other_place xs i k y (λ e. apart (ap suc e))
-
-this_place : {A : Type 0} (xs : List A) (i : ℕ) (x y : A) → slice_get xs i ≡ Some x → slice_get (slice_set xs i y) i ≡ Some y
-this_place [] i x y at = absurd cc
-this_place (z ∷ xs) zero x y at = refl
-this_place (z ∷ xs) (suc i) x y at = this_place xs i x y at
 
 was_none : {A : Type 0} (b : Bool) (o : Option A) (f : A → A) → cond b (option_map f o) o ≡ None → o ≡ None
 was_none b None f h = refl
@@ -57,7 +53,7 @@ module _ {K V : Type 0} {eq : K → K → Bool} (May : V × ℕ → V × ℕ →
       → IsWalked eq May before now place → IsWalked eq May before after (place + 1)
   walk_on laws after key entry change at may is h =
       let set : after ≡ slice_set now place (key, change entry) = is ∙ changed_at-place laws change now place key entry h.distinct at in
-      let here : slice_get after place ≡ Some (key, change entry) = ap (λ (l : Base K V). slice_get l place) set ∙ this_place now place (key, entry) (key, change entry) at in
+      let here : slice_get after place ≡ Some (key, change entry) = ap (λ (l : Base K V). slice_get l place) set ∙ set_here now place (key, change entry) (key, entry) at in
       let elsewhere : (k : ℕ) → (k ≡ place → ⊥) → slice_get after k ≡ slice_get now k = λ k apart. ap (λ (l : Base K V). slice_get l k) set ∙ other_place now place k (key, change entry) apart in
       record {
         changed = λ k e lt there. elim (cases_lt k place) [
