@@ -9,8 +9,8 @@ use Rattle.mesh_atoms.specs.declared.tuples.TwoHopKey.{TwoHopKey}
 use Rattle.mesh_atoms.specs.declared.tuples.TwoHop.{TwoHop}
 use Rattle.mesh_atoms.specs.Base.{Base, find, if_live, SetsOnly, Expires, link_eq, two_hop_eq}
 use Rattle.mesh_atoms.proofs.Lookups.{same_two_hop, link_equiv}
-use Rattle.mesh_atoms.proofs.Options.{none_is_not_some}
 use Rattle.mesh_nbrs.specs.TwoHops.TwoHops.{DropsLink, KnowsLinks, link_cmp}
+use Rattle.mesh_atoms.proofs.Options.{none_is_some}
 
 -- what is live was there
 live_was : (now : ℕ) (o : Option (TwoHop × ℕ)) (e : TwoHop × ℕ) → if_live now o ≡ Some e → o ≡ Some e
@@ -39,7 +39,7 @@ module _ (links : BTreeSet LinkKey) (base : Base TwoHopKey TwoHop) (knows : Know
   pub links_removed : (key : TwoHopKey) (base' : Base TwoHopKey TwoHop) → SetsOnly two_hop_eq base base' key None → KnowsLinks links base'
   links_removed key base' only q e found = by_key (two_hop_eq key q) refl where
     by_key : (b : Bool) → two_hop_eq key q ≡ b → IsTrue (contains link_cmp links q.link)
-    by_key true is = absurd (none_is_not_some e (sym (only q ∙ ap (λ (b : Bool). cond b None (find two_hop_eq base q)) is) ∙ found))
+    by_key true is = absurd (none_is_some (sym (only q ∙ ap (λ (b : Bool). cond b None (find two_hop_eq base q)) is) ∙ found))
     by_key false is = knows q e (sym (only q ∙ ap (λ (b : Bool). cond b None (find two_hop_eq base q)) is) ∙ found)
 
   -- tuples expire
@@ -50,7 +50,7 @@ module _ (links : BTreeSet LinkKey) (base : Base TwoHopKey TwoHop) (knows : Know
   pub links_dropped : (links' : BTreeSet LinkKey) (base' : Base TwoHopKey TwoHop) (link : LinkKey) → Updates link_cmp links links' link false → DropsLink link base base' → KnowsLinks links' base'
   links_dropped links' base' link updates drops q e found = by_link (link_eq q.link link) refl where
     by_link : (b : Bool) → link_eq q.link link ≡ b → IsTrue (contains link_cmp links' q.link)
-    by_link true is = absurd (none_is_not_some e (sym (drops q ∙ ap (λ (b : Bool). cond b None (find two_hop_eq base q)) is) ∙ found))
+    by_link true is = absurd (none_is_some (sym (drops q ∙ ap (λ (b : Bool). cond b None (find two_hop_eq base q)) is) ∙ found))
     by_link false is =
         let other : is_eq (link_cmp link q.link) ≡ false = sym (unsigned_ties link.addr.0 q.link.addr.0) ∙ link_equiv.symm link q.link ∙ is in
         updates.0 q.link ∙ ap (λ (b : Bool). cond b false (contains link_cmp links q.link)) other
