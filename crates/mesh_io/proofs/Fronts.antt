@@ -1,6 +1,5 @@
 -- Text that is put and written in pieces.
-use Rattle.std.proofs.Common.{◌≡◌, ℕ, ◌+◌, Bool, true, false, ltb, List, [], ◌++◌, length, take, Option, Some, None, Result, Ok, Err, refl, sym, ap, ◌∙◌, arith, append_assoc}
-use Rattle.std.specs.Prelude.{OnErr}
+use Rattle.std.proofs.Common.{◌≡◌, ℕ, ◌+◌, Bool, true, false, ltb, List, [], ◌++◌, length, take, Option, Some, None, refl, sym, ap, ◌∙◌, arith, append_assoc}
 use Rattle.std.specs.Io.KnownBytes.{Appends, Keeps}
 use Rattle.std.proofs.lemmas.Bool.{ltb-true, ltb-false}
 use Rattle.std.proofs.Math.Seq.{take-append-add}
@@ -16,10 +15,6 @@ adds old piece new e = record { is = e }
 
 pub join : {old first between second new : List ℕ} → Adds old first between → Adds between second new → Adds old (first ++ second) new
 join {old} {first} {between} {second} {new} h k = record { is = k.is ∙ ap (λ (l : List ℕ). l ++ second) h.is ∙ append_assoc old first second }
-
-pub on_err : {A E P Q : Type 0} (r : Result A E) → (P → Q) → OnErr r P → OnErr r Q
-on_err (Ok x) f p = tt
-on_err (Err e) f p = f p
 
 pub keeps_same : (o : Option (List ℕ)) → Keeps o o
 keeps_same None = tt
