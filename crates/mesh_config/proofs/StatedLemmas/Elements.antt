@@ -2,7 +2,7 @@
 use Rattle.std.proofs.Common.{◌≡◌, ℕ, List, [], ◌∷◌, ◌++◌, map, Option, Some, None, refl, ap, ◌∙◌, sym, ◌+◌, ◌<◌, length, get_or, drop, take}
 use Rattle.toml.specs.Data.{Data, Members}
 use Rattle.std.specs.List.{flat_map}
-use Rattle.std.proofs.lemmas.List.{length-append, drop_more, take_more, map-append}
+use Rattle.std.proofs.lemmas.List.{drop_more, take_more, map-append}
 use Rattle.toml.specs.View.{view}
 use Rattle.toml.specs.declared.value.Value.{Value}
 use Rattle.mesh_config.specs.declared.keys.fault.ConfigFault.{ConfigFault}
@@ -52,9 +52,6 @@ tables_said Is vs i v xs x here within all one =
     let at : map view (take (i + 1) vs) ≡ map view (take i vs) ++ view v ∷ [] =
     ap (map view) (take_more vs i v within ∙ ap (λ (w : Value). take i vs ++ w ∷ []) (sym here)) ∙ map-append view (take i vs) (v ∷ []) in
     rw at (Each-more Is (map view (take i vs)) (view v) xs x all one)
-
-pub one_longer : {X : Type 0} (xs : List X) (x : X) (i : ℕ) → length xs ≡ i → length (xs ++ x ∷ []) ≡ i + 1
-one_longer xs x i h = length-append xs (x ∷ []) ∙ rw h
 
 -- from one kind of values to another that agrees with it
 pub Each-along : {X Y C : Type 0} (Is : Members → X → Type 0) (Says : Members → Y → Type 0) (f : X → C) (g : Y → C) → ((t : Members) (x : X) (y : Y) → g y ≡ f x → Is t x → Says t y)

@@ -4,19 +4,17 @@ use Rattle.toml.specs.Data.{Data, Members}
 use Rattle.mesh_atoms.specs.declared.admit.QualityStep.{QualityStep}
 use Rattle.mesh_atoms.specs.declared.settings.NearHold.{NearHold}
 use Rattle.mesh_atoms.specs.Settings.{are_ascending}
+use Rattle.mesh_atoms.proofs.Options.{same_ok}
 use Rattle.mesh_config.specs.declared.keys.fault.ConfigFault.{ConfigFault}
-use Rattle.mesh_config.specs.Keys.Faults.{ReadValue, ValueOrFault, first, visit, then_turned}
+use Rattle.mesh_config.specs.Keys.Faults.{ValueOrFault, first, visit, then_turned}
 use Rattle.mesh_config.specs.Keys.Values.{unknown, is_one_of, ticks}
 use Rattle.mesh_config.specs.Stated.Tables.{Each, rising_visits}
 use Rattle.mesh_config.specs.Stated.Steps.{at_ms, quality_value, step_keys, step_visits, StepIs}
 use Rattle.mesh_config.specs.Stated.Rules.{hops, near_hold_ms, near_hold_keys, near_hold_visits, NearHoldIs}
 use Rattle.mesh_config.proofs.StatedLemmas.RisingTables.{Numbered, numbered, rising_ascends, ticks_rise}
 
-one_read : (m n : ℕ) (read : ReadValue ℕ) → read ≡ Ok m → read ≡ Ok n → m ≡ n
-one_read m n read h k = cc
-
 step_at : (t : Members) (step : QualityStep) (n : ℕ) → at_ms t ≡ Ok n → StepIs t step → step.at ≡ ticks n
-step_at t step n read is = one_read step.at (ticks n) (then_turned ticks (at_ms t)) is.is_at (ap (then_turned ticks) read)
+step_at t step n read is = same_ok {r = then_turned ticks (at_ms t)} {a = step.at} {b = ticks n} is.is_at (ap (then_turned ticks) read)
 
 step_numbered : (least : ℕ) (t : Members) → first (step_visits least t) ≡ None → Numbered least (at_ms t)
 step_numbered least t none = numbered least (codes "at_ms") (unknown (is_one_of step_keys) t) (at_ms t) (visit (quality_value t) ∷ []) none
@@ -28,7 +26,7 @@ steps_ascend ds (Ok steps) met =
     rising_ascends StepIs step_visits at_ms (codes "quality") (λ (s : QualityStep). s.at) ticks ticks_rise step_at step_numbered 0 ds steps met.0 met.1
 
 near_at : (t : Members) (near : NearHold) (n : ℕ) → hops t ≡ Ok n → NearHoldIs t near → near.hops ≡ n
-near_at t near n read is = one_read near.hops n (hops t) is.is_hops read
+near_at t near n read is = same_ok {r = hops t} {a = near.hops} {b = n} is.is_hops read
 
 near_numbered : (least : ℕ) (t : Members) → first (near_hold_visits least t) ≡ None → Numbered least (hops t)
 near_numbered least t none = numbered least (codes "hops") (unknown (is_one_of near_hold_keys) t) (hops t) (visit (near_hold_ms t) ∷ []) none

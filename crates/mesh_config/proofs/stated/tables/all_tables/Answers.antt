@@ -1,5 +1,6 @@
-use Rattle.mesh_config.proofs.StatedLemmas.Elements.{tables_fail, tables_pass, tables_said, one_longer}
+use Rattle.mesh_config.proofs.StatedLemmas.Elements.{tables_fail, tables_pass, tables_said}
 use Rattle.std.proofs.Common.{◌∙◌}
+use Rattle.mesh_atoms.proofs.Lists.{length_pushed}
 use Rattle.mesh_config.proofs.stated.tables.all_tables.Goals as goal
 
 pub returns-in-Err-clause-answer : goal.returns-in-Err-clause-answer
@@ -13,5 +14,5 @@ loop-value-preserved g c =
     record {
       said = rw c.in_ok-push-in-Ok.ensures.ok (tables_said g.T.FromTable.says vs i v c.loop-value.all c.in-Ok.one c.value-item.is c.loop-value-test.true c.loop-value.invariant.said met.1);
       faults = c.loop-value.invariant.faults ∙ tables_pass g.T.FromTable.visits c.args.key.now vs i v c.value-item.is c.loop-value-test.true met.0;
-      size = rw c.in_ok-push-in-Ok.ensures.ok (one_longer c.loop-value.all c.in-Ok.one i c.loop-value.invariant.size);
+      size = rw c.in_ok-push-in-Ok.ensures.ok (length_pushed i c.loop-value.all c.in-Ok.one c.loop-value.invariant.size);
     }
