@@ -2,7 +2,7 @@
 use Rattle.std.proofs.Common.{◌≡◌, ℕ, ◌+◌, ◌<◌, ◌%◌, Bool, true, false, ltb, ◌⊎◌, inl, inr, List, length, take, get_or, Result, Ok, Err, refl, sym, ap, subst, ◌∙◌, arith}
 use Rattle.std.specs.Prelude.{slice_index}
 use Rattle.std.specs.List.{AllPass}
-use Rattle.std.proofs.lemmas.Bool.{ltb-true, ltb-false, cases_eq}
+use Rattle.std.proofs.lemmas.Bool.{ltb-true, ltb-false, cases_eq, both_ways}
 use Rattle.std.proofs.lemmas.List.{get_or-take, length-take-le}
 use Rattle.hex.specs.Hex.{decode_of, is_hex_digit}
 use Rattle.hex.specs.declared.error.FromHexError.{FromHexError}
@@ -57,9 +57,6 @@ written_or_not text = by (decode_of text) refl where
     | inr (k, same, within, other, before) ↦ inr (record { place = 0 + k; reason = 12 }, other_digit text (slice_index text k) (0 + k) (is ∙ ap (λ (x : FromHexError). Err x) same))
   ]
 
-false_true : (b : Bool) → b ≡ false → b ≡ true → ⊥
-false_true b h k = absurd cc
-
 -- the octets before the first other one are digits
 digit_before : (text : List ℕ) (i k : ℕ) → i < k → IsFirstOther text k → is_hex_digit (get_or text i 0) ≡ true
 digit_before text i k lt first =
@@ -67,7 +64,7 @@ digit_before text i k lt first =
     subst (λ (c : ℕ). is_hex_digit c ≡ true) (get_or-take k text i 0 lt) (first.before i 0 long)
 
 not_before : (text : List ℕ) (i k : ℕ) → i < k → IsFirstOther text i → IsFirstOther text k → ⊥
-not_before text i k lt here there = false_true (is_hex_digit (get_or text i 0)) here.other (digit_before text i k lt there)
+not_before text i k lt here there = both_ways (is_hex_digit (get_or text i 0)) here.other (digit_before text i k lt there)
 
 first_once : (text : List ℕ) (i k : ℕ) → IsFirstOther text i → IsFirstOther text k → i ≡ k
 first_once text i k h j = by (ltb i k) refl (ltb k i) refl where
@@ -90,4 +87,4 @@ not_hex_once text a b (inr (even, first, why)) (inr (even', first', why')) =
 pub not_hex_too : (text octets : List ℕ) (refusal : Refusal) → decode_of text ≡ Ok octets → IsNotHex text refusal → ⊥
 not_hex_too text octets refusal e (inl (odd, is)) = absurd (omega (arith, odd, (decode_of-ok text octets e).0))
 not_hex_too text octets refusal e (inr (even, first, why)) =
-    false_true (is_hex_digit (get_or text refusal.place 0)) first.other ((decode_of-ok text octets e).1 refusal.place 0 first.within)
+    both_ways (is_hex_digit (get_or text refusal.place 0)) first.other ((decode_of-ok text octets e).1 refusal.place 0 first.within)
