@@ -1,6 +1,7 @@
 -- The laws of a block, as callers of the reader see them.
 use Rattle.std.proofs.Common.{◌≡◌, ℕ, ◌+◌, ◌-◌, ◌<◌, ◌≤◌, List, ◌++◌, length, Result, Ok, sym, ap, subst, arith}
 use Rattle.std.specs.Prelude.{IfOk, IfErr, MatchResult, slice_range}
+use Rattle.std.proofs.lemmas.Result.{MatchResult-weaker}
 use Rattle.mesh_atoms.specs.declared.refusal.Refusal.{Refusal}
 use Rattle.mesh_atoms.specs.declared.refusal.DecodeFault.{DecodeFault}
 use Rattle.mesh_atoms.specs.Reading.{Gives, IfRefused, refuse}
@@ -9,7 +10,7 @@ use Rattle.mesh_atoms.proofs.Reading.{front_is}
 use Rattle.mesh_addr.specs.declared.records.RawAddr.{RawAddr}
 use Rattle.mesh_addr.specs.Grammar.{SpellsBlock, BlockFault}
 use Rattle.mesh_addr.specs.Reading.{block_at}
-use Rattle.mesh_addr.proofs.Taking.{meets_ok, IsBlock, IsFault, block_takes}
+use Rattle.mesh_addr.proofs.Taking.{IsBlock, IsFault, block_takes}
 use Rattle.mesh_addr.proofs.ReadAgain.{block_again}
 use Rattle.mesh_addr.proofs.Refusing.{block_fault}
 
@@ -20,10 +21,10 @@ abbrev pub IsRefused : ℕ → List ℕ → ℕ → ℕ → Refusal → Type 0
 IsRefused width s at end e = (at ≤ e.place) × BlockFault width (slice_range s at end) (e.place - at) e.reason
 
 block_told : (width : ℕ) (s : List ℕ) (at end : ℕ) → at ≤ end → end ≤ length s → MatchResult (block_at s at end width) (IsRead width s at end) (IsRefused width s at end)
-block_told width s at end le fits = meets_ok (block_at s at end width) (IsBlock width s at end) (IsRead width s at end) (IsFault width s at end) (IsRefused width s at end) (block_takes width s at end fits)
-    (λ e h. let back : at + h.0 - at ≡ h.0 = omega arith in rw (h.3, back) (omega arith, h.2))
+block_told width s at end le fits = MatchResult-weaker (block_at s at end width) {P = IsBlock width s at end} {P' = IsRead width s at end} {Q = IsFault width s at end} {Q' = IsRefused width s at end} (block_takes width s at end fits)
     (λ x h. let text : slice_range s at x.1 ≡ h.0 = subst (λ (n : ℕ). slice_range s at n ≡ h.0) (sym h.2.len) (front_is s at h.0 (slice_range s x.1 end) end (record { parts = h.2.parts; at_end = le; fits = fits })) in
     (omega (arith, h.2.len, ap length h.1.whole), h.2.within, rw text h.1))
+    (λ e h. let back : at + h.0 - at ≡ h.0 = omega arith in rw (h.3, back) (omega arith, h.2))
 
 -- what a call gave is spelled, or is the first fault
 pub spelled_or_refused : {X : Type 0} (view : X → List RawAddr × ℕ) (r : Result X DecodeFault) (s : List ℕ) (at end width : ℕ) → Gives view r (block_at s at end width) → at ≤ end → end ≤ length s → IfOk r (λ x. IsRead width s at end (view x)) × IfErr r (IfRefused (IsRefused width s at end))

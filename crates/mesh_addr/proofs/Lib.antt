@@ -4,7 +4,7 @@ pub mod OneLeast  -- packet
 pub mod ReadAgain  -- packet
 pub mod Refusing  -- packet
 pub mod Taking  -- packet
-pub mod Writable  -- packet, replay, wire
+pub mod Writable  -- packet, trace
 -- Lemmas of this crate alone.
 mod Calls
 mod Choosing

@@ -1,9 +1,11 @@
 -- How far head, tail and zeros of a block reach.
-use Rattle.std.proofs.Common.{◌≡◌, ℕ, ◌+◌, ◌-◌, ◌≤◌, Bool, true, false, List, take, drop, refl, sym, ap, subst, ◌∙◌, arith}
+use Rattle.std.proofs.Common.{◌≡◌, ℕ, ◌+◌, ◌-◌, ◌≤◌, Bool, true, false, List, take, drop, sym, ap, subst, ◌∙◌, arith}
 use Rattle.std.specs.Prelude.{slice_range, not}
 use Rattle.std.specs.Str.{bytes_eq}
 use Rattle.std.proofs.lemmas.Slice.Eq.{bytes_eq-Decides}
 use Rattle.std.proofs.lemmas.List.{take-take, drop-take, drop-drop, drop-replicate}
+use Rattle.std.proofs.lemmas.Bool.{not-false}
+use Rattle.mesh_atoms.proofs.Options.{not_both}
 use Rattle.mesh_addr.specs.declared.records.RawAddr.{RawAddr}
 use Rattle.mesh_addr.specs.declared.choices.Choice.{Choice}
 use Rattle.mesh_addr.specs.declared.choices.Limits.{Limits}
@@ -14,16 +16,10 @@ use Rattle.mesh_addr.proofs.Padding.{zeros}
 
 -- what a test for a difference told
 pub is_same : (r : Bool) (xs ys : List ℕ) → r ≡ not (bytes_eq xs ys) → r ≡ false → xs ≡ ys
-is_same r xs ys e equal = (bytes_eq-Decides xs ys).0 (no_no (bytes_eq xs ys) (sym e ∙ equal)) where
-  no_no : (b : Bool) → not b ≡ false → b ≡ true
-  no_no true h = refl
-  no_no false h = absurd cc
+is_same r xs ys e equal = (bytes_eq-Decides xs ys).0 (not-false (bytes_eq xs ys) (sym e ∙ equal))
 
 pub is_other : (r : Bool) (xs ys : List ℕ) → r ≡ not (bytes_eq xs ys) → r ≡ true → xs ≡ ys → ⊥
-is_other r xs ys e differ same = no_yes (bytes_eq xs ys) (sym e ∙ differ) ((bytes_eq-Decides xs ys).1 same) where
-  no_yes : (b : Bool) → not b ≡ true → b ≡ true → ⊥
-  no_yes true h k = absurd cc
-  no_yes false h k = absurd cc
+is_other r xs ys e differ same = not_both (bytes_eq xs ys) ((bytes_eq-Decides xs ys).1 same) (sym e ∙ differ)
 
 -- one less, where the fact doesn't hold yet
 pub one_less : (most len : ℕ) (P : ℕ → Type 0) → ((n : ℕ) → n ≤ most → P n → n ≤ len) → (P len → ⊥) → (n : ℕ) → n ≤ most → P n → n ≤ len - 1

@@ -6,6 +6,7 @@ use Rattle.std.proofs.Math.Nat.{suc-mul}
 use Rattle.mesh_atoms.specs.declared.refusal.Refusal.{Refusal}
 use Rattle.mesh_atoms.specs.Reading.{◌>>=◌, has}
 use Rattle.mesh_atoms.proofs.Reading.{Stands, stands_first, stands_next, octet_again, front_is, piece_again}
+use Rattle.mesh_atoms.proofs.Lists.{heads_equal, tails_equal}
 use Rattle.mesh_addr.specs.declared.records.RawAddr.{RawAddr}
 use Rattle.mesh_addr.specs.Grammar.{padded, SpellsHead, SpellsTail, SpellsMids, SpellsPrefixes, AreAll, AreAtMost, prefixes, SpellsBlock}
 use Rattle.mesh_addr.specs.Reading.{ShapeFields, addr_of, count_at, flags_at, number_at, counted_at, head_at, tail_at, parts_end, prefix_at, common_at, addrs_at, block_at}
@@ -71,12 +72,7 @@ unfolding prefix_at
 prefix_again s at p width rest end h le = rw (octet_again 1 s at end p rest h.fits h.parts, le-ltb (8 * width) p le) refl
 
 pub first_all : (p q : ℕ) (qs : List ℕ) → AreAll p (q ∷ qs) → (q ≡ p) × AreAll p qs
-first_all p q qs h = (heads q p qs (replicate (length qs) p) h, tails q p qs (replicate (length qs) p) h) where
-  heads : (x y : ℕ) (k l : List ℕ) → x ∷ k ≡ y ∷ l → x ≡ y
-  heads x y k l e = cc
-
-  tails : (x y : ℕ) (k l : List ℕ) → x ∷ k ≡ y ∷ l → k ≡ l
-  tails x y k l e = cc
+first_all p q qs h = (heads_equal q p qs (replicate (length qs) p) h, tails_equal q p qs (replicate (length qs) p) h)
 
 module _ (s : List ℕ) (end width : ℕ) (head tail : List ℕ) where
   abbrev shape : Option ℕ → ShapeFields

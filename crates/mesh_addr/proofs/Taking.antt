@@ -1,23 +1,19 @@
 -- What is read is spelled so, and what is refused has its first fault there.
-use Rattle.std.proofs.Common.{◌≡◌, ℕ, zero, suc, ◌+◌, ◌-◌, ◌*◌, ◌<◌, ◌≤◌, Bool, true, false, eqb, ltb, List, [], ◌∷◌, ◌++◌, length, take, drop, Option, Some, None, Result, Ok, Err, refl, sym, ap, subst, ◌∙◌, arith, inl, inr, ◌⊎◌}
+use Rattle.std.proofs.Common.{◌≡◌, ℕ, zero, suc, ◌+◌, ◌-◌, ◌*◌, ◌<◌, ◌≤◌, Bool, true, false, eqb, ltb, List, [], ◌∷◌, ◌++◌, length, take, drop, Option, Some, None, refl, sym, ap, subst, ◌∙◌, arith, inl, inr, ◌⊎◌}
 use Rattle.std.specs.Prelude.{slice_range, MatchResult, replicate, ◌&&◌}
 use Rattle.std.proofs.lemmas.Bool.{ltb-false, ltb-true, eqb-true, eqb-false, or_cases as or_true, or_parts as or_false}
 use Rattle.std.proofs.lemmas.List.{length-replicate}
 use Rattle.std.proofs.Math.Nat.{suc-mul}
+use Rattle.std.proofs.lemmas.Result.{MatchResult-weaker}
 use Rattle.mesh_atoms.specs.declared.refusal.Refusal.{Refusal}
 use Rattle.mesh_atoms.specs.Reading.{has, octet_at, piece_at}
 use Rattle.mesh_atoms.proofs.Reading.{meets_bind, meets_if, range_length, Takes, takes_none, takes_both, Faulty, octet_takes, piece_takes}
 use Rattle.mesh_addr.specs.declared.records.RawAddr.{RawAddr}
 use Rattle.mesh_addr.proofs.Padding.{split_at}
-use Rattle.mesh_addr.specs.Grammar.{padded, SpellsHead, SpellsTail, SpellsMids, SpellsPrefixes, AreAll, AreAtMost, prefixes, SpellsBlock, CountedFault, ZerosFault, PrefixFault, BeginsBlock, Shaped, BlockFault, prefix_count}
+use Rattle.mesh_addr.specs.Grammar.{SpellsHead, SpellsTail, SpellsMids, SpellsPrefixes, AreAll, AreAtMost, prefixes, SpellsBlock, CountedFault, ZerosFault, PrefixFault, BeginsBlock, Shaped, BlockFault, prefix_count}
 use Rattle.mesh_addr.specs.Grammar as fault
 use Rattle.mesh_addr.specs.Reading.{ShapeFields, mid_of, clashes, count_at, flags_at, number_at, counted_at, head_at, tail_at, parts_end, prefix_at, common_at, own_at, addrs_at, block_at}
 use Rattle.mesh_addr.proofs.Loops.{next_part}
-
--- a reading that means more
-pub meets_ok : {A : Type 0} (r : Result A Refusal) (P P' : A → Type 0) (Q Q' : Refusal → Type 0) → MatchResult r P Q → ((e : Refusal) → Q e → Q' e) → ((x : A) → P x → P' x) → MatchResult r P' Q'
-meets_ok (Ok x) P P' Q Q' h q k = k x h
-meets_ok (Err e) P P' Q Q' h q k = q e h
 
 -- what a reader took, and what that is
 abbrev Took : {A : Type 0} → List ℕ → ℕ → ℕ → (A → List ℕ → Type 0) → A × ℕ → Type 0
@@ -62,9 +58,9 @@ counted_takes s at end room fits =
     (λ len t.
     let begins : slice_range s at end ≡ len.0 ∷ slice_range s len.1 end = rw t.1.1 at t.2.parts in
     let place : len.1 ≡ at + 1 = t.2.len ∙ ap (λ (l : List ℕ). at + length l) t.1.1 in
-    meets_ok (piece_at 1 s len.1 end len.0) (IsPiece s len.1 end len.0) P (IsShort s len.1 end len.0) Q (piece_takes 1 s len.1 end len.0 t.2.within fits)
-    (λ e h. (1, 1, fault.CountedFault.cut len.0 (slice_range s len.1 end) begins t.1.0 h.1, h.0 ∙ ap (λ (n : ℕ). record { place = n; reason = 1 }) place))
-    (λ x k. (t.0 ++ x.0, (omega (arith, k.0, t.1.0), ap (λ (l : List ℕ). l ++ x.0) t.1.1 ∙ ap (λ (n : ℕ). n ∷ x.0) (sym k.0)), takes_both s at t.0 len.1 x.0 x.1 end t.2 k.1)))
+    MatchResult-weaker (piece_at 1 s len.1 end len.0) {P = IsPiece s len.1 end len.0} {P' = P} {Q = IsShort s len.1 end len.0} {Q' = Q} (piece_takes 1 s len.1 end len.0 t.2.within fits)
+    (λ x k. (t.0 ++ x.0, (omega (arith, k.0, t.1.0), ap (λ (l : List ℕ). l ++ x.0) t.1.1 ∙ ap (λ (n : ℕ). n ∷ x.0) (sym k.0)), takes_both s at t.0 len.1 x.0 x.1 end t.2 k.1))
+    (λ e h. (1, 1, fault.CountedFault.cut len.0 (slice_range s len.1 end) begins t.1.0 h.1, h.0 ∙ ap (λ (n : ℕ). record { place = n; reason = 1 }) place)))
   where
     counted_fault : (e : Refusal) → NumberAt s at end room e → CountedAt s at end room e
     counted_fault e (place, reason, (z, fault.ZerosFault.no_number h), is) = (0, 1, fault.CountedFault.no_number h, is ∙ ap (λ (n : ℕ). record { place = at + n; reason = 1 }) z)
@@ -79,7 +75,7 @@ head_takes s flags at end width le fits =
     let P = Took s at end (IsHead (has flags 128) width) in
     let Q = λ (e : Refusal). (has flags 128 ≡ true) × CountedAt s at end width e in
     meets_if (has flags 128) _ _ P Q
-    (λ p. meets_ok (counted_at s at end width) (Took s at end (IsCounted width)) P (CountedAt s at end width) Q (counted_takes s at end width fits) (λ e h. (p, h)) (λ x t. (t.0, (t.1.0, rw p t.1.1), t.2)))
+    (λ p. MatchResult-weaker (counted_at s at end width) {P = Took s at end (IsCounted width)} {P' = P} {Q = CountedAt s at end width} {Q' = Q} (counted_takes s at end width fits) (λ x t. (t.0, (t.1.0, rw p t.1.1), t.2)) (λ e h. (p, h)))
     (λ p. ([], (omega arith, rw p (refl, refl)), takes_none s at end le))
 
 abbrev IsTail : Bool → Bool → ℕ → List ℕ → List ℕ → Type 0
@@ -95,7 +91,7 @@ tail_takes s flags at end room le fits apart =
     let Q = TailFault s flags at end room in
     meets_if (has flags 64) _ _ P Q
     (λ p. let no : has flags 32 ≡ false = rw p at apart in
-    meets_ok (counted_at s at end room) (Took s at end (IsCounted room)) P (CountedAt s at end room) Q (counted_takes s at end room fits) (λ e h. inl (p, h)) (λ x t. (t.0, (t.1.0, rw (p, no) t.1.1), t.2)))
+    MatchResult-weaker (counted_at s at end room) {P = Took s at end (IsCounted room)} {P' = P} {Q = CountedAt s at end room} {Q' = Q} (counted_takes s at end room fits) (λ x t. (t.0, (t.1.0, rw (p, no) t.1.1), t.2)) (λ e h. inl (p, h)))
     (λ p. meets_if (has flags 32) _ _ P Q
     (λ q. meets_bind (number_at s at end room) _ (Took s at end (IsNumber room)) P (NumberAt s at end room) Q (number_takes s at end room fits) (λ e h. inr (q, h))
     (λ len t. let long : length (replicate len.0 0) ≡ len.0 = length-replicate {A = ℕ} len.0 0 in
@@ -119,13 +115,13 @@ parts_take (suc n) at end size le =
     let here : at ≡ at + 0 * size = omega arith in
     (0, omega arith, omega arith, omega arith, ap (λ (m : ℕ). record { place = m; reason = 1 }) here))
     (λ p. let fit : size ≤ end - at = ltb-false _ _ p in
-    meets_ok (parts_end n (at + size) end size) (ArePassed n (at + size) end size) P (PartCut n (at + size) end size) Q (parts_take n (at + size) end size (omega arith))
+    MatchResult-weaker (parts_end n (at + size) end size) {P = ArePassed n (at + size) end size} {P' = P} {Q = PartCut n (at + size) end size} {Q' = Q} (parts_take n (at + size) end size (omega arith))
+    (λ after h. let one : suc n * size ≡ n * size + size = suc-mul n size in (omega (arith, h.0), h.1))
     (λ e h. let one : suc h.0 * size ≡ h.0 * size + size = suc-mul h.0 size in
     let two = next_part h.0 size in
     let three : (suc h.0 + 1) * size ≡ suc h.0 * size + size = next_part (suc h.0) size in
     let place : at + size + h.0 * size ≡ at + suc h.0 * size = omega arith in
-    (suc h.0, omega (arith, h.1), omega (arith, h.2), omega (arith, h.3), h.4 ∙ ap (λ (m : ℕ). record { place = m; reason = 1 }) place))
-    (λ after h. let one : suc n * size ≡ n * size + size = suc-mul n size in (omega (arith, h.0), h.1)))
+    (suc h.0, omega (arith, h.1), omega (arith, h.2), omega (arith, h.3), h.4 ∙ ap (λ (m : ℕ). record { place = m; reason = 1 }) place)))
 
 abbrev OnePrefixFault : ℕ → List ℕ → ℕ → ℕ → Refusal → Type 0
 OnePrefixFault width s at end e = Faulty at (λ place reason. (place ≡ 0) × PrefixFault (8 * width) (slice_range s at end) 0 reason) e
@@ -174,7 +170,7 @@ AreOwn None most qs text = AreAtMost most qs × (text ≡ qs)
 
 own_takes : (s : List ℕ) (o : Option ℕ) (at end width : ℕ) → at ≤ end → end ≤ length s → MatchResult (own_at s o at end width) (Took s at end (IsOwn o (8 * width))) (λ e. (o ≡ None) × OnePrefixFault width s at end e)
 own_takes s (Some p) at end width le fits = ([], (refl, refl), takes_none s at end le)
-own_takes s None at end width le fits = meets_ok (prefix_at s at end width) (Took s at end (IsPrefix width)) (Took s at end (IsOwn None (8 * width))) (OnePrefixFault width s at end) (λ e. (◌≡◌ {A = Option ℕ} None None) × OnePrefixFault width s at end e) (prefix_takes s at end width fits) (λ e h. (refl, h)) (λ x t. t)
+own_takes s None at end width le fits = MatchResult-weaker (prefix_at s at end width) {P = Took s at end (IsPrefix width)} {P' = Took s at end (IsOwn None (8 * width))} {Q = OnePrefixFault width s at end} {Q' = λ e. (◌≡◌ {A = Option ℕ} None None) × OnePrefixFault width s at end e} (prefix_takes s at end width fits) (λ x t. t) (λ e h. (refl, h))
 
 own_none : (o : Option ℕ) (most : ℕ) → AreOwn o most [] []
 own_none (Some p) most = (refl, refl)
@@ -315,13 +311,7 @@ block_takes width s at end fits =
     moved width s at end after (2 + length text + length mids + 0) h.1.0 h.1.1 e (fault.BlockFault.prefix n.0 f.0 0 h.1.1 head.0 tail.0 text mids (slice_range s after end) (shaped (mids ++ slice_range s after end) split) long pos h.1.2.1) h.1.3 (omega (arith, both.len, long, t4.0, h.1.2.0)))
     (λ common t5.
     let shape : ShapeFields = record { width = width; head = head.0; tail = tail.0; prefix = common.0 } in
-    meets_ok (addrs_at n.0 s shape tail.1 common.1 end) (AreAddrs s shape n.0 tail.1 common.1 end) P (AddrFault s shape n.0 common.1 end) Q (addrs_take n.0 s shape tail.1 common.1 end t5.2.within fits (omega (arith, t4.0, t4.1)))
-    (λ e h.
-    let each : (has f.0 16 ≡ false) × (has f.0 8 ≡ true) × (t5.0 ≡ []) = subst (λ (o : Option ℕ). IsCommon (has f.0 16) (has f.0 8) width o t5.0) h.0 t5.1 in
-    let same : slice_range s after end ≡ slice_range s common.1 end = t5.2.parts ∙ ap (λ (l : List ℕ). l ++ slice_range s common.1 end) each.2 in
-    let place : common.1 ≡ after = omega (arith, t5.2.len, ap length each.2) in
-    let below : h.1.0 < prefix_count f.0 n.0 = rw (each.0, each.1) h.1.2.0 in
-    moved width s at end common.1 (2 + length text + length mids + h.1.0) h.1.0 h.1.1 e (fault.BlockFault.prefix n.0 f.0 h.1.0 h.1.1 head.0 tail.0 text mids (slice_range s common.1 end) (shaped (mids ++ slice_range s common.1 end) (split ∙ ap (λ (l : List ℕ). mids ++ l) same)) long below h.1.2.1) h.1.3 (omega (arith, both.len, long, t4.0, place)))
+    MatchResult-weaker (addrs_at n.0 s shape tail.1 common.1 end) {P = AreAddrs s shape n.0 tail.1 common.1 end} {P' = P} {Q = AddrFault s shape n.0 common.1 end} {Q' = Q} (addrs_take n.0 s shape tail.1 common.1 end t5.2.within fits (omega (arith, t4.0, t4.1)))
     (λ y t6.
     let prefix_text : List ℕ = t5.0 ++ t6.2.0 in
     let k5 = takes_both s after t5.0 common.1 t6.2.0 y.1 end t5.2 t6.2.2 in
@@ -348,7 +338,13 @@ block_takes width s at end fits =
         whole = ap (λ (m : ℕ). m ∷ (f.0 ∷ (t2.0 ++ (t3.0 ++ (mids ++ prefix_text))))) (sym t6.0);
       },
       k0,
-    ))))))))
+    ))
+    (λ e h.
+    let each : (has f.0 16 ≡ false) × (has f.0 8 ≡ true) × (t5.0 ≡ []) = subst (λ (o : Option ℕ). IsCommon (has f.0 16) (has f.0 8) width o t5.0) h.0 t5.1 in
+    let same : slice_range s after end ≡ slice_range s common.1 end = t5.2.parts ∙ ap (λ (l : List ℕ). l ++ slice_range s common.1 end) each.2 in
+    let place : common.1 ≡ after = omega (arith, t5.2.len, ap length each.2) in
+    let below : h.1.0 < prefix_count f.0 n.0 = rw (each.0, each.1) h.1.2.0 in
+    moved width s at end common.1 (2 + length text + length mids + h.1.0) h.1.0 h.1.1 e (fault.BlockFault.prefix n.0 f.0 h.1.0 h.1.1 head.0 tail.0 text mids (slice_range s common.1 end) (shaped (mids ++ slice_range s common.1 end) (split ∙ ap (λ (l : List ℕ). mids ++ l) same)) long below h.1.2.1) h.1.3 (omega (arith, both.len, long, t4.0, place)))))))))
   where
     tail_fault : (n flags : ℕ) (head text : List ℕ) (start after : ℕ) → start ≡ at + 2 → after ≡ start + length text → BeginsBlock (slice_range s at end) n flags (text ++ slice_range s after end) → length head ≤ width → SpellsHead (has flags 128) head text → (e : Refusal) → TailFault s flags after end (width - length head) e → IsFault width s at end e
     tail_fault n flags head text start after two len begun le is e (inl h) = moved width s at end after (2 + length text + h.1.0) h.1.0 h.1.1 e (fault.BlockFault.full_tail n flags h.1.0 h.1.1 head text (slice_range s after end) begun le is h.0 h.1.2) h.1.3 (omega arith)

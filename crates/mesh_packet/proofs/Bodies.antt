@@ -1,6 +1,7 @@
 -- What stands in a message behind its size: read, spelled and refused as its parts are.
-use Rattle.std.proofs.Common.{◌≡◌, ℕ, ◌+◌, ◌-◌, ◌≤◌, List, [], ◌∷◌, ◌++◌, length, Ok, refl, sym, ap, subst, ◌∙◌, arith, append_assoc}
+use Rattle.std.proofs.Common.{◌≡◌, ℕ, ◌+◌, ◌-◌, ◌≤◌, List, [], ◌++◌, length, Ok, refl, sym, ap, subst, ◌∙◌, arith, append_assoc}
 use Rattle.std.specs.Prelude.{MatchResult, slice_range}
+use Rattle.std.proofs.lemmas.List.{append-nil}
 use Rattle.mesh_atoms.specs.declared.refusal.Refusal.{Refusal}
 use Rattle.mesh_atoms.specs.Reading.{Reading, refuse}
 use Rattle.mesh_atoms.proofs.Reading.{meets_bind, Takes, takes_range, Stands, stands_first, stands_next, behind}
@@ -47,20 +48,16 @@ pub body_again : (kind flags : ℕ) (s : List ℕ) (at end : ℕ) (m : MessageFi
 unfolding body_at
 body_again kind flags s at end m le fits is h =
     let width : ℕ = width_of flags in
-    let all : Stands s at (h.head ++ (h.tlvs ++ h.blocks)) [] end = record { parts = h.whole ∙ sym (end_nil (h.head ++ (h.tlvs ++ h.blocks))); at_end = le; fits = fits } in
+    let all : Stands s at (h.head ++ (h.tlvs ++ h.blocks)) [] end = record { parts = h.whole ∙ sym (append-nil (h.head ++ (h.tlvs ++ h.blocks))); at_end = le; fits = fits } in
     let s1 = stands_next s at h.head (h.tlvs ++ h.blocks) [] end all in
     let s2 = stands_next s (at + length h.head) h.tlvs h.blocks [] end s1 in
     let place : ℕ = at + length h.head + length h.tlvs in
-    let blocks : slice_range s place end ≡ h.blocks = s2.parts ∙ end_nil h.blocks in
+    let blocks : slice_range s place end ≡ h.blocks = s2.parts ∙ append-nil h.blocks in
     rw (
       head_again flags s at m.originator m.limit m.count m.sequence h.head ((h.tlvs ++ h.blocks) ++ []) end (stands_first s at h.head (h.tlvs ++ h.blocks) [] end all) h.head_is,
       block_again tlv_at SpellsTlv (TlvFault 100 1) tlv_reader s (at + length h.head) end m.tlvs h.tlvs (h.blocks ++ []) s1.at_end fits h.tlvs_is (stands_first s (at + length h.head) h.tlvs h.blocks [] end s1).parts,
       items_again (pair_at width) (SpellsPair width) (PairFault width) (pair_reader width) (end - place) s place end m.blocks s2.at_end fits (omega arith) (subst (λ (l : List ℕ). SpellsItems (SpellsPair width) m.blocks l) (sym blocks) h.blocks_is),
     ) (both kind width m is h.width_is end) where
-      end_nil : (l : List ℕ) → l ++ [] ≡ l
-      end_nil [] = refl
-      end_nil (x ∷ l) = ap (λ (k : List ℕ). x ∷ k) (end_nil l)
-
       both : (kind width : ℕ) (m : MessageFields) → m.kind ≡ kind → m.width ≡ width → (end : ℕ) → ◌≡◌ {A = Reading MessageFields} (Ok (record { kind = kind; width = width; originator = m.originator; limit = m.limit; count = m.count; sequence = m.sequence; tlvs = m.tlvs; blocks = m.blocks }, end)) (Ok (m, end))
       both kind width m k w end =
           ap (λ (n : ℕ). Ok (record { kind = n; width = width; originator = m.originator; limit = m.limit; count = m.count; sequence = m.sequence; tlvs = m.tlvs; blocks = m.blocks }, end)) (sym k)

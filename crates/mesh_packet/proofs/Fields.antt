@@ -1,13 +1,14 @@
 -- The fields of a fixed size that a flag says are there: read, spelled and cut off.
 use Rattle.std.proofs.Common.{◌≡◌, ℕ, ◌+◌, ◌*◌, ◌<◌, ◌≤◌, Bool, true, false, List, [], ◌∷◌, length, Option, Some, None, Ok, refl, sym, ap, subst, ◌∙◌, arith}
 use Rattle.std.specs.Prelude.{MatchResult, slice_range}
+use Rattle.std.proofs.lemmas.Result.{MatchResult-weaker}
 use Rattle.mesh_atoms.specs.declared.refusal.Refusal.{Refusal}
 use Rattle.mesh_atoms.specs.Grammar.{SpellsShort}
 use Rattle.mesh_atoms.specs.Reading.{Reading, refuse, octet_at, short_at, piece_at}
 use Rattle.mesh_atoms.proofs.Reading.{meets_bind, Takes, takes_none, Stands, octet_takes, octet_again, octet_cut, short_takes, short_again, short_cut, two_long, piece_takes, piece_again, piece_cut}
+use Rattle.mesh_atoms.proofs.Lists.{single_of}
 use Rattle.mesh_addr.specs.declared.records.RawAddr.{RawAddr}
 use Rattle.mesh_addr.specs.Grammar.{padded}
-use Rattle.mesh_tlv.proofs.Items.{meets_weaker}
 use Rattle.mesh_packet.specs.Grammar.{SpellsIf, SpellsOctet, SpellsNumber, SpellsAddress, SpellsOriginator, size_if}
 use Rattle.mesh_packet.specs.Reading.{if_flagged, octet_if, short_if, address_at, originator_if}
 
@@ -66,20 +67,15 @@ flagged {A} false read Says size field = record {
 
 octet : IsField (octet_at 1) (λ n bytes. bytes ≡ n ∷ []) 1
 octet = record {
-  takes = λ s at end le fits. meets_weaker (octet_at 1 s at end) _ (Took s at end (λ n bytes. bytes ≡ n ∷ [])) _ (IsCut s at end 1) (octet_takes 1 s at end fits) (λ x t. (x.0 ∷ [], refl, t)) (λ e h. (h.0, omega (arith, ap length h.1)));
+  takes = λ s at end le fits. MatchResult-weaker (octet_at 1 s at end) {P' = Took s at end (λ n bytes. bytes ≡ n ∷ [])} {Q' = IsCut s at end 1} (octet_takes 1 s at end fits) (λ x t. (x.0 ∷ [], refl, t)) (λ e h. (h.0, omega (arith, ap length h.1)));
   again = λ s at n text rest end h e. rw (octet_again 1 s at end n rest h.fits (rw e at h.parts), e) refl;
   cut = λ s at end fits short. octet_cut 1 s at end fits (none (slice_range s at end) short);
   long = λ n text e. ap length e;
-  some = some;
+  some = single_of;
 } where
   none : (l : List ℕ) → length l < 1 → l ≡ []
   none [] h = refl
   none (x ∷ l) h = absurd (omega arith)
-
-  some : (text : List ℕ) → length text ≡ 1 → (n : ℕ) × (text ≡ n ∷ [])
-  some (n ∷ []) e = (n, refl)
-  some [] e = absurd (omega arith)
-  some (n ∷ m ∷ l) e = absurd (omega arith)
 
 pub octet_field : (set : Bool) → IsField (octet_if set) (SpellsOctet set) (size_if set 1)
 octet_field set = flagged set (octet_at 1) (λ n bytes. bytes ≡ n ∷ []) 1 octet

@@ -1,7 +1,6 @@
 -- Items of a list, one after the other: put there one by one, and parted at one of them.
 use Rattle.std.proofs.Common.{◌≡◌, ℕ, zero, suc, ◌+◌, ◌<◌, ◌≤◌, List, [], ◌∷◌, ◌++◌, length, map, take, get_or, refl, sym, ap, subst, ◌∙◌, arith, append_assoc}
-use Rattle.std.proofs.lemmas.List.{append-nil, length-append, length-map, get_or-map, take_all}
-use Rattle.std.specs.Prelude.{All}
+use Rattle.std.proofs.lemmas.List.{append-nil, length-append, take_all}
 use Rattle.std.proofs.Math.Seq.{take-suc}
 use Rattle.std.proofs.lemmas.List.{map_push}
 use Rattle.mesh_tlv.specs.Items.{SpellsItems}
@@ -62,8 +61,3 @@ module _ {A B : Type 0} (view : A → B) (Says : B → List ℕ → Type 0) wher
   item_passes xs i x lt is k = λ text t.
       let p = parted xs i x text lt t in
       omega (arith, ap length p.whole, length-append p.front (p.one ++ p.rest), length-append p.one p.rest, k p.one (subst (λ (y : A). Says (view y) p.one) (sym is) p.is_one))
-
--- what all have, the item has that stands at a place
-pub all_at : {A B : Type 0} (view : A → B) (P : B → Type 0) (xs : List A) (i : ℕ) (x : A) → All P (map view xs) → i < length xs → x ≡ get_or xs i x → P (view x)
-all_at view P xs i x h lt is =
-    subst (λ y. P (view y)) (sym is) (subst P (get_or-map view xs i x (view x) lt) (h i (view x) (omega (arith, lt, length-map xs view))))

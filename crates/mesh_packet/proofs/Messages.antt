@@ -3,12 +3,13 @@ use Rattle.std.proofs.Common.{◌≡◌, ℕ, ◌+◌, ◌-◌, ◌<◌, ◌≤�
 use Rattle.std.specs.Prelude.{MatchResult, slice_range}
 use Rattle.std.proofs.lemmas.Bool.{ltb-false, ltb-true, le-ltb, lt-ltb, or_cases as either, or_parts as neither}
 use Rattle.std.proofs.lemmas.List.{length-append}
+use Rattle.std.proofs.lemmas.Result.{MatchResult-weaker}
 use Rattle.mesh_atoms.specs.declared.refusal.Refusal.{Refusal}
 use Rattle.mesh_atoms.specs.Grammar.{SpellsShort}
 use Rattle.mesh_atoms.specs.Reading.{refuse, octet_at, short_at}
 use Rattle.mesh_atoms.proofs.Reading.{meets_bind, meets_if, Takes, takes_both, takes_range, Stands, stands_first, stands_next, behind, front_is, range_length, octet_takes, octet_again, octet_cut, short_takes, short_again, short_cut, two_long}
 use Rattle.mesh_tlv.specs.Items.{FirstFaultAt}
-use Rattle.mesh_tlv.proofs.Items.{IsReader, Took, meets_weaker}
+use Rattle.mesh_tlv.proofs.Items.{IsReader, Took}
 use Rattle.mesh_packet.specs.Fields.{MessageFields}
 use Rattle.mesh_packet.specs.Grammar.{SpellsMessage, SpellsBody, MessageFault, BodyFault, flags_cut, size_cut, size_wrong, in_body}
 use Rattle.mesh_packet.specs.Reading.{body_at, message_at}
@@ -53,7 +54,7 @@ message_takes s at end lt fits =
     let taken : Takes s size.1 body stop end = subst (λ (k : ℕ). Takes s size.1 (slice_range s size.1 k) k end) upto (takes_range s size.1 (stop - size.1) end (omega (arith, upto, most, lt)) fits) in
     let whole : Takes s at (kind.0 ∷ (flags.0 ∷ (t2.0 ++ body))) stop end =
     takes_both s at (kind.0 ∷ []) kind.1 (flags.0 ∷ (t2.0 ++ body)) stop end t0 (takes_both s kind.1 (flags.0 ∷ []) flags.1 (t2.0 ++ body) stop end t1 (takes_both s flags.1 t2.0 size.1 body stop end t2.2 taken)) in
-    meets_weaker (body_at kind.0 flags.0 s size.1 stop) (BodyTook kind.0 flags.0 s size.1 stop) P (FirstFaultAt (BodyFault flags.0) s size.1 stop) Q (body_takes kind.0 flags.0 s size.1 stop (omega (arith, four, least)) (omega (arith, most, lt, fits)))
+    MatchResult-weaker (body_at kind.0 flags.0 s size.1 stop) {P = BodyTook kind.0 flags.0 s size.1 stop} {P' = P} {Q = FirstFaultAt (BodyFault flags.0) s size.1 stop} {Q' = Q} (body_takes kind.0 flags.0 s size.1 stop (omega (arith, four, least)) (omega (arith, most, lt, fits)))
     (λ x u. (
       kind.0 ∷ (flags.0 ∷ (t2.0 ++ body)),
       record {

@@ -2,6 +2,7 @@
 use Rattle.std.proofs.Common.{◌≡◌, ℕ, ◌⊎◌, inl, inr, List, Result, Ok, Err, ap}
 use Rattle.std.specs.Prelude.{MatchResult}
 use Rattle.mesh_atoms.specs.declared.refusal.Refusal.{Refusal}
+use Rattle.mesh_atoms.proofs.Options.{same_ok, ok_not_err}
 use Rattle.mesh_packet.specs.declared.packet.Span.{Span}
 use Rattle.mesh_packet.specs.Fields.{PacketFields}
 use Rattle.mesh_packet.specs.Grammar.{Spells, FirstFault}
@@ -12,18 +13,12 @@ use Rattle.mesh_packet.proofs.Packets.{IsFault, IsSpelled, packet_takes, packet_
 abbrev Read : Type 0
 Read = Result (PacketFields × List Span) Refusal
 
-ok_same : (r : Read) (x y : PacketFields × List Span) → r ≡ Ok x → r ≡ Ok y → x ≡ y
-ok_same r x y h k = cc
-
 err_same : (r : Read) (x y : Refusal) → r ≡ Err x → r ≡ Err y → x ≡ y
 err_same r x y h k = cc
 
-ok_err : (r : Read) (x : PacketFields × List Span) (y : Refusal) → r ≡ Ok x → r ≡ Err y → ⊥
-ok_err r x y h k = absurd cc
-
 pub one_packet : (frame : List ℕ) (p q : PacketFields) (here there : List Span) → Spells p here frame → Spells q there frame → (p ≡ q) × (here ≡ there)
 one_packet frame p q here there h k =
-    let e = ok_same (packet_of frame) (p, here) (q, there) (packet_again frame p here h) (packet_again frame q there k) in
+    let e = same_ok {a = (p, here)} {b = (q, there)} (packet_again frame p here h) (packet_again frame q there k) in
     (ap (λ (x : PacketFields × List Span). x.0) e, ap (λ (x : PacketFields × List Span). x.1) e)
 
 pub one_fault : (frame : List ℕ) (place reason other why : ℕ) → FirstFault frame place reason → FirstFault frame other why → (place ≡ other) × (reason ≡ why)
@@ -38,4 +33,4 @@ spells_or_faults frame = by (packet_of frame) (packet_takes frame) where
   by (Err e) h = inr (e.place, e.reason, h)
 
 pub not_both : (frame : List ℕ) (packet : PacketFields) (spans : List Span) (place reason : ℕ) → Spells packet spans frame → FirstFault frame place reason → ⊥
-not_both frame packet spans place reason h k = ok_err (packet_of frame) (packet, spans) (record { place = place; reason = reason }) (packet_again frame packet spans h) (packet_fault frame place reason k)
+not_both frame packet spans place reason h k = ok_not_err (packet_again frame packet spans h) (packet_fault frame place reason k)

@@ -3,6 +3,7 @@ use Rattle.std.proofs.Common.{◌≡◌, ℕ, ◌+◌, ◌-◌, ◌≤◌, ltb, 
 use Rattle.std.specs.Prelude.{MatchResult, slice_range}
 use Rattle.std.proofs.lemmas.Bool.{ltb-false, ltb-true, le-ltb, lt-ltb}
 use Rattle.std.proofs.lemmas.List.{length-append}
+use Rattle.std.proofs.lemmas.Result.{MatchResult-weaker}
 use Rattle.mesh_atoms.specs.declared.refusal.Refusal.{Refusal}
 use Rattle.mesh_atoms.specs.Grammar.{SpellsShort}
 use Rattle.mesh_atoms.specs.Reading.{Reading, refuse, short_at}
@@ -10,7 +11,7 @@ use Rattle.mesh_atoms.proofs.Reading.{meets_bind, meets_if, Takes, takes_both, t
 use Rattle.mesh_tlv.specs.Items.{SpellsItems, ItemsFault, FirstFaultAt, items_at}
 use Rattle.mesh_tlv.specs.Reading.{range_at, block_at}
 use Rattle.mesh_tlv.specs.Grammar.{SpellsTlvs, TlvsFault, block_cut, block_long, in_block}
-use Rattle.mesh_tlv.proofs.Items.{IsReader, ItemsTook, items_take, items_again, items_fault, meets_weaker}
+use Rattle.mesh_tlv.proofs.Items.{IsReader, ItemsTook, items_take, items_again, items_fault}
 
 -- a block that was read stands between the places
 abbrev pub BlockTook : {A : Type 0} → List ℕ → ℕ → ℕ → (A → List ℕ → Type 0) → List A × ℕ → Type 0
@@ -50,7 +51,7 @@ module _ {A : Type 0} (one : List ℕ → ℕ → ℕ → Reading A) (Spells : A
       let stopped : start + (stop - start) ≡ stop = omega (arith, t.3) in
       let taken = takes_both s at t.0 start (slice_range s start (start + (stop - start))) (start + (stop - start)) end t.2 (takes_range s start (stop - start) end (omega (arith, t.3, t.4)) fits) in
       let whole : slice_range s at end ≡ (t.0 ++ text) ++ slice_range s stop end = subst (λ (k : ℕ). slice_range s at end ≡ (t.0 ++ slice_range s start k) ++ slice_range s k end) stopped taken.parts in
-      meets_weaker (items_at (one s) (stop - start) start stop) (ItemsTook s start stop Spells) P (FirstFaultAt (ItemsFault Spells Fault) s start stop) Q (items_take one Spells Fault reader (stop - start) s start stop t.3 within (omega arith))
+      MatchResult-weaker (items_at (one s) (stop - start) start stop) {P = ItemsTook s start stop Spells} {P' = P} {Q = FirstFaultAt (ItemsFault Spells Fault) s start stop} {Q' = Q} (items_take one Spells Fault reader (stop - start) s start stop t.3 within (omega arith))
       (λ x u.
       let behind = text_is s at end (t.0 ++ text) (slice_range s stop end) le fits whole in
       let place : at + length (t.0 ++ text) ≡ x.1 = omega (arith, u.0, length-append t.0 text, size, t.2.len, t.3) in (

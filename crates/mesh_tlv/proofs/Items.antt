@@ -1,17 +1,11 @@
 -- Items that fill a range of a frame, one after the other: read, spelled and refused as each of them is.
-use Rattle.std.proofs.Common.{◌≡◌, ℕ, zero, suc, ◌+◌, ◌-◌, ◌<◌, ◌≤◌, eqb, List, [], ◌∷◌, ◌++◌, length, Result, Ok, Err, refl, sym, ap, subst, ◌∙◌, arith, append_assoc}
+use Rattle.std.proofs.Common.{◌≡◌, ℕ, zero, suc, ◌+◌, ◌-◌, ◌<◌, ◌≤◌, eqb, List, [], ◌∷◌, ◌++◌, length, Ok, refl, sym, ap, subst, ◌∙◌, arith, append_assoc}
 use Rattle.std.specs.Prelude.{MatchResult, slice_range}
 use Rattle.std.proofs.lemmas.Bool.{eqb-true, eqb-false, eq-eqb, ne_eqb}
 use Rattle.std.proofs.lemmas.List.{length-append}
-use Rattle.mesh_atoms.specs.declared.refusal.Refusal.{Refusal}
 use Rattle.mesh_atoms.specs.Reading.{Reading, refuse}
 use Rattle.mesh_atoms.proofs.Reading.{meets_bind, meets_if, Takes, range_length, range_nil, text_is}
 use Rattle.mesh_tlv.specs.Items.{SpellsItems, ItemsFault, FirstFaultAt, items_at}
-
--- the same reading, and less of it
-pub meets_weaker : {A : Type 0} (r : Result A Refusal) (P P' : A → Type 0) (Q Q' : Refusal → Type 0) → MatchResult r P Q → ((x : A) → P x → P' x) → ((e : Refusal) → Q e → Q' e) → MatchResult r P' Q'
-meets_weaker (Ok x) P P' Q Q' h k q = k x h
-meets_weaker (Err e) P P' Q Q' h k q = q e h
 
 -- the text that a reader took from a place, and what it spells
 abbrev pub Took : {A : Type 0} → List ℕ → ℕ → ℕ → (A → List ℕ → Type 0) → A × ℕ → Type 0

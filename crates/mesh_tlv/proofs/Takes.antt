@@ -1,7 +1,7 @@
 -- What is read is spelled so, and what is refused has its first fault there.
 use Rattle.std.proofs.Common.{◌≡◌, ℕ, ◌+◌, ◌-◌, ◌%◌, ◌<◌, ◌≤◌, Bool, true, false, not, cond, eqb, ltb, leb, ◌||◌, List, [], ◌∷◌, ◌++◌, length, Option, Ok, Err, refl, sym, ap, subst, ◌∙◌, arith, inl, inr, ◌⊎◌}
 use Rattle.std.specs.Prelude.{MatchResult, slice_range}
-use Rattle.std.proofs.lemmas.Bool.{ltb-false, ltb-true, leb-false, leb-true, eqb-true, eqb-false, false_from_ne_true as not_true}
+use Rattle.std.proofs.lemmas.Bool.{ltb-false, ltb-true, leb-false, leb-true, eqb-true, eqb-false, false_from_ne_true as not_true, not-true, not-false}
 use Rattle.std.proofs.lemmas.List.{length-append}
 use Rattle.mesh_atoms.specs.declared.refusal.Refusal.{Refusal}
 use Rattle.mesh_atoms.specs.Reading.{Reading, has, refuse, octet_at}
@@ -10,7 +10,7 @@ use Rattle.mesh_tlv.specs.Reading.{is_sound, flags_at, extension_at, index_octet
 use Rattle.mesh_tlv.specs.Grammar.{SpellsExtension, SpellsIndex, SpellsLength, SpellsValue, Divides, HasEqualParts, SpellsTlvOf, IsBroken, two_indexes, wide_nothing, multi_nothing, Opens, Extends, Indexes, IsCut, TlvFault, flags_cut, flags_broken, ext_cut, start_cut, start_high, stop_cut, stop_wrong, length_cut, length_uneven, value_cut}
 use Rattle.mesh_tlv.specs.Items.{FirstFaultAt}
 use Rattle.mesh_tlv.proofs.Items.{Took}
-use Rattle.mesh_tlv.proofs.Flags.{not_false, not_not, broken_if, not_broken_if, taken_if}
+use Rattle.mesh_tlv.proofs.Flags.{broken_if, not_broken_if, taken_if}
 
 -- ---- field by field
 
@@ -130,10 +130,10 @@ module _ (barred count flags first last : ℕ) (s : List ℕ) (start at end : �
       (λ q. (
         2 + length head,
         len,
-        length_uneven flags first last x.0 head t.0 (slice_range s x.1 end) indexed p t.1 (λ d. eqb-false (x.0 % part_count (has flags 4) first last) 0 (not_false _ q) (divided_if (has flags 4) first last x.0 d)),
+        length_uneven flags first last x.0 head t.0 (slice_range s x.1 end) indexed p t.1 (λ d. eqb-false (x.0 % part_count (has flags 4) first last) 0 (not-true _ q) (divided_if (has flags 4) first last x.0 d)),
       ))
       (λ q.
-      let divides : Divides (has flags 4) first last x.0 = divides_if (has flags 4) first last x.0 (eqb-true _ _ (not_not _ q)) in
+      let divides : Divides (has flags 4) first last x.0 = divides_if (has flags 4) first last x.0 (eqb-true _ _ (not-false _ q)) in
       meets_if (ltb (end - x.1) x.0) _ _ P Q
       (λ r. (
         2 + length head + length t.0,

@@ -7,6 +7,7 @@ use Rattle.mesh_atoms.specs.declared.addr.Addr4.{Addr4}
 use Rattle.mesh_atoms.specs.declared.tc.Tc.{Tc}
 use Rattle.mesh_atoms.specs.declared.tc.TcRow.{TcRow}
 use Rattle.mesh_atoms.specs.Octets.{address_in}
+use Rattle.mesh_atoms.proofs.Options.{none_not}
 use Rattle.mesh_addr.specs.declared.records.RawAddr.{RawAddr}
 use Rattle.mesh_packet.specs.Fields.{MessageFields}
 use Rattle.mesh_wire.specs.declared.collect.AddressParts.{AddressParts}
@@ -27,7 +28,7 @@ use Rattle.mesh_wire.specs.Times.{distance_of}
 use Rattle.mesh_wire.proofs.Deciding.{validity_or, interval_or, content_or, metric_of}
 use Rattle.mesh_wire.proofs.InOrder.{NoneBelow, Decided, Outcome, first_or_none, of_either, of_rows}
 use Rattle.mesh_wire.proofs.Slots.{RowIs}
-use Rattle.mesh_wire.proofs.TcHeading.{first_number, width_kept, header_kept, validity_kept, interval_kept, content_kept, an_originator, a_sequence}
+use Rattle.mesh_wire.proofs.TcHeading.{first_number, width_kept, header_kept, validity_kept, interval_kept, content_kept, an_originator}
 use Rattle.mesh_wire.proofs.TcRead.{rule_found, rows_found}
 
 row_of : (m : MessageFields) → HasOctets m → (t : AddressParts) → RowIs (HasValue m t.net) t.parts → (r : TcRow) × TcRowFrom t r
@@ -76,7 +77,7 @@ module _ (m : MessageFields) (octets : HasOctets m) where
     (
       elim (there_or m.originator) [
         | inr none ↦ inl (NoOriginator none)
-        | inl o ↦ elim (there_or m.sequence) [ inr none ↦ inl (NoSequence none) | inl s ↦ inr (header_kept m (an_originator m.originator (self_of o.0) (self_is o.0 m.originator o.1)) (a_sequence m.sequence s.0 s.1)) ]
+        | inl o ↦ elim (there_or m.sequence) [ inr none ↦ inl (NoSequence none) | inl s ↦ inr (header_kept m (an_originator m.originator (self_of o.0) (self_is o.0 m.originator o.1)) (λ none. none_not none s.1)) ]
       ],
       (
         elim (validity_or m (distance_of m.count)) [ inl v ↦ inr (validity_kept m v.0 v.1) | inr none ↦ inl (NoValidity none) ],

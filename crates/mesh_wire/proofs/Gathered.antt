@@ -1,6 +1,7 @@
 -- The rows of a message's addresses, once all is told, are what is kept of its networks.
 use Rattle.std.proofs.Common.{◌≡◌, ℕ, zero, suc, ◌⊎◌, inl, inr, refl, sym, ◌∙◌, ap, subst, arith, List, [], ◌∷◌, ◌++◌, length, take}
 use Rattle.std.specs.Prelude.{Contains, Option, Some, None, slice_get}
+use Rattle.std.proofs.lemmas.List.{take_at}
 use Rattle.mesh_atoms.specs.declared.addr.NetAddr.{NetAddr}
 use Rattle.mesh_addr.specs.declared.records.RawAddr.{RawAddr}
 use Rattle.mesh_packet.specs.Fields.{BlockFields, MessageFields}
@@ -11,7 +12,6 @@ use Rattle.mesh_wire.specs.Entries.{Entry, standing, of_tlvs, of_block, of_block
 use Rattle.mesh_wire.specs.Parts.{IsIn}
 use Rattle.mesh_wire.specs.Standing.{addresses, IsRowOf, IsTable, AreAt, TellsRows, after, tell}
 use Rattle.mesh_wire.specs.KeptParts.{no_parts}
-use Rattle.mesh_wire.proofs.Addresses.{take_front}
 use Rattle.mesh_wire.proofs.Collected.{AnyOf, At, StandsOf, any_front, any_back, collected_is}
 use Rattle.mesh_wire.proofs.Collecting.{one_net, in_none, all_after}
 use Rattle.mesh_wire.proofs.Entries.{there_stands, has_of}
@@ -84,9 +84,6 @@ module _ (m : MessageFields) (old : List AddressParts) (row_of : List ℕ) (tabl
         (s, contains_at (tell es old) row s now, is ∙ same));
   })
 
-front_only : (xs ys : List AddressParts) (n : ℕ) → n ≡ length xs → take n (xs ++ ys) ≡ xs
-front_only xs ys n e = ap (λ k. take k (xs ++ ys)) e ∙ take_front xs ys
-
 tell_len : (entries : List Entry) (rows : List AddressParts) → length (tell entries rows) ≡ length rows
 tell_len entries [] = refl
 tell_len entries (r ∷ rows) = let e = tell_len entries rows in omega arith
@@ -103,4 +100,4 @@ whole m first second items start new left row_of places len e f g h size table t
     let b = tell_len (of_blocks m.blocks) items in
     let c = ap (λ (ts : List AddressParts). length ts) g in
     omega (arith, a, b, c, size)) in
-    subst (AreCollected (of_blocks m.blocks)) (sym (front_only new left len same_len)) (all_told m items row_of here new told)
+    subst (AreCollected (of_blocks m.blocks)) (sym (take_at new left len (sym same_len))) (all_told m items row_of here new told)

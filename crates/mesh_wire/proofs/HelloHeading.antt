@@ -1,6 +1,6 @@
 -- The rules on what a HELLO says before its rows, one by one.
-use Rattle.std.proofs.Common.{◌≡◌, ℕ, arith, true, false, Bool}
-use Rattle.std.specs.Prelude.{◌↔◌, ◌≢◌, ◌==◌, Option, IsTrue, cond}
+use Rattle.std.proofs.Common.{◌≡◌, ℕ, arith}
+use Rattle.std.specs.Prelude.{◌≢◌, ◌==◌, Option, cond}
 use Rattle.mesh_atoms.specs.declared.addr.NetAddr.{NetAddr}
 use Rattle.mesh_packet.specs.Fields.{MessageFields}
 use Rattle.mesh_wire.specs.Hello.{HasWilling}
@@ -80,7 +80,3 @@ module _ (m : MessageFields) where
 
   pub past_willing : NoneBelow (BreaksHello m) 25 → (octet : ℕ) → HasWilling m octet → NoneBelow (BreaksHello m) 26
   past_willing below octet is = one_further (BreaksHello m) 25 below (willing_kept octet is)
-
--- the answer of a test
-pub said_no : (P : Type 0) (b : Bool) → (IsTrue b ↔ P) → b ≡ false → P → ⊥
-said_no P b h e p = let t : b ≡ true = h.1 p in cc

@@ -46,6 +46,7 @@ use Rattle.mesh_wire.proofs.OneHello.{one_hello}
 use Rattle.mesh_wire.proofs.RowLines.{of_value, alone_again}
 use Rattle.mesh_wire.proofs.RowsSay.{row_stands, row_at, part_there, said_of, row_of, not_two, right_metric, octet_said, flags_said, metric_said}
 use Rattle.mesh_atoms.proofs.Lists.{contains_map_cases as unmapped}
+use Rattle.mesh_atoms.proofs.Options.{none_not}
 
 -- ---- fewest parts
 
@@ -86,9 +87,6 @@ other_below others.Symmetric = omega arith
 
 -- ---- what is read of a part
 
-pub none_said : (octets : List ℕ) (o : Option (List ℕ)) → o ≡ None → o ≡ Some octets → ⊥
-none_said octets o e f = cc
-
 pub local_or_not : {X : Type 0} (o : Option X) → (o ≡ None) ⊎ IsSome o
 local_or_not None = inl refl
 local_or_not (Some x) = inr refl
@@ -108,7 +106,7 @@ metric_read row k kind octets e v = inr (inr (inr (e, (k, metric_flagged k (metr
 
 other_read : (row : HelloRow) (kind : ℕ) (octets : List ℕ) (c : AddressTlvKind) → kind ≡ kind_of c → value_of c (hello_line row) ≡ Some octets → row.local ≡ None → IsReadOfOther kind octets
 other_read row kind octets Local e v none =
-    absurd (none_said octets (option_map (λ (n : ℕ). n ∷ []) (option_map local_value row.local)) (ap (λ (o : Option LocalIf). option_map (λ (n : ℕ). n ∷ []) (option_map local_value o)) none) (sym (octet_value (hello_line row).local) ∙ v))
+    absurd (none_not {o = option_map (λ (n : ℕ). n ∷ []) (option_map local_value row.local)} (ap (λ (o : Option LocalIf). option_map (λ (n : ℕ). n ∷ []) (option_map local_value o)) none) (sym (octet_value (hello_line row).local) ∙ v))
 other_read row kind octets Link e v none = inl e
 other_read row kind octets Other e v none = inr (inl e)
 other_read row kind octets Mpr e v none = inr (inr (inl (e, flags_octet row.mpr.flooding row.mpr.routing octets (sym (octet_value (hello_line row).mpr) ∙ v))))
@@ -120,7 +118,7 @@ other_read row kind octets NearIn e v none = metric_read row Near_in kind octets
 other_read row kind octets NearOut e v none = metric_read row Near_out kind octets e v
 
 no_metric : (row : HelloRow) (k : MetricKind) (octets : List ℕ) → IsAlone row → value_of (column_of k) (hello_line row) ≡ Some octets → ⊥
-no_metric row k octets t v = none_said octets (option_map (metric_octets k) (metric_of k row.metrics)) (ap (λ (x : Metrics). option_map (metric_octets k) (metric_of k x)) t.metrics ∙ nothing k) (sym (metric_value k (hello_line row)) ∙ v)
+no_metric row k octets t v = none_not {o = option_map (metric_octets k) (metric_of k row.metrics)} (ap (λ (x : Metrics). option_map (metric_octets k) (metric_of k x)) t.metrics ∙ nothing k) (sym (metric_value k (hello_line row)) ∙ v)
   where
     nothing : (k : MetricKind) → option_map (metric_octets k) (metric_of k (record { link_in = None; link_out = None; near_in = None; near_out = None })) ≡ None
     nothing Link_in = refl
@@ -130,9 +128,9 @@ no_metric row k octets t v = none_said octets (option_map (metric_octets k) (met
 
 only_local : (row : HelloRow) (kind : ℕ) (octets : List ℕ) (c : AddressTlvKind) → kind ≡ kind_of c → value_of c (hello_line row) ≡ Some octets → IsAlone row → kind ≡ local_if
 only_local row kind octets Local e v t = e
-only_local row kind octets Link e v t = absurd (none_said octets (option_map (λ (n : ℕ). n ∷ []) (option_map link_value row.link)) (ap (λ (o : Option LinkStatus). option_map (λ (n : ℕ). n ∷ []) (option_map link_value o)) t.link) (sym (octet_value (hello_line row).link) ∙ v))
-only_local row kind octets Other e v t = absurd (none_said octets (option_map (λ (n : ℕ). n ∷ []) (option_map other_value row.other)) (ap (λ (o : Option OtherStatus). option_map (λ (n : ℕ). n ∷ []) (option_map other_value o)) t.other) (sym (octet_value (hello_line row).other) ∙ v))
-only_local row kind octets Mpr e v t = absurd (none_said octets (option_map (λ (n : ℕ). n ∷ []) (flags_number row.mpr.flooding row.mpr.routing)) (ap (λ (x : MprFlags). option_map (λ (n : ℕ). n ∷ []) (flags_number x.flooding x.routing)) t.mpr) (sym (octet_value (hello_line row).mpr) ∙ v))
+only_local row kind octets Link e v t = absurd (none_not {o = option_map (λ (n : ℕ). n ∷ []) (option_map link_value row.link)} (ap (λ (o : Option LinkStatus). option_map (λ (n : ℕ). n ∷ []) (option_map link_value o)) t.link) (sym (octet_value (hello_line row).link) ∙ v))
+only_local row kind octets Other e v t = absurd (none_not {o = option_map (λ (n : ℕ). n ∷ []) (option_map other_value row.other)} (ap (λ (o : Option OtherStatus). option_map (λ (n : ℕ). n ∷ []) (option_map other_value o)) t.other) (sym (octet_value (hello_line row).other) ∙ v))
+only_local row kind octets Mpr e v t = absurd (none_not {o = option_map (λ (n : ℕ). n ∷ []) (flags_number row.mpr.flooding row.mpr.routing)} (ap (λ (x : MprFlags). option_map (λ (n : ℕ). n ∷ []) (flags_number x.flooding x.routing)) t.mpr) (sym (octet_value (hello_line row).mpr) ∙ v))
 only_local row kind octets AddrType e v t = cc
 only_local row kind octets Gateway e v t = cc
 only_local row kind octets LinkIn e v t = absurd (no_metric row Link_in octets t v)
@@ -245,7 +243,7 @@ module _ (hello : Hello) (values : List ℕ) (m : MessageFields) (h : IsHelloMes
   no_local : (row : HelloRow) → Contains hello.rows row → row.local ≡ None → HasType m row.addr local_if → ⊥
   no_local row there e (octets, s) =
       let v = said_of hello_line hello.rows m h.blocks up row there Local refl local_if refl octets s in
-      none_said octets (option_map (λ (n : ℕ). n ∷ []) (option_map local_value row.local)) (ap (λ (o : Option LocalIf). option_map (λ (n : ℕ). n ∷ []) (option_map local_value o)) e) (sym (octet_value (hello_line row).local) ∙ v)
+      none_not {o = option_map (λ (n : ℕ). n ∷ []) (option_map local_value row.local)} (ap (λ (o : Option LocalIf). option_map (λ (n : ℕ). n ∷ []) (option_map local_value o)) e) (sym (octet_value (hello_line row).local) ∙ v)
 
   part_read : (net : NetAddr) (part : TlvFields) → HasPart m net part → IsReadOfHelloAddress m net part
   part_read net part p =

@@ -19,6 +19,7 @@ use Rattle.mesh_atoms.specs.declared.hello.Hello.{Hello}
 use Rattle.mesh_atoms.specs.declared.codes.metric.Metric.{Metric}
 use Rattle.mesh_atoms.specs.Writable.{IsAlone}
 use Rattle.mesh_atoms.proofs.Equal.{same_willing}
+use Rattle.mesh_atoms.proofs.Options.{same_answer}
 use Rattle.mesh_wire.specs.Hello.{local_value, link_value, other_value, HasWilling, WillingIs, TellsOther, IsReadHelloRow, HelloIs}
 use Rattle.mesh_wire.specs.HelloRules.{BreaksHello, TwoValues, WrongMetric}
 use Rattle.mesh_wire.specs.Kinds.{local_if, link_status, other_neighb, IsStatusBelow}
@@ -26,7 +27,7 @@ use Rattle.mesh_packet.specs.Fields.{MessageFields}
 use Rattle.mesh_wire.specs.Metrics.{Link_in, Link_out, Near_in, Near_out, HasTwoMetrics}
 use Rattle.mesh_wire.specs.Rows.{HasTwoValues}
 use Rattle.mesh_wire.specs.Rules.{Keeps}
-use Rattle.mesh_wire.proofs.Single.{one_time, one_interval, one_originator, one_octet, one_metric, one_flag, told_by, one_rows}
+use Rattle.mesh_wire.proofs.Single.{one_time, one_interval, one_originator, one_octet, one_metric, told_by, one_rows}
 
 -- ---- enumerations by their values
 
@@ -115,7 +116,7 @@ module _ (message : MessageFields) (keeps : Keeps (BreaksHello message)) where
         (one_metric message r.addr Link_out _ _ (not_two_metrics r.addr) h.link_out g.link_out)
         (one_metric message r.addr Near_in _ _ (not_two_metrics r.addr) h.near_in g.near_in)
         (one_metric message r.addr Near_out _ _ (not_two_metrics r.addr) h.near_out g.near_out);
-    mpr = same_mpr r.mpr p (one_flag r.mpr.flooding p.flooding _ h.flooding g.flooding) (one_flag r.mpr.routing p.routing _ h.routing g.routing);
+    mpr = same_mpr r.mpr p (same_answer r.mpr.flooding p.flooding h.flooding g.flooding) (same_answer r.mpr.routing p.routing h.routing g.routing);
   }
 
   senders_alike : (r s : HelloRow) → IsAlone r → IsAlone s → Alike r s

@@ -17,8 +17,8 @@ use Rattle.mesh_wire.specs.Rules.{Keeps}
 use Rattle.mesh_wire.specs.Tc.{ContentIs, IsReadTcRow, TcIs}
 use Rattle.mesh_wire.specs.TcRules.{BreaksTc, TwoGateways, WrongMetric}
 use Rattle.mesh_wire.specs.Times.{distance_of}
-use Rattle.mesh_wire.proofs.Single.{one_time, one_interval, one_originator, one_octet, one_metric, one_flag, one_rows}
-use Rattle.mesh_atoms.proofs.Options.{same_some}
+use Rattle.mesh_wire.proofs.Single.{one_time, one_interval, one_originator, one_octet, one_metric, one_rows}
+use Rattle.mesh_atoms.proofs.Options.{same_some, same_answer}
 
 -- ---- rows
 
@@ -28,8 +28,8 @@ row_of d o r g m = record { dest = d; origin = o; routable = r; gateway = g; met
 module _ (message : MessageFields) (keeps : Keeps (BreaksTc message)) where
   told_here : (r : TcRow) (o q : Bool) (g : Option ℕ) (m : Option Metric) → IsReadTcRow message r → IsReadTcRow message (row_of r.dest o q g m) → r ≡ row_of r.dest o q g m
   told_here r o q g m h k =
-      ap (λ (x : Bool). row_of r.dest x r.routable r.gateway r.metric) (one_flag r.origin o _ h.origin k.origin)
-      ∙ ap (λ (x : Bool). row_of r.dest o x r.gateway r.metric) (one_flag r.routable q _ h.routable k.routable)
+      ap (λ (x : Bool). row_of r.dest x r.routable r.gateway r.metric) (same_answer r.origin o h.origin k.origin)
+      ∙ ap (λ (x : Bool). row_of r.dest o x r.gateway r.metric) (same_answer r.routable q h.routable k.routable)
       ∙ ap (λ (x : Option ℕ). row_of r.dest o q x r.metric) (one_octet message r.dest gateway r.gateway g (λ values. keeps 38 (Some r.dest) (TwoGateways r.dest values)) h.gateway_is k.gateway_is)
       ∙ ap (λ (x : Option Metric). row_of r.dest o q g x) (one_metric message r.dest Near_out r.metric m (λ metrics. keeps 39 (Some r.dest) (WrongMetric r.dest (inr metrics))) h.metric k.metric)
 

@@ -1,18 +1,18 @@
 -- The lines of rows in ascending order: one for each address.
 use Rattle.std.proofs.Common.{◌≡◌, ℕ, ◌<◌, inl, inr, List, [], ◌∷◌, map, refl, sym, ap, ◌∙◌}
-use Rattle.std.specs.Prelude.{Contains, AllPairs, Option, Some, None, IsSome, Result, Ok}
+use Rattle.std.specs.Prelude.{Contains, AllPairs, Option, Some, None, IsSome}
 use Rattle.std.specs.Option.{option_map}
 use Rattle.mesh_atoms.specs.declared.addr.NetAddr.{NetAddr}
 use Rattle.mesh_atoms.specs.Nodes.{IsBefore}
 use Rattle.mesh_packet.specs.Fields.{MessageFields, PacketFields}
 use Rattle.mesh_packet.specs.declared.packet.Span.{Span}
 use Rattle.mesh_packet.specs.Grammar.{Spells}
-use Rattle.mesh_packet.specs.Reading.{packet_of}
 use Rattle.mesh_packet.proofs.Packets.{packet_again}
 use Rattle.mesh_wire.specs.declared.lines.AddressRecord.{AddressRecord}
 use Rattle.mesh_wire.specs.Writes.{IsSoleMessage, alone}
 use Rattle.mesh_atoms.proofs.Lists.{contains_map_cases as unmapped, contains_cases, contains_none as none_in, all_pairs_tail, all_pairs_head}
 use Rattle.mesh_atoms.proofs.Values.{not_before_itself}
+use Rattle.mesh_atoms.proofs.Options.{some_equal, same_ok}
 
 module _ {Row : Type 0} (addr_of : Row → NetAddr) where
   -- an ascending list has one row of an address
@@ -41,15 +41,9 @@ one_line addr_of f rows of up a b has_a has_b e =
 -- an octet that is said is that of a value
 pub of_value : {X : Type 0} (f : X → ℕ) (bound : ℕ) → ((x : X) → f x < bound) → (o : Option X) (octets : List ℕ) → option_map (λ (n : ℕ). n ∷ []) (option_map f o) ≡ Some octets → (n : ℕ) × (octets ≡ n ∷ []) × (n < bound) × IsSome o
 of_value f bound below None octets e = cc
-of_value f bound below (Some x) octets e = (f x, sym (some_same (f x ∷ []) octets e), below x, refl)
-  where
-    some_same : (a b : List ℕ) → Some a ≡ Some b → a ≡ b
-    some_same a b e = cc
-
-ok_same : {A E : Type 0} (x y : A) (r : Result A E) → r ≡ Ok x → r ≡ Ok y → x ≡ y
-ok_same x y r e f = cc
+of_value f bound below (Some x) octets e = (f x, sym (some_equal (f x ∷ []) octets e), below x, refl)
 
 -- what the octets of a message alone spell has that message alone
 pub alone_again : (m : MessageFields) (bytes : List ℕ) → IsSoleMessage m bytes → (packet : PacketFields) (spans : List Span) → Spells packet spans bytes → packet.messages ≡ m ∷ []
 alone_again m bytes is packet spans spelled =
-    ap (λ (x : PacketFields × List Span). x.0.messages) (ok_same (packet, spans) (alone m, is.span ∷ []) (packet_of bytes) (packet_again bytes packet spans spelled) (packet_again bytes (alone m) (is.span ∷ []) is.spelled))
+    ap (λ (x : PacketFields × List Span). x.0.messages) (same_ok {a = (packet, spans)} {b = (alone m, is.span ∷ [])} (packet_again bytes packet spans spelled) (packet_again bytes (alone m) (is.span ∷ []) is.spelled))

@@ -19,6 +19,7 @@ use Rattle.mesh_wire.proofs.Laid.{said, stands, standing_line}
 use Rattle.mesh_wire.proofs.LinesSay.{says_only, octet_is, flags_are, metric_of, metric_is, two_octets, shown}
 use Rattle.mesh_wire.proofs.RowLines.{one_line}
 use Rattle.mesh_atoms.proofs.Lists.{contains_map as mapped, contains_map_cases as unmapped}
+use Rattle.mesh_atoms.proofs.Options.{same_some}
 
 module _ {Row : Type 0} (line_of : Row → AddressRecord) (rows : List Row) (m : MessageFields) (are : AreBlocks (map line_of rows) m.blocks) (up : AllPairs (λ (a b : Row). IsBefore (line_of a).net (line_of b).net) rows) where
   unique : (a b : AddressRecord) → Contains (map line_of rows) a → Contains (map line_of rows) b → a.net ≡ b.net → a ≡ b
@@ -59,14 +60,11 @@ module _ {Row : Type 0} (line_of : Row → AddressRecord) (rows : List Row) (m :
       let (row, there, of) = row_there net kind octets s in
       (row, there, of, said_of row there c narrow kind k octets (at_row row net of kind octets s))
 
-  same_value : (x y : List ℕ) (o : Option (List ℕ)) → o ≡ Some x → o ≡ Some y → x ≡ y
-  same_value x y o e f = cc
-
   -- it is one
   pub not_two : (c : AddressTlvKind) → is_wide c ≡ false → (net : NetAddr) (kind : ℕ) → kind ≡ kind_of c → HasTwoValues m net kind → ⊥
   not_two c narrow net kind k (x, y, s, t, other) =
       let (row, there, of, v) = row_of c narrow net kind k x s in
-      other (same_value x y (value_of c (line_of row)) v (said_of row there c narrow kind k y (at_row row net of kind y t)))
+      other (same_some v (said_of row there c narrow kind k y (at_row row net of kind y t)))
 
   code_same : (x y : Metric) (o : Option Metric) → o ≡ Some x → o ≡ Some y → x.code ≡ y.code
   code_same x y o e f = let same : x ≡ y = cc in ap (λ (n : Metric). n.code) same

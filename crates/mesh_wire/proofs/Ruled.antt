@@ -9,6 +9,7 @@ use Rattle.mesh_wire.specs.RowRules.{sooner, first_rule}
 use Rattle.mesh_wire.specs.Rules.{FirstBroken, IsLow, Keeps}
 use Rattle.mesh_atoms.proofs.Values.{at_most_itself, at_most_of_before}
 use Rattle.mesh_atoms.proofs.Lists.{contains_head as at_head, contains_tail as in_tail, contains_cases, contains_none as none_in, all_pairs_tail, all_pairs_head}
+use Rattle.mesh_atoms.proofs.Options.{some_equal}
 
 abbrev pub AreOrdered : List AddressParts → Type 0
 AreOrdered rows = AllPairs (λ (a b : AddressParts). IsBefore a.net b.net) rows
@@ -39,9 +40,6 @@ module _ (rule : AddressParts → Option ℕ) where
     least = λ u has e. elim (contains_cases t rows u has) [ inl g ↦ absurd (omega (arith, above m (ap rule g ∙ e))) | inr later ↦ f.least u later e ];
   }
 
-  same_number : (a b : ℕ) → Some a ≡ Some b → a ≡ b
-  same_number a b e = cc
-
   -- a row in front is the first
   begun : (t : AddressParts) (rows : List AddressParts) (k : ℕ) → AreOrdered (t ∷ rows) → rule t ≡ Some k → ((u : AddressParts) (j : ℕ) → Contains rows u → rule u ≡ Some j → k ≤ j) → IsFirst (t ∷ rows) k t.net
   begun t rows k up e all = record {
@@ -49,7 +47,7 @@ module _ (rule : AddressParts → Option ℕ) where
     there = at_head t rows;
     is = refl;
     broken = e;
-    first = λ u j has f. elim (contains_cases t rows u has) [ inl g ↦ omega (arith, same_number k j (sym e ∙ ap rule g ∙ f)) | inr later ↦ all u j later f ];
+    first = λ u j has f. elim (contains_cases t rows u has) [ inl g ↦ omega (arith, some_equal k j (sym e ∙ ap rule g ∙ f)) | inr later ↦ all u j later f ];
     least = λ u has f. elim (contains_cases t rows u has) [
       | inl g ↦ at_most_itself t.net u.net (ap (λ (x : AddressParts). x.net) g)
       | inr later ↦ at_most_of_before t.net u.net (all_pairs_head (λ (a b : AddressParts). IsBefore a.net b.net) t rows up u later)
@@ -78,14 +76,14 @@ module _ (rule : AddressParts → Option ℕ) where
             let less = ltb-true j n y in
             elim (rest j t.net) [
               | inl (is, all) ↦ inr (j, t.net, less, to ∙ is, begun t rows j up e all)
-              | inr (m, b, lt, is, f) ↦ inr (m, b, omega (arith, lt, less), to ∙ is, extended t rows m b (λ k g. omega (arith, lt, same_number j k (sym e ∙ g))) f)
+              | inr (m, b, lt, is, f) ↦ inr (m, b, omega (arith, lt, less), to ∙ is, extended t rows m b (λ k g. omega (arith, lt, some_equal j k (sym e ∙ g))) f)
             ]
         | inr above ↦
             let to : first_rule rule (Some (n, a)) (t ∷ rows) ≡ first_rule rule (Some (n, a)) rows = path ∙ ap (λ (c : Bool). first_rule rule (cond c (Some (j, t.net)) (Some (n, a))) rows) above in
             let le : n ≤ j = at_least j n above in
             elim (rest n a) [
-              | inl (is, all) ↦ inl (to ∙ is, λ u k has f. elim (contains_cases t rows u has) [ inl g ↦ omega (arith, le, same_number j k (sym e ∙ ap rule g ∙ f)) | inr later ↦ all u k later f ])
-              | inr (m, b, lt, is, f) ↦ inr (m, b, lt, to ∙ is, extended t rows m b (λ k g. omega (arith, lt, le, same_number j k (sym e ∙ g))) f)
+              | inl (is, all) ↦ inl (to ∙ is, λ u k has f. elim (contains_cases t rows u has) [ inl g ↦ omega (arith, le, some_equal j k (sym e ∙ ap rule g ∙ f)) | inr later ↦ all u k later f ])
+              | inr (m, b, lt, is, f) ↦ inr (m, b, lt, to ∙ is, extended t rows m b (λ k g. omega (arith, lt, le, some_equal j k (sym e ∙ g))) f)
             ]
       ]
     where
@@ -104,7 +102,7 @@ module _ (rule : AddressParts → Option ℕ) where
       more (Some (m, b)) h = extended t rows m b (λ k g. let no : None ≡ Some k = sym e ∙ g in absurd (cc)) h
   from_head t rows (Some k) up e rest = elim (after rows (all_pairs_tail (λ (a b : AddressParts). IsBefore a.net b.net) t rows up) k t.net) [
     | inl (is, all) ↦ subst (λ (r : Option (ℕ × NetAddr)). FirstIs (t ∷ rows) r) (sym is) (begun t rows k up e all)
-    | inr (m, b, lt, is, f) ↦ subst (λ (r : Option (ℕ × NetAddr)). FirstIs (t ∷ rows) r) (sym is) (extended t rows m b (λ j g. omega (arith, lt, same_number k j (sym e ∙ g))) f)
+    | inr (m, b, lt, is, f) ↦ subst (λ (r : Option (ℕ × NetAddr)). FirstIs (t ∷ rows) r) (sym is) (extended t rows m b (λ j g. omega (arith, lt, some_equal k j (sym e ∙ g))) f)
   ]
 
   pub first_is : (rows : List AddressParts) → AreOrdered rows → FirstIs rows (first_rule rule None rows)

@@ -1,6 +1,6 @@
 -- What a message that keeps its rules says is said once.
-use Rattle.std.proofs.Common.{◌≡◌, ℕ, ◌≤◌, inl, inr, List, [], ◌∷◌, Bool, true, false, refl, sym, ap, subst, ◌∙◌, arith}
-use Rattle.std.specs.Prelude.{◌↔◌, Contains, Option, Some, None, IsTrue}
+use Rattle.std.proofs.Common.{◌≡◌, ℕ, ◌≤◌, inl, inr, List, [], ◌∷◌, refl, sym, ap, subst, ◌∙◌, arith}
+use Rattle.std.specs.Prelude.{Contains, Option, Some, None}
 use Rattle.std.specs.Option.{option_map}
 use Rattle.std.proofs.lemmas.Bool.{cases_eq}
 use Rattle.mesh_atoms.specs.declared.addr.Addr4.{Addr4}
@@ -58,12 +58,6 @@ one_metric message net kind (Some a) (Some b) not_two h k = elim (cases_eq a.cod
   | inl e ↦ ap Some (same_metric a b e)
   | inr other ↦ absurd (not_two (kind, a.code, b.code, h, k, other))
 ]
-
-pub one_flag : (a b : Bool) (P : Type 0) → (IsTrue a ↔ P) → (IsTrue b ↔ P) → a ≡ b
-one_flag true true P h k = refl
-one_flag false false P h k = refl
-one_flag true false P h k = sym (k.1 (h.0 refl))
-one_flag false true P h k = h.1 (k.0 refl)
 
 -- an enumeration is told by its values
 pub told_by : {X : Type 0} (f : X → ℕ) (g : ℕ → X) → ((x : X) → g (f x) ≡ x) → (a b : Option X) → option_map f a ≡ option_map f b → a ≡ b

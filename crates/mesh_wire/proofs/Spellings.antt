@@ -237,10 +237,7 @@ wordy_writes = record {
 
 -- what is told of the message of a HELLO is told of the one that is spelled
 same_message : (m : MessageFields) (hello : Hello) (bytes : List ℕ) (spans : List Span) → Spells (alone m) spans bytes → (w : WritesHello hello bytes) → m ≡ w.message
-same_message m hello bytes spans spelled w = first_of m w.message (alone_again w.message bytes w.packet (alone m) spans spelled)
-  where
-    first_of : (a b : MessageFields) → a ∷ [] ≡ b ∷ [] → a ≡ b
-    first_of a b e = cc
+same_message m hello bytes spans spelled w = heads_equal m w.message [] [] (alone_again w.message bytes w.packet (alone m) spans spelled)
 
 -- the blocks of the message that is too long are these octets
 blocks_there : (text : List ℕ) (is : SpellsMessage lone text) → text ≡ message_with 39 long_block → is.body_is.blocks ≡ long_block ++ wordy_local
@@ -334,15 +331,12 @@ unknown_part_never hello bytes spans spelled w = elim (beside_read 200 [] hello 
   | inr (inr (inr (inr h))) ↦ absurd (omega (arith, h.0))
 ]
 
-one_octet : (a b : ℕ) → a ∷ [] ≡ b ∷ [] → a ≡ b
-one_octet a b e = cc
-
 pub relay_never : IsSentForNone (with_near 8 (4 ∷ []))
 relay_never hello bytes spans spelled w = elim (beside_read 8 (4 ∷ []) hello bytes spans spelled w) [
   | inl h ↦ absurd (omega (arith, h))
   | inr (inl h) ↦ absurd (omega (arith, h))
   | inr (inr (inl h)) ↦ absurd (omega (arith, h))
-  | inr (inr (inr (inl h))) ↦ (let (octet, is, low, high) = h.1 in absurd (omega (arith, one_octet 4 octet is, high)))
+  | inr (inr (inr (inl h))) ↦ (let (octet, is, low, high) = h.1 in absurd (omega (arith, heads_equal 4 octet [] [] is, high)))
   | inr (inr (inr (inr h))) ↦ absurd (omega (arith, h.0))
 ]
 
@@ -369,7 +363,7 @@ pub status_never : IsSentForNone (with_near 3 (7 ∷ []))
 status_never hello bytes spans spelled w =
     let m = with_near 3 (7 ∷ []) in
     let keeps : Keeps (BreaksHello m) = subst (λ (n : MessageFields). Keeps (BreaksHello n)) (sym (same_message m hello bytes spans spelled w)) w.keeps in
-    keeps _ _ (Undefined near_net link_status 3 (inr (inl (refl, refl))) (7 ∷ [], beside_said 3 (7 ∷ []), λ octet. (let e = one_octet 7 octet.0 octet.1 in let high = octet.3 in omega (arith, e, high))))
+    keeps _ _ (Undefined near_net link_status 3 (inr (inl (refl, refl))) (7 ∷ [], beside_said 3 (7 ∷ []), λ octet. (let e = heads_equal 7 octet.0 [] [] octet.1 in let high = octet.3 in omega (arith, e, high))))
 
 -- ---- what is said of the sender's own address
 

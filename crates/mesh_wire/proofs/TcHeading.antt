@@ -95,9 +95,6 @@ pub an_originator : (o : Option RawAddr) (a : Addr4) → OriginatorIs o (Some a)
 an_originator None a h e = h
 an_originator (Some b) a h e = cc
 
-pub a_sequence : (o : Option ℕ) (n : ℕ) → o ≡ Some n → o ≡ None → ⊥
-a_sequence o n e f = cc
-
 -- ---- the content
 
 two_octets : (x : List ℕ) → length x ≡ 2 → x ≡ slice_index x 0 ∷ slice_index x 1 ∷ []

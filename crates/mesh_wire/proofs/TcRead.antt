@@ -3,6 +3,7 @@ use Rattle.std.proofs.Common.{ℕ, List}
 use Rattle.std.specs.Prelude.{Option}
 use Rattle.mesh_atoms.specs.declared.addr.NetAddr.{NetAddr}
 use Rattle.mesh_atoms.specs.declared.tc.TcRow.{TcRow}
+use Rattle.mesh_atoms.proofs.Options.{none_not}
 use Rattle.mesh_packet.specs.Fields.{MessageFields}
 use Rattle.mesh_wire.specs.declared.tc.TcHeader.{TcHeader}
 use Rattle.mesh_wire.specs.Entries.{of_blocks}
@@ -15,14 +16,14 @@ use Rattle.mesh_wire.specs.TcHeading.{TcHeadingIs, TcRowFrom}
 use Rattle.mesh_wire.specs.TcRules.{BreaksTc}
 use Rattle.mesh_wire.proofs.InOrder.{NoneBelow, rule_broken, none_broken}
 use Rattle.mesh_wire.proofs.Kept.{are_told}
-use Rattle.mesh_wire.proofs.TcHeading.{past_header, past_validity, past_interval, past_content, an_originator, a_sequence}
+use Rattle.mesh_wire.proofs.TcHeading.{past_header, past_validity, past_interval, past_content, an_originator}
 use Rattle.mesh_wire.proofs.TcRows.{rows_are}
 use Rattle.mesh_wire.proofs.TcRuled.{sound_of, tc_decides}
 
 -- a message whose heading is read breaks no rule on it
 up_of : (m : MessageFields) (heading : TcHeader) → TcHeadingIs m heading → NoneBelow (BreaksTc m) 37
 up_of m heading h =
-    let header = past_header m h.width (an_originator m.originator heading.originator h.originator) (a_sequence m.sequence heading.sequence h.sequence) in
+    let header = past_header m h.width (an_originator m.originator heading.originator h.originator) (λ none. none_not none h.sequence) in
     past_content m (past_interval m (past_validity m header heading.validity h.validity) heading.interval h.interval) heading.ansn heading.complete h.content
 
 module _ (m : MessageFields) (heading : TcHeader) (h : TcHeadingIs m heading) where

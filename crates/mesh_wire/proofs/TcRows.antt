@@ -5,6 +5,7 @@ use Rattle.std.specs.Option.{option_map}
 use Rattle.std.proofs.lemmas.Bool.{cases_eq}
 use Rattle.mesh_atoms.specs.declared.addr.NetAddr.{NetAddr}
 use Rattle.mesh_atoms.specs.declared.tc.TcRow.{TcRow}
+use Rattle.mesh_atoms.proofs.Lists.{single_of}
 use Rattle.mesh_packet.specs.Fields.{MessageFields}
 use Rattle.mesh_wire.specs.declared.collect.AddressParts.{AddressParts}
 use Rattle.mesh_wire.specs.declared.parts.SingleNumber.{SingleNumber}
@@ -23,11 +24,6 @@ use Rattle.mesh_wire.proofs.Made.{made_from, made_of, ascending_made}
 use Rattle.mesh_wire.proofs.Slots.{OneIs, Octet, RowIs}
 
 -- ---- one row
-
-pub single_of : (x : List ℕ) → length x ≡ 1 → (n : ℕ) × (x ≡ n ∷ [])
-single_of [] e = absurd (omega (arith, e))
-single_of (n ∷ []) e = (n, refl)
-single_of (a ∷ b ∷ rest) e = absurd (omega (arith, e))
 
 of_256 : (n octet : ℕ) → n ≡ 256 * octet → n / 256 ≡ octet
 of_256 n octet e = omega (arith, e)

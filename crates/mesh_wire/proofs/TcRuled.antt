@@ -3,6 +3,7 @@ use Rattle.std.proofs.Common.{◌≡◌, ℕ, ◌*◌, ◌<◌, ◌≤◌, ◌�
 use Rattle.std.specs.Prelude.{◌||◌, ◌&&◌, Option, Some, None, nat_lt}
 use Rattle.std.proofs.lemmas.Bool.{cases_Bool, ltb-true, lt-ltb, and_parts as both, or_parts, or_cases, or_left, or_right, and_from as and_both}
 use Rattle.mesh_atoms.specs.declared.addr.NetAddr.{NetAddr}
+use Rattle.mesh_atoms.proofs.Lists.{single_of}
 use Rattle.mesh_packet.specs.Fields.{MessageFields}
 use Rattle.mesh_wire.specs.declared.collect.AddressParts.{AddressParts}
 use Rattle.mesh_wire.specs.declared.parts.RowParts.{RowParts}
@@ -15,7 +16,7 @@ use Rattle.mesh_wire.proofs.HelloRuled.{wrong_metric, metric_wrong, wrong_metric
 use Rattle.mesh_wire.proofs.Kept.{AreTold, told_of, says_has, right_octet, in_range, differ_several, several_differ, one_said, said_one}
 use Rattle.mesh_wire.proofs.Ruled.{Decides, Reaches}
 use Rattle.mesh_wire.proofs.Slots.{InRange, Octet, RowIs, same_octet as head_of}
-use Rattle.mesh_wire.proofs.TcRows.{IsSound, right_length, single_of}
+use Rattle.mesh_wire.proofs.TcRows.{IsSound, right_length}
 
 -- ---- the type of an address
 

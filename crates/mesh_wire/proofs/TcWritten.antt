@@ -32,13 +32,14 @@ use Rattle.mesh_wire.specs.Times.{distance_of, ValidityIs}
 use Rattle.mesh_wire.specs.Writes.{IsSoleMessage, HasFlag, IsReadOfTcAddress, WritesTc, WritesLeastTc, alone, ReadsBackTc}
 use Rattle.mesh_wire.proofs.Fits.{message_fits, HasFewParts, fits_alone}
 use Rattle.mesh_wire.proofs.Headings.{validity_told, interval_is, interval_told, content_is, read_of_tc}
-use Rattle.mesh_wire.proofs.HelloWritten.{bit_most, originator_is, none_said, flags_octet, metric_flagged}
+use Rattle.mesh_wire.proofs.HelloWritten.{bit_most, originator_is, flags_octet, metric_flagged}
 use Rattle.mesh_wire.proofs.LinesSay.{octet_value, metric_value}
 use Rattle.mesh_wire.proofs.OneTc.{one_tc}
 use Rattle.mesh_wire.proofs.RowLines.{alone_again}
 use Rattle.mesh_wire.proofs.Further.{further}
 use Rattle.mesh_wire.proofs.RowsSay.{row_stands, row_at, part_there, said_of, row_of, not_two, right_metric, octet_said, flags_said, metric_said}
 use Rattle.mesh_atoms.proofs.Lists.{contains_map_cases as unmapped}
+use Rattle.mesh_atoms.proofs.Options.{none_not}
 
 few_of : (row : TcRow) → HasFewParts (tc_line row)
 few_of row = let l = tc_line row in omega (arith, bit_most (has_part AddrType l), bit_most (has_part Gateway l), bit_most (has_part NearOut l))
@@ -150,7 +151,7 @@ module _ (tc : Tc) (hop_limit : ℕ) (validity values : List ℕ) (m : MessageFi
   keeps n a (Beside net (octets, s) (x, t)) =
       let (row, there, of, v) = gateway_of net octets s in
       let none = no_gateway row there x (subst (λ (p : NetAddr). HasValue m p nbr_addr_type x) (sym of) t) in
-      none_said octets (option_map (λ (n : ℕ). n ∷ []) row.gateway) (ap (option_map (λ (n : ℕ). n ∷ [])) none) v
+      none_not {o = option_map (λ (n : ℕ). n ∷ []) row.gateway} (ap (option_map (λ (n : ℕ). n ∷ [])) none) v
   keeps n a (WrongMetric net wrong) = right_metric tc_line tc.rows m h.blocks up net wrong
 
   -- ---- the whole

@@ -1,5 +1,6 @@
+use Rattle.std.proofs.lemmas.Result.{on_err_weaker}
 use Rattle.mesh_addr.specs.Least.{Grew}
-use Rattle.mesh_addr.proofs.Outcomes.{on_err, grew_on}
+use Rattle.mesh_addr.proofs.Outcomes.{grew_on}
 use Rattle.mesh_addr.proofs.writer.write_spelling.Goals as goal
 
 pub returns-clause-err : goal.returns-clause-err
@@ -10,4 +11,4 @@ returns-clause-err c =
     let head : Grew old c.write_head.new.out = grew_on old c.push-2.new.self c.write_head.new.out two (_, c.in_ok-write_head.ensures.ok) in
     let tail : Grew old c.write_tail.new.out = grew_on old c.write_head.new.out c.write_tail.new.out head (_, c.in_ok-write_tail.ensures.ok) in
     let mids : Grew old c.write_mids.new.out = grew_on old c.write_tail.new.out c.write_mids.new.out tail (_, c.in_ok-write_mids.ensures.ok) in
-    on_err c.write_prefixes.result (Grew c.write_mids.new.out c.write_prefixes.new.out) (Grew old c.write_prefixes.new.out) (grew_on old c.write_mids.new.out c.write_prefixes.new.out mids) c.write_prefixes.ensures.err
+    on_err_weaker {P = Grew c.write_mids.new.out c.write_prefixes.new.out} {Q = Grew old c.write_prefixes.new.out} c.write_prefixes.result (grew_on old c.write_mids.new.out c.write_prefixes.new.out mids) c.write_prefixes.ensures.err

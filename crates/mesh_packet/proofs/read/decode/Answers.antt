@@ -1,5 +1,5 @@
 use Rattle.std.proofs.Common.{arith}
-use Rattle.mesh_addr.proofs.Writable.{if_ok}
+use Rattle.std.proofs.lemmas.Result.{IfOk-weaker}
 use Rattle.mesh_atoms.proofs.Given.{given, given_so}
 use Rattle.mesh_packet.specs.Fields.{fields_of_packet, fields_of_decoded}
 use Rattle.mesh_packet.specs.Least.{IsEncodable}
@@ -11,7 +11,7 @@ use Rattle.mesh_packet.proofs.read.decode.Goals as goal
 
 pub returns-clause-placed : goal.returns-clause-placed
 returns-clause-placed c =
-    if_ok c.whole.result _ (λ decoded. ArePlaced (fields_of_packet decoded.packet).messages decoded.spans c.args.frame.now)
+    IfOk-weaker c.whole.result _ (λ decoded. ArePlaced (fields_of_packet decoded.packet).messages decoded.spans c.args.frame.now)
     (λ decoded h. spells_placed (fields_of_packet decoded.packet) decoded.spans c.args.frame.now h)
     (given fields_of_decoded (IsSpelled c.args.frame.now) (IsFault c.args.frame.now) c.whole.result _ c.whole.ensures (packet_takes c.args.frame.now)).0
 
@@ -29,6 +29,6 @@ returns-clause-first c = λ place reason h. given_so fields_of_decoded c.whole.r
 
 pub returns-clause-encodable : goal.returns-clause-encodable
 returns-clause-encodable c =
-    if_ok c.whole.result _ (λ decoded. IsEncodable (fields_of_packet decoded.packet))
+    IfOk-weaker c.whole.result _ (λ decoded. IsEncodable (fields_of_packet decoded.packet))
     (λ decoded h. packet_encodable c.args.frame.now (fields_of_packet decoded.packet) decoded.spans (λ i. omega (arith, c.type_inv.frame i)) h)
     (given fields_of_decoded (IsSpelled c.args.frame.now) (IsFault c.args.frame.now) c.whole.result _ c.whole.ensures (packet_takes c.args.frame.now)).0

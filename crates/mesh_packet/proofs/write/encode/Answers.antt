@@ -1,5 +1,5 @@
 use Rattle.std.proofs.Common.{List, length, ap, arith}
-use Rattle.mesh_addr.proofs.Writable.{if_ok}
+use Rattle.std.proofs.lemmas.Result.{IfOk-weaker}
 use Rattle.mesh_packet.specs.declared.packet.Span.{Span}
 use Rattle.mesh_packet.specs.Fields.{fields_of_packet}
 use Rattle.mesh_packet.specs.Grammar.{Spells}
@@ -9,7 +9,7 @@ use Rattle.mesh_packet.proofs.OneForm.{form_once}
 use Rattle.mesh_packet.proofs.write.encode.Goals as goal
 
 pub returns-clause-spelled : goal.returns-clause-spelled
-returns-clause-spelled c = if_ok c.least_form.result _ (λ bytes. (spans : List Span) × Spells (fields_of_packet c.args.packet.now) spans bytes) (λ bytes h. form_spelled (fields_of_packet c.args.packet.now) bytes c.requires h.0) c.least_form.ensures.ok
+returns-clause-spelled c = IfOk-weaker c.least_form.result _ (λ bytes. (spans : List Span) × Spells (fields_of_packet c.args.packet.now) spans bytes) (λ bytes h. form_spelled (fields_of_packet c.args.packet.now) bytes c.requires h.0) c.least_form.ensures.ok
 
 pub returns-clause-too_long : goal.returns-clause-too_long
 returns-clause-too_long c = λ e.
@@ -18,4 +18,4 @@ returns-clause-too_long c = λ e.
 
 pub returns-clause-long : goal.returns-clause-long
 returns-clause-long c = λ long.
-    if_ok c.least_form.result _ (λ bytes. ⊥) (λ bytes h. absurd (omega (arith, h.1, long.2, ap length (form_once (fields_of_packet c.args.packet.now) bytes long.0 h.0 long.1)))) c.least_form.ensures.ok
+    IfOk-weaker c.least_form.result _ (λ bytes. ⊥) (λ bytes h. absurd (omega (arith, h.1, long.2, ap length (form_once (fields_of_packet c.args.packet.now) bytes long.0 h.0 long.1)))) c.least_form.ensures.ok

@@ -1,6 +1,6 @@
+use Rattle.std.proofs.lemmas.Result.{on_ok_weaker}
 use Rattle.mesh_packet.specs.Fields.{fields_of_message}
 use Rattle.mesh_packet.specs.Least.{LeastBody, Wrote}
-use Rattle.mesh_tlv.proofs.Outcomes.{on_ok}
 use Rattle.mesh_packet.proofs.TooLong.{body_tlvs_pass}
 use Rattle.mesh_packet.proofs.Writing.{was_too_long, body_wrote}
 use Rattle.mesh_packet.proofs.write.write_body.Goals as goal
@@ -11,5 +11,5 @@ returns-in_err-write_tlvs-clause-too_long c = λ e.
     body_tlvs_pass (fields_of_message c.args.message.now) (rw c.as_slice.ensures at long)
 
 pub returns-clause-ok : goal.returns-clause-ok
-returns-clause-ok c = on_ok c.write_pairs.result _ (Wrote (LeastBody (fields_of_message c.args.message.now)) c.args.out.now c.write_pairs.new.out) c.write_pairs.ensures.ok
-    (λ h. body_wrote (fields_of_message c.args.message.now) c.args.out.now c.put_head.new.out c.write_tlvs.new.out c.write_pairs.new.out c.in_ok-put_head.ensures (rw c.as_slice.ensures at c.in_ok-write_tlvs.ensures.ok) (rw c.as_slice-2.ensures at h))
+returns-clause-ok c = on_ok_weaker {Q = Wrote (LeastBody (fields_of_message c.args.message.now)) c.args.out.now c.write_pairs.new.out} c.write_pairs.result
+    (λ h. body_wrote (fields_of_message c.args.message.now) c.args.out.now c.put_head.new.out c.write_tlvs.new.out c.write_pairs.new.out c.in_ok-put_head.ensures (rw c.as_slice.ensures at c.in_ok-write_tlvs.ensures.ok) (rw c.as_slice-2.ensures at h)) c.write_pairs.ensures.ok

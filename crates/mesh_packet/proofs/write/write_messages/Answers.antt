@@ -1,7 +1,8 @@
 use Rattle.std.proofs.Common.{arith}
+use Rattle.mesh_atoms.proofs.Lists.{all_read}
 use Rattle.mesh_packet.specs.Fields.{fields_of_message}
 use Rattle.mesh_packet.specs.Least.{IsEncodableMessage, LeastMessage}
-use Rattle.mesh_packet.proofs.Items.{wrote_none, wrote_next, wrote_all, items_pass, all_at}
+use Rattle.mesh_packet.proofs.Items.{wrote_none, wrote_next, wrote_all, items_pass}
 use Rattle.mesh_packet.proofs.OneForm.{message_once}
 use Rattle.mesh_packet.proofs.Writing.{handed_on}
 use Rattle.mesh_packet.proofs.write.write_messages.Goals as goal
@@ -10,7 +11,7 @@ pub loop-message-init : goal.loop-message-init
 loop-message-init c = record { wrote = wrote_none fields_of_message LeastMessage c.args.out.now; room = c.requires.room }
 
 pub write_message-requires-clause-encodable : goal.write_message-requires-clause-encodable
-write_message-requires-clause-encodable c = all_at fields_of_message IsEncodableMessage c.args.messages.now c.loop-message.message-index c.message-item.result c.requires.encodable c.loop-message-test.true c.message-item.is
+write_message-requires-clause-encodable c = all_read fields_of_message IsEncodableMessage c.args.messages.now c.loop-message.message-index c.message-item.result c.requires.encodable c.loop-message-test.true c.message-item.is
 
 pub write_message-requires-clause-room : goal.write_message-requires-clause-room
 write_message-requires-clause-room c = c.loop-message.invariant.room

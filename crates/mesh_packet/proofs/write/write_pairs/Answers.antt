@@ -1,7 +1,8 @@
 use Rattle.std.proofs.Common.{arith, subst, sym, ℕ}
+use Rattle.mesh_atoms.proofs.Lists.{all_read}
 use Rattle.mesh_packet.specs.Fields.{fields_of_block}
 use Rattle.mesh_packet.specs.Least.{IsEncodableBlock, LeastPair}
-use Rattle.mesh_packet.proofs.Items.{wrote_none, wrote_next, wrote_all, item_passes, all_at}
+use Rattle.mesh_packet.proofs.Items.{wrote_none, wrote_next, wrote_all, item_passes}
 use Rattle.mesh_packet.proofs.Writing.{handed_on}
 use Rattle.mesh_packet.proofs.write.write_pairs.Goals as goal
 
@@ -10,7 +11,7 @@ loop-block-init c = record { wrote = wrote_none fields_of_block LeastPair c.args
 
 pub write_pair-requires : goal.write_pair-requires
 write_pair-requires c =
-    let h = all_at fields_of_block (IsEncodableBlock c.args.width) c.args.blocks.now c.loop-block.block-index c.block-item.result c.requires c.loop-block-test.true c.block-item.is in
+    let h = all_read fields_of_block (IsEncodableBlock c.args.width) c.args.blocks.now c.loop-block.block-index c.block-item.result c.requires c.loop-block-test.true c.block-item.is in
     subst (λ (w : ℕ). IsEncodableBlock w (fields_of_block c.block-item.result)) (sym h.width_is) h
 
 pub returns-in_err-write_pair-clause-too_long : goal.returns-in_err-write_pair-clause-too_long

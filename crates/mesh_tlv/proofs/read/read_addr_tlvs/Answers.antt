@@ -1,12 +1,12 @@
 use Rattle.std.proofs.Common.{ℕ, List}
 use Rattle.std.specs.Prelude.{All}
+use Rattle.std.proofs.lemmas.Result.{MatchResult-weaker}
 use Rattle.mesh_tlv.specs.Fields.{AddrTlvFields, addr_block_fields}
 use Rattle.mesh_tlv.specs.Items.{FirstFaultAt}
 use Rattle.mesh_tlv.specs.Reading.{addr_tlv_at, block_at}
 use Rattle.mesh_tlv.specs.Grammar.{SpellsAddrTlv, TlvFault, AddrTlvBlockFault}
 use Rattle.mesh_tlv.specs.Least.{IsFit}
 use Rattle.mesh_tlv.proofs.Fit.{all_fit}
-use Rattle.mesh_tlv.proofs.Items.{meets_weaker}
 use Rattle.mesh_tlv.proofs.Blocks.{BlockTook, block_takes, block_again, block_refuses}
 use Rattle.mesh_atoms.proofs.Given.{given, given_so}
 use Rattle.mesh_tlv.proofs.Tlvs.{addr_tlv_reader}
@@ -35,4 +35,4 @@ returns-clause-fit c =
     let Fit = λ (x : List AddrTlvFields × ℕ). All (IsFit c.args.count) x.0 in
     let Fault = FirstFaultAt (AddrTlvBlockFault c.args.count) frame c.args.at c.args.end in
     let reads = (block_takes (addr_tlv_at c.args.count) (SpellsAddrTlv c.args.count) (TlvFault 0 c.args.count) (addr_tlv_reader c.args.count c.requires.count) frame c.args.at c.args.end c.requires.at c.requires.end) in
-    (given addr_block_fields Fit Fault c.read_block.result _ c.read_block.ensures (meets_weaker (block_at (addr_tlv_at c.args.count) frame c.args.at c.args.end) Spelled Fit Fault Fault reads (λ x (h : Spelled x). all_fit c.args.count x.0 h.2.1 c.requires.count h.2.3) (λ e h. h))).0
+    (given addr_block_fields Fit Fault c.read_block.result _ c.read_block.ensures (MatchResult-weaker (block_at (addr_tlv_at c.args.count) frame c.args.at c.args.end) {P = Spelled} {P' = Fit} {Q = Fault} {Q' = Fault} reads (λ x (h : Spelled x). all_fit c.args.count x.0 h.2.1 c.requires.count h.2.3) (λ e h. h))).0

@@ -1,7 +1,7 @@
 use Rattle.std.proofs.Common.{map, inl, sym}
+use Rattle.std.proofs.lemmas.Result.{on_ok_weaker}
 use Rattle.mesh_tlv.specs.Fields.{fields}
 use Rattle.mesh_tlv.specs.Least.{least_tlv}
-use Rattle.mesh_tlv.proofs.Outcomes.{on_ok}
 use Rattle.mesh_tlv.proofs.Lengths.{tlv_longer, block_longer, written_indexed}
 use Rattle.mesh_tlv.proofs.Spelled.{tlv_block_spelled}
 use Rattle.mesh_tlv.proofs.write.write_tlvs.Goals as goal
@@ -10,7 +10,7 @@ pub returns-clause-ok : goal.returns-clause-ok
 returns-clause-ok c = rw (sym (written_indexed c.args.tlvs.now)) c.write_block.ensures.ok
 
 pub returns-clause-spelled : goal.returns-clause-spelled
-returns-clause-spelled c = on_ok c.write_block.result _ _ c.write_block.ensures.ok (λ h. tlv_block_spelled (map fields c.args.tlvs.now))
+returns-clause-spelled c = on_ok_weaker c.write_block.result (λ h. tlv_block_spelled (map fields c.args.tlvs.now)) c.write_block.ensures.ok
 
 pub returns-clause-too_long : goal.returns-clause-too_long
 returns-clause-too_long c =

@@ -1,7 +1,8 @@
+use Rattle.std.proofs.lemmas.Bool.{iff_false}
 use Rattle.mesh_packet.specs.Fields.{fields_of_message}
 use Rattle.mesh_wire.specs.HelloHeading.{IsOther}
 use Rattle.mesh_wire.specs.HelloRules.{BreaksHello, AddressWidth, HopLimit, HopCount, NoValidity, WrongInterval, WrongWilling}
-use Rattle.mesh_wire.proofs.HelloHeading.{first_number, past_width, past_limit, past_count, past_validity, past_interval, said_no}
+use Rattle.mesh_wire.proofs.HelloHeading.{first_number, past_width, past_limit, past_count, past_validity, past_interval}
 use Rattle.mesh_wire.proofs.InOrder.{first_at}
 use Rattle.mesh_wire.proofs.hello.heading_of.Goals as goal
 
@@ -17,29 +18,29 @@ returns-then-is_other-clause-broken c =
 pub returns-then-is_other-2-clause-broken : goal.returns-then-is_other-2-clause-broken
 returns-then-is_other-2-clause-broken c =
     let m = fields_of_message c.args.message.now in
-    let limit = said_no (IsOther 1 m.limit) c.is_other.result c.is_other.ensures c.if-is_other.false in
+    let limit = iff_false {b = c.is_other.result} {P = IsOther 1 m.limit} c.is_other.ensures c.if-is_other.false in
     let (count, is, other) = c.is_other-2.ensures.0 c.if-is_other-2.true in
     first_at (BreaksHello m) 22 (past_limit m c.if-message-ne4.false limit) (HopCount count is other)
 
 pub returns-in_default-clause-broken : goal.returns-in_default-clause-broken
 returns-in_default-clause-broken c =
     let m = fields_of_message c.args.message.now in
-    let limit = said_no (IsOther 1 m.limit) c.is_other.result c.is_other.ensures c.if-is_other.false in
-    let count = said_no (IsOther 0 m.count) c.is_other-2.result c.is_other-2.ensures c.if-is_other-2.false in
+    let limit = iff_false {b = c.is_other.result} {P = IsOther 1 m.limit} c.is_other.ensures c.if-is_other.false in
+    let count = iff_false {b = c.is_other-2.result} {P = IsOther 0 m.count} c.is_other-2.ensures c.if-is_other-2.false in
     first_at (BreaksHello m) 23 (past_count m c.if-message-ne4.false limit count) (NoValidity c.in_default.ensures.none)
 
 pub returns-in_default-interval-clause-broken : goal.returns-in_default-interval-clause-broken
 returns-in_default-interval-clause-broken c =
     let m = fields_of_message c.args.message.now in
-    let limit = said_no (IsOther 1 m.limit) c.is_other.result c.is_other.ensures c.if-is_other.false in
-    let count = said_no (IsOther 0 m.count) c.is_other-2.result c.is_other-2.ensures c.if-is_other-2.false in
+    let limit = iff_false {b = c.is_other.result} {P = IsOther 1 m.limit} c.is_other.ensures c.if-is_other.false in
+    let count = iff_false {b = c.is_other-2.result} {P = IsOther 0 m.count} c.is_other-2.ensures c.if-is_other-2.false in
     let timed = past_validity m (past_count m c.if-message-ne4.false limit count) c.in-Some.validity c.in-Some.ensures.some in
     first_at (BreaksHello m) 24 timed (WrongInterval c.in_default-interval.ensures.none)
 
 pub returns-in_default-willing-clause-broken : goal.returns-in_default-willing-clause-broken
 returns-in_default-willing-clause-broken c =
     let m = fields_of_message c.args.message.now in
-    let limit = said_no (IsOther 1 m.limit) c.is_other.result c.is_other.ensures c.if-is_other.false in
-    let count = said_no (IsOther 0 m.count) c.is_other-2.result c.is_other-2.ensures c.if-is_other-2.false in
+    let limit = iff_false {b = c.is_other.result} {P = IsOther 1 m.limit} c.is_other.ensures c.if-is_other.false in
+    let count = iff_false {b = c.is_other-2.result} {P = IsOther 0 m.count} c.is_other-2.ensures c.if-is_other-2.false in
     let timed = past_validity m (past_count m c.if-message-ne4.false limit count) c.in-Some.validity c.in-Some.ensures.some in
     first_at (BreaksHello m) 25 (past_interval m timed c.in-Some-interval.interval c.in-Some-interval.ensures.some) (WrongWilling c.in_default-willing.ensures.none)

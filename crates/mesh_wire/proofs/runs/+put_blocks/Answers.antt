@@ -1,6 +1,6 @@
 use Rattle.std.proofs.Common.{map, drop, ◌+◌}
+use Rattle.std.proofs.lemmas.Result.{on_ok_weaker}
 use Rattle.mesh_packet.specs.Fields.{fields_of_block}
-use Rattle.mesh_tlv.proofs.Outcomes.{on_ok}
 use Rattle.mesh_wire.specs.Runs.{Adds, AreBlocks}
 use Rattle.mesh_wire.proofs.RunLaws.{blocks_added}
 use Rattle.mesh_wire.proofs.runs.+put_blocks.Goals as goal
@@ -13,5 +13,5 @@ returns t c =
     let old = map fields_of_block c.args.blocks.now in
     let mid = map fields_of_block c.push.new.self in
     let new = map fields_of_block c.put_blocks.new.blocks in
-    on_ok c.put_blocks.result (Adds (AreBlocks (drop (n + start) lines)) mid new) (Adds (AreBlocks (drop start lines)) old new) c.put_blocks.ensures
-    (blocks_added lines start n c.args.blocks.now c.push.new.self c.put_blocks.new.blocks c.in_ok-block.block c.requires.start c.if-start-lines.false c.min.ensures c.in_ok-block.ensures c.in_ok-push.ensures.ok)
+    on_ok_weaker {P = Adds (AreBlocks (drop (n + start) lines)) mid new} {Q = Adds (AreBlocks (drop start lines)) old new} c.put_blocks.result
+    (blocks_added lines start n c.args.blocks.now c.push.new.self c.put_blocks.new.blocks c.in_ok-block.block c.requires.start c.if-start-lines.false c.min.ensures c.in_ok-block.ensures c.in_ok-push.ensures.ok) c.put_blocks.ensures

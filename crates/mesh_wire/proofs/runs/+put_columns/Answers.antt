@@ -1,7 +1,7 @@
 use Rattle.std.proofs.Common.{map, take, drop, length, ◌-◌}
 use Rattle.std.specs.Prelude.{slice_range}
+use Rattle.std.proofs.lemmas.Result.{on_ok_weaker}
 use Rattle.mesh_tlv.specs.Fields.{addr_fields}
-use Rattle.mesh_tlv.proofs.Outcomes.{on_ok}
 use Rattle.mesh_wire.specs.Runs.{Adds, LaysAll}
 use Rattle.mesh_wire.proofs.RunLaws.{columns_added}
 use Rattle.mesh_wire.proofs.runs.+put_columns.Goals as goal
@@ -13,5 +13,5 @@ returns-in_ok-put_runs-in-len1-up t c =
     let old = map addr_fields c.args.tlvs.now in
     let mid = map addr_fields c.put_runs.new.tlvs in
     let new = map addr_fields c.put_columns.new.tlvs in
-    on_ok c.put_columns.result (Adds (LaysAll (take (length cs - 1) (drop 1 cs)) lines) mid new) (Adds (LaysAll cs lines) old new) c.put_columns.ensures
-    (columns_added cs lines _ old mid new c.in-len1-up.len_at_least c.in_ok-put_runs-in-len1-up.ensures)
+    on_ok_weaker {P = Adds (LaysAll (take (length cs - 1) (drop 1 cs)) lines) mid new} {Q = Adds (LaysAll cs lines) old new} c.put_columns.result
+    (columns_added cs lines _ old mid new c.in-len1-up.len_at_least c.in_ok-put_runs-in-len1-up.ensures) c.put_columns.ensures

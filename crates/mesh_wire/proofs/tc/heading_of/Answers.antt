@@ -1,17 +1,18 @@
 use Rattle.std.proofs.Common.{◌≡◌, ℕ, subst}
 use Rattle.std.specs.Prelude.{Option, Some}
 use Rattle.mesh_atoms.specs.declared.addr.Addr4.{Addr4}
+use Rattle.mesh_atoms.proofs.Options.{none_not}
 use Rattle.mesh_packet.specs.Fields.{MessageFields, fields_of_message}
 use Rattle.mesh_wire.specs.Hello.{OriginatorIs}
 use Rattle.mesh_wire.specs.TcRules.{BreaksTc, AddressWidth, NoOriginator, NoSequence, NoValidity, WrongInterval, Content}
 use Rattle.mesh_wire.specs.Times.{ValidityIs, IntervalIs}
 use Rattle.mesh_wire.proofs.InOrder.{NoneBelow, first_at}
-use Rattle.mesh_wire.proofs.TcHeading.{first_number, past_width, past_header, past_validity, past_interval, no_originator, an_originator, a_sequence}
+use Rattle.mesh_wire.proofs.TcHeading.{first_number, past_width, past_header, past_validity, past_interval, no_originator, an_originator}
 use Rattle.mesh_wire.proofs.tc.heading_of.Goals as goal
 
 -- a message whose header keeps the rules, by its originator and its sequence number
 header : (m : MessageFields) (originator : Addr4) (sequence : ℕ) → m.width ≡ 4 → OriginatorIs m.originator (Some originator) → m.sequence ≡ Some sequence → NoneBelow (BreaksTc m) 34
-header m originator sequence w is at = past_header m w (an_originator m.originator originator is) (a_sequence m.sequence sequence at)
+header m originator sequence w is at = past_header m w (an_originator m.originator originator is) (λ none. none_not none at)
 
 pub returns-then-message-ne4-clause-broken : goal.returns-then-message-ne4-clause-broken
 returns-then-message-ne4-clause-broken c = let m = fields_of_message c.args.message.now in first_at (BreaksTc m) 32 (first_number m) (AddressWidth c.if-message-ne4.true)

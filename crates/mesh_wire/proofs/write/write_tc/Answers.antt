@@ -1,5 +1,5 @@
-use Rattle.mesh_addr.proofs.Writable.{if_ok}
 use Rattle.std.proofs.Common.{List, ℕ}
+use Rattle.std.proofs.lemmas.Result.{IfOk-weaker}
 use Rattle.mesh_packet.specs.Fields.{fields_of_message}
 use Rattle.mesh_packet.specs.Least.{LeastForm}
 use Rattle.mesh_wire.specs.Writes.{IsSoleMessage, WritesTc, WritesLeastTc, alone}
@@ -16,16 +16,16 @@ pub returns-clause-writes : goal.returns-clause-writes
 returns-clause-writes c =
     let (values, has, h) = c.in_ok-message.ensures in
     let m = fields_of_message c.in_ok-message.message in
-    if_ok c.alone.result (λ (bytes : List ℕ). IsSoleMessage m bytes × LeastForm (alone m) bytes) (WritesTc c.args.tc.now c.args.hop_limit c.args.validity.now) (λ bytes is. written c.args.tc.now c.args.hop_limit c.args.validity.now values m h has c.args.tc.now.ascending c.requires.kinds c.requires.whole c.requires.value c.requires.near bytes is.0) c.alone.ensures
+    IfOk-weaker c.alone.result (λ (bytes : List ℕ). IsSoleMessage m bytes × LeastForm (alone m) bytes) (WritesTc c.args.tc.now c.args.hop_limit c.args.validity.now) (λ bytes is. written c.args.tc.now c.args.hop_limit c.args.validity.now values m h has c.args.tc.now.ascending c.requires.kinds c.requires.whole c.requires.value c.requires.near bytes is.0) c.alone.ensures
 
 pub returns-clause-least : goal.returns-clause-least
 returns-clause-least c =
     let (values, has, h) = c.in_ok-message.ensures in
     let m = fields_of_message c.in_ok-message.message in
-    if_ok c.alone.result (λ (bytes : List ℕ). IsSoleMessage m bytes × LeastForm (alone m) bytes) (WritesLeastTc c.args.tc.now c.args.hop_limit c.args.validity.now) (λ bytes is. written_least c.args.tc.now c.args.hop_limit c.args.validity.now values m h has c.args.tc.now.ascending c.requires.kinds c.requires.whole c.requires.value c.requires.near bytes is.0 is.1) c.alone.ensures
+    IfOk-weaker c.alone.result (λ (bytes : List ℕ). IsSoleMessage m bytes × LeastForm (alone m) bytes) (WritesLeastTc c.args.tc.now c.args.hop_limit c.args.validity.now) (λ bytes is. written_least c.args.tc.now c.args.hop_limit c.args.validity.now values m h has c.args.tc.now.ascending c.requires.kinds c.requires.whole c.requires.value c.requires.near bytes is.0 is.1) c.alone.ensures
 
 pub returns-clause-back : goal.returns-clause-back
 returns-clause-back c =
     let (values, has, h) = c.in_ok-message.ensures in
     let m = fields_of_message c.in_ok-message.message in
-    if_ok c.alone.result (λ (bytes : List ℕ). IsSoleMessage m bytes × LeastForm (alone m) bytes) _ (λ bytes is. back c.args.tc.now c.args.hop_limit c.args.validity.now values m h has c.args.tc.now.ascending c.requires.kinds c.requires.whole c.requires.value c.requires.near bytes is.0) c.alone.ensures
+    IfOk-weaker c.alone.result (λ (bytes : List ℕ). IsSoleMessage m bytes × LeastForm (alone m) bytes) _ (λ bytes is. back c.args.tc.now c.args.hop_limit c.args.validity.now values m h has c.args.tc.now.ascending c.requires.kinds c.requires.whole c.requires.value c.requires.near bytes is.0) c.alone.ensures
