@@ -4,7 +4,6 @@ use Rattle.std.specs.Prelude.{Contains, IsTrue, flat_map, is_none}
 use Rattle.std.specs.List.{list_any}
 use Rattle.std.specs.Ordering.{is_eq}
 use Rattle.std.specs.BTreeMap.{BTreeMap, get, IsOrdered}
-use Rattle.std.proofs.Math.Bool.{or-true}
 use Rattle.std.proofs.lemmas.Bool.{cases_Bool, and_parts as both}
 use Rattle.std.proofs.lemmas.Map.Views.{btree_map_get_iff}
 use Rattle.mesh_atoms.specs.declared.addr.Addr4.{Addr4}
@@ -29,6 +28,7 @@ use Rattle.mesh_topo.proofs.AdvertisedLemmas.RowOrder.{ascending_rows}
 use Rattle.mesh_atoms.proofs.Values.{same_host, net_itself}
 use Rattle.mesh_atoms.proofs.Lists.{contains_head as at_head, contains_tail as in_tail, contains_cases, contains_none as none_in, contains_map as in_map, contains_map_cases as from_map, contains_flat_map as in_each, contains_flat_map_cases}
 use Rattle.mesh_atoms.proofs.Rows.{same_metric}
+use Rattle.std.proofs.lemmas.List.Folds.{list_any_at}
 
 -- ---- selectors
 
@@ -106,13 +106,6 @@ by_network net (x ∷ xs) o e = by_net (is_eq (net_cmp x.net net)) refl (λ h. b
       (x, at_head x xs, same_at x.net net is, sym same)
   by_net false is others e = let (a, there, at, same) = others e in (a, in_tail x xs a there, at, same)
 
-passes : {X : Type 0} (test : X → Bool) (xs : List X) (x : X) → Contains xs x → test x ≡ true → list_any test xs ≡ true
-passes test [] x has t = absurd (none_in x has)
-passes test (y ∷ ys) x has t = elim (contains_cases y ys x has) [
-  | inl same ↦ let first : test y ≡ true = ap test same ∙ t in rw first refl
-  | inr later ↦ rw (passes test ys x later t) (or-true (test y))
-]
-
 -- a network among distinct ones is what is offered of it
 of_its_net : (attached : List Attached4) (a : Attached4) → IsTrue (are_distinct net_eq (map (λ x. x.net) attached)) → Contains attached a → offered a.net (map of_network attached) None ≡ Some (of_network a).1
 of_its_net [] a distinct has = absurd (none_in a has)
@@ -124,7 +117,8 @@ of_its_net (x ∷ xs) a distinct has = elim (contains_cases x xs a has) [
       let (first, rest) = both (not (list_any (net_eq x.net) (map (λ (y : Attached4). y.net) xs))) (are_distinct net_eq (map (λ (y : Attached4). y.net) xs)) distinct in
       elim (cases_Bool (is_eq (net_cmp x.net a.net))) [
         | inl e ↦ absurd (
-            let there = passes (net_eq x.net) (map (λ (y : Attached4). y.net) xs) a.net (in_map (λ (y : Attached4). y.net) xs a later) (net_itself x.net a.net (same_at x.net a.net e)) in
+            let among = in_map (λ (y : Attached4). y.net) xs a later in
+            let there = list_any_at (net_eq x.net) (map (λ (y : Attached4). y.net) xs) among.0 a.net among.1 (rw among.2 (net_itself x.net a.net (same_at x.net a.net e))) in
             let none : not true ≡ true = sym (ap not there) ∙ first in
             cc)
         | inr apart ↦ ap (λ (b : Bool). offered a.net (map of_network xs) (cond b (Some (of_network x).1) None)) apart ∙ of_its_net xs a rest later

@@ -14,6 +14,7 @@ use Rattle.mesh_atoms.specs.Base.{Base, find, addr_eq}
 use Rattle.mesh_topo.specs.TcSets.Sets.{has_other_number, is_outdated}
 use Rattle.mesh_atoms.proofs.Lists.{any_filter}
 use Rattle.mesh_atoms.proofs.Lookups.{same_addr}
+use Rattle.mesh_atoms.proofs.Options.{not_true}
 
 any_last : {K : Type 0} (p : K → Bool) (xs : List K) (k : K) → list_any p (xs ++ k ∷ []) ≡ (list_any p xs || p k)
 any_last p [] k = by_test (p k) where
@@ -154,10 +155,7 @@ module _ {K V : Type 0} (eq : K → K → Bool) (originator : Addr4) (ansn : ℕ
     by_test false h = absurd cc
 
   pub of_another : (here : Addr4) (ne : Bool) → ne ≡ not (nat_eq here.0 originator.0) → here ≡ from q → ne ≡ true → addr_eq (from q) originator ≡ false
-  of_another here ne is of apart = by_test (addr_eq (from q) originator) (sym (is ∙ ap (λ (a : Addr4). not (nat_eq a.0 originator.0)) of) ∙ apart) where
-    by_test : (b : Bool) → not b ≡ true → b ≡ false
-    by_test true h = absurd cc
-    by_test false h = refl
+  of_another here ne is of apart = not_true (addr_eq (from q) originator) (sym (is ∙ ap (λ (a : Addr4). not (nat_eq a.0 originator.0)) of) ∙ apart)
 
 -- a key of an ordered set, by the keys' own test
 pub any_key : {K : Type 0} (eq : K → K → Bool) (cmp : K → K → Ordering) (agree : (x y : K) → eq x y ≡ is_eq (cmp x y)) (keys : BTreeSet K) (q : K) → contains cmp keys q ≡ list_any (eq q) keys.keys
