@@ -1,5 +1,5 @@
 -- Items of short lists, and of lists that are made of others.
-use Rattle.std.proofs.Common.{◌≡◌, inl, inr, ap, subst, sym, ◌∙◌, List, [], ◌∷◌, map, Contains, Some}
+use Rattle.std.proofs.Common.{◌≡◌, inl, inr, ap, subst, sym, ◌∙◌, List, [], ◌∷◌, map, Contains}
 use Rattle.mesh_atoms.specs.Base.{Base, Has}
 use Rattle.mesh_atoms.proofs.Lists.{contains_tail as there, contains_cases, contains_none as none_of, contains_head as here}
 
@@ -22,9 +22,6 @@ unmapped f (x ∷ xs) b c = elim (contains_cases (f x) (map f xs) b c) [
   | inl e ↦ (x, here x xs, sym e)
   | inr more ↦ let (a, stands, is) = unmapped f xs b more in (a, there x xs a stands, is)
 ]
-
-pub some_is : {A : Type 0} {a b : A} → Some a ≡ Some b → a ≡ b
-some_is e = cc
 
 -- the same of both parts gives the same
 pub both_same : {A B C : Type 0} (f : A → B → C) (a b : A) (c d : B) → a ≡ b → c ≡ d → f a c ≡ f b d

@@ -17,9 +17,8 @@ use Rattle.mesh_atoms.specs.Quality.{quality_at, rule_of, admitted, admit_on}
 use Rattle.mesh_atoms.specs.State.{link_at, is_symmetric}
 use Rattle.mesh_atoms.specs.TakesHello.{IsHeld, Takes, Overfull_two_hops}
 use Rattle.mesh_atoms.specs.Words.{IsKept}
-use Rattle.mesh_atoms.proofs.Options.{none_is_some, none_not, same_some}
+use Rattle.mesh_atoms.proofs.Options.{none_is_some, none_not, same_some, some_equal}
 use Rattle.mesh_paths.proofs.ShortLists.{few_of_one}
-use Rattle.mesh_laws.proofs.Members.{some_is}
 use Rattle.mesh_laws.proofs.Qualities.{quality_by, cut}
 use Rattle.mesh_laws.specs.Spoiled.{RefusesLinksTogether, RefusesLinkOfUnlisted, RefusesLinkOfSharedAddress, RefusesLinkGone, RefusesOtherQuality, RefusesLostLinkKept, RefusesMadeUnadmitted, RefusesFullOfOne, RefusesTakenThoughFull, RefusesTakenThoughManyRows, RefusesFullThoughFits, RefusesLinkMetricFirst, RefusesMetricUnsaid, RefusesRowByLinkMetric, RefusesRowWithoutMetric}
 
@@ -61,7 +60,7 @@ pub other_quality : RefusesOtherQuality
 other_quality settings now i near key e at other sound =
     let rule = rule_of settings i in
     let stands : Some (admitted rule settings.times.link_hold now e) ≡ Some e = ap (admit_on settings i now) (sym at) ∙ (sound.by_quality i key ∙ at) in
-    other (ap (λ (t : Link × ℕ). t.0.quality) (sym (some_is stands)) ∙ quality_by rule settings.times.link_hold now (quality_at rule e.0.addrs now) e)
+    other (ap (λ (t : Link × ℕ). t.0.quality) (sym (some_equal _ _ stands)) ∙ quality_by rule settings.times.link_hold now (quality_at rule e.0.addrs now) e)
 
 -- expiry leaves the moment of a link that stays
 left_moment : (now : ℕ) (o : Option (Link × ℕ)) (g f : Link × ℕ) → o ≡ Some g → trim now (if_live now o) ≡ Some f → f.1 ≡ g.1
@@ -72,7 +71,7 @@ left_moment now o g f is left = by_case (nat_lt now g.1) (ap (λ (t : Option (Li
     of_trimmed false = refl
 
     by_case : (b : Bool) → trim now (cond b (Some g) None) ≡ Some f → f.1 ≡ g.1
-    by_case true e = ap (λ (t : Link × ℕ). t.1) (sym (some_is e)) ∙ of_trimmed (is_symmetric g.0 now)
+    by_case true e = ap (λ (t : Link × ℕ). t.1) (sym (some_equal _ _ e)) ∙ of_trimmed (is_symmetric g.0 now)
     by_case false e = none_is_some e
 
 pub lost_link_kept : RefusesLostLinkKept

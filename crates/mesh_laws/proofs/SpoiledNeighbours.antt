@@ -10,9 +10,8 @@ use Rattle.mesh_atoms.specs.Base.{if_live}
 use Rattle.mesh_atoms.specs.Codes.Codes.{metric_value}
 use Rattle.mesh_atoms.specs.Live.{HasSymmetricOf, SettlesLost, Back, Gone, Stays}
 use Rattle.mesh_atoms.specs.Words.{IsLeastMetric}
-use Rattle.mesh_laws.proofs.Members.{some_is}
 use Rattle.mesh_laws.specs.Spoiled.{RefusesNeighbourOutOfNothing, RefusesNeighbourGone, RefusesSelectorKept, RefusesNeighbourTooShort, RefusesLostThoughBack, RefusesLossUntold, RefusesLostOutOfNothing, RefusesLostAtAnotherMoment, RefusesLostSymmetric, RefusesOwnLost, RefusesNeighbourTooLong, RefusesOtherAddresses, RefusesOtherWillingness, RefusesSelectorCleared, RefusesSymmetricUntold, RefusesSymmetricOutOfNothing, RefusesOtherMetricIn, RefusesOtherMetricOut, RefusesLostGone, RefusesLostMoved}
-use Rattle.mesh_atoms.proofs.Options.{cond_true, none_is_some, none_not, same_some}
+use Rattle.mesh_atoms.proofs.Options.{cond_true, none_is_some, none_not, same_some, some_equal}
 
 -- Neighbours as their links have them
 
@@ -125,7 +124,7 @@ lost_moved settings now old new a e f never not_now stood stands other live =
     by_case (nat_lt now e.1) (sym (ap (if_live now) stood) ∙ (sym (is_left (live.losts a) never not_now) ∙ stands))
   where
     by_case : (b : Bool) → cond b (Some e) None ≡ Some f → ⊥
-    by_case true same = other (ap (λ (t : Lost × ℕ). t.1) (sym (some_is same)))
+    by_case true same = other (ap (λ (t : Lost × ℕ). t.1) (sym (some_equal _ _ same)))
     by_case false same = none_is_some same
 
 pub lost_symmetric : RefusesLostSymmetric

@@ -7,9 +7,10 @@ use Rattle.mesh_atoms.specs.Codes.Codes.{metric_value}
 use Rattle.mesh_atoms.specs.Radio.{Leads, IsAdmitted, Joins, Adjacent, IsMetric, Itself, By, Router}
 use Rattle.mesh_atoms.specs.Settled.{At, IsPeer, AreStates}
 use Rattle.mesh_atoms.specs.State.{State}
-use Rattle.mesh_laws.proofs.Members.{each, Each, some_is}
+use Rattle.mesh_laws.proofs.Members.{each, Each}
 use Rattle.mesh_laws.proofs.ThreeRouters.{one, arc, peers, each_pair, peers_back, face, settings, scenario, state, states}
 use Rattle.mesh_atoms.proofs.Lists.{contains_head as here}
+use Rattle.mesh_atoms.proofs.Options.{some_equal}
 
 -- Arcs
 
@@ -85,9 +86,9 @@ metric x y c = record {
 -- States
 
 pub each_state : (P : ℕ → State → Type 0) → P 0 (state 0) → P 1 (state 1) → P 2 (state 2) → (x : ℕ) (p : State) → At states x p → P x p
-each_state P a b c zero p at = subst (P 0) (some_is at.is) a
-each_state P a b c (suc zero) p at = subst (P 1) (some_is at.is) b
-each_state P a b c (suc (suc zero)) p at = subst (P 2) (some_is at.is) c
+each_state P a b c zero p at = subst (P 0) (some_equal _ _ at.is) a
+each_state P a b c (suc zero) p at = subst (P 1) (some_equal _ _ at.is) b
+each_state P a b c (suc (suc zero)) p at = subst (P 2) (some_equal _ _ at.is) c
 each_state P a b c (suc (suc (suc x))) p at = absurd (let no : None ≡ Some p = at.is in cc)
 
 pub state_is : (x : ℕ) (p : State) → At states x p → p ≡ state x

@@ -18,11 +18,12 @@ use Rattle.mesh_atoms.specs.declared.tuples.LinkState.TheVariants.{Symmetric as 
 use Rattle.mesh_atoms.specs.State.{HasLink, HasTwoHop, HasSymmetric, HasSymmetricWith, state_of}
 use Rattle.mesh_atoms.specs.Words.{IsAscending}
 use Rattle.mesh_paths.proofs.ShortLists.{only, first_of}
-use Rattle.mesh_laws.proofs.Members.{unmapped, some_is, both_same}
+use Rattle.mesh_laws.proofs.Members.{unmapped, both_same}
 use Rattle.mesh_laws.proofs.ThreeRouters.{one, addr, peers, beyond, relays, key, link, neighbour, two_hop_key, far, state, each_beyond, each_relay, same_number, link_is, link_has, symmetric_is, symmetric_has, two_hop_is, two_hop_has}
 use Rattle.mesh_laws.proofs.ThreeRoutersSay.{near, near_has}
 use Rattle.mesh_laws.proofs.ThreeRoutersSettled.{behind}
 use Rattle.mesh_atoms.proofs.Lists.{contains_map, contains_head as here}
+use Rattle.mesh_atoms.proofs.Options.{some_equal}
 
 -- The graph, for routing and for flooding
 
@@ -82,7 +83,7 @@ far_given : (x i : ℕ) (k : TwoHopKey) (t : TwoHop) (n : Neighbour) (m : Metric
 far_given x i k t n m e side is_one has with at is value =
     let (_, z, among, k_is, t_is) = two_hop_is x i k t has in
     let (y, _, l_is, via, _) = near x k.link.addr e.via n with in
-    let m_is : one ≡ m = some_is (sym is_one ∙ (ap side (sym t_is) ∙ is)) in
+    let m_is : one ≡ m = some_equal _ _ (sym is_one ∙ (ap side (sym t_is) ∙ is)) in
     let cost : 1 ≡ e.cost = ap metric_value m_is ∙ value in
     let via_is : addr 1 ≡ e.via = ap (λ (l : TwoHopKey). l.link.addr) (sym k_is) ∙ (l_is ∙ sym via) in
     let parts : far_of z ≡ record { via = e.via; addr = e.addr; cost = 1 } =
@@ -95,7 +96,7 @@ routing_costs x = record {
   Cost = λ n m. n.metric_in ≡ Some m;
   will = λ n. n.willing.routing;
   is_one = λ y c. refl;
-  one_alone = λ y m e. ap metric_value (sym (some_is e));
+  one_alone = λ y m e. ap metric_value (sym (some_equal _ _ e));
   seven = λ y. refl;
 }
 
@@ -125,7 +126,7 @@ flooding_costs x = record {
         let (k, l, has, _, _, out) = given in
         let (_, _, _, _, e) = link_is x 0 k l has in
         let P : Link → Type 0 = λ b. b.link_out ≡ Some m in
-        ap metric_value (sym (some_is (subst P e out)))
+        ap metric_value (sym (some_equal _ _ (subst P e out)))
 
 flooding_graph : (x : ℕ) → IsFloodingGraph (state x) 5 0 (graph_of x)
 unfolding flooding_costs

@@ -25,13 +25,14 @@ use Rattle.mesh_atoms.specs.Routes.{RouteArc, To_neighbour, To_two_hop, By_route
 use Rattle.mesh_atoms.specs.Walk.{Walk, Stay, Onward, Least, FirstNode, AtSelf, Through}
 use Rattle.mesh_atoms.proofs.Lookups.{same_net}
 use Rattle.mesh_paths.proofs.ShortLists.{only}
-use Rattle.mesh_laws.proofs.Members.{Each, each, unmapped, some_is}
+use Rattle.mesh_laws.proofs.Members.{Each, each, unmapped}
 use Rattle.mesh_laws.proofs.ThreeRouters.{one, addr, net, attached, face, peers, beyond, told, gateways, link, neighbour, router_tuple, router_entry, address_entry, network_entry, network_tuple, route, first_to_second, first_to_third, first_to_net, second_to_first, second_to_third, second_to_net, third_to_first, third_to_second, routes, state, each_pair, each_beyond, each_told, each_gateway, same_number, address_on, has_own, link_is, link_has, two_hop_is}
 use Rattle.mesh_laws.proofs.ThreeRoutersInRange.{attached_is}
 use Rattle.mesh_laws.proofs.ThreeRoutersSay.{near, near_has}
 use Rattle.mesh_laws.proofs.ThreeRoutersSettled.{own_originator}
 use Rattle.mesh_atoms.proofs.Values.{at_most_itself}
 use Rattle.mesh_atoms.proofs.Lists.{contains_map, contains_none as none_of, contains_head as here}
+use Rattle.mesh_atoms.proofs.Options.{some_equal}
 
 -- Arcs
 
@@ -64,13 +65,13 @@ arc_is : (x : ℕ) (m n : NetAddr) (c : ℕ) → RouteArc (state x) m n c → Is
 arc_is x _ _ _ (To_neighbour {self = self} {a = a} {m = m} o n is has out) =
     let (y, c, e, _, g) = near x a o n has in
     let P : Neighbour → Type 0 = λ b. b.metric_out ≡ Some m in
-    (moved x (host self) (host (addr x)) (host a) (host (addr y)) (ap host (sym (own_originator x self is))) (ap host (sym e)) (to_peer x y c), ap metric_value (sym (some_is (subst P g out))))
+    (moved x (host self) (host (addr x)) (host a) (host (addr y)) (ap host (sym (own_originator x self is))) (ap host (sym e)) (to_peer x y c), ap metric_value (sym (some_equal _ _ (subst P g out))))
 arc_is x _ _ _ (To_two_hop {o = o} {a = a} {m = m} i l t n has with wills out) =
     let (_, z, c, k_is, t_is) = two_hop_is x i (record { link = l; addr = a }) t has in
     let (y, _, l_is, o_is, _) = near x l.addr o n with in
     let P : TwoHop → Type 0 = λ b. b.metric_out ≡ Some m in
     let via : addr 1 ≡ o = ap (λ (k : TwoHopKey). k.link.addr) (sym k_is) ∙ (l_is ∙ sym o_is) in
-    (moved x (host o) (host (addr 1)) (host a) (host (addr z)) (ap host via) (ap (λ (k : TwoHopKey). host k.addr) (sym k_is)) (to_beyond x z c), ap metric_value (sym (some_is (subst P t_is out))))
+    (moved x (host o) (host (addr 1)) (host a) (host (addr z)) (ap host via) (ap (λ (k : TwoHopKey). host k.addr) (sym k_is)) (to_beyond x z c), ap metric_value (sym (some_equal _ _ (subst P t_is out))))
 arc_is x _ _ _ (By_router {from = from} {to = to} t has) =
     let (z, c, is) = unmapped router_entry (told x) (record { from = from; to = to }, (t, has.0)) has.1 in (
       moved x (host from) (host (addr 1)) (host to) (host (addr z)) (ap (λ (b : RouterKey × (RouterTuple × ℕ)). host b.0.from) (sym is)) (ap (λ (b : RouterKey × (RouterTuple × ℕ)). host b.0.to) (sym is)) (to_told x z c),
@@ -111,7 +112,7 @@ abbrev IsStep : ℕ → NetAddr × NetAddr → Type 0
 IsStep x t = (d : ℕ) → IsAt x t.1 d → (e : ℕ) × IsAt x t.0 e × (e ≤ d + 1)
 
 farther : (x : ℕ) (m n : NetAddr) (k l : ℕ) → IsAt x m k → IsAt x n l → l ≤ k + 1 → IsStep x (n, m)
-farther x m n k l from to within d at = let same : k ≡ d = some_is (sym from ∙ at) in (l, to, omega (arith, within, same))
+farther x m n k l from to within d at = let same : k ≡ d = some_equal _ _ (sym from ∙ at) in (l, to, omega (arith, within, same))
 
 steps : (x : ℕ) → Each (IsStep x) (sources x)
 steps zero = (
@@ -142,7 +143,7 @@ walk_is x start _ _ (Onward {b = p} {d = q} {c = c} {m = m} walk arc) =
 least : (x : ℕ) → IsAt x (host (addr x)) 0 → (n : NetAddr) (d : ℕ) → IsAt x n d → Walk (RouteArc (state x)) (host (addr x)) n d → Least (RouteArc (state x)) (host (addr x)) n d
 least x start n d at walk = record {
   reached = walk;
-  least = λ c other. (let (e, to, within) = walk_is x start n c other in let same : d ≡ e = some_is (sym at ∙ to) in omega (arith, within, same));
+  least = λ c other. (let (e, to, within) = walk_is x start n c other in let same : d ≡ e = some_equal _ _ (sym at ∙ to) in omega (arith, within, same));
 }
 
 -- Routes
@@ -155,7 +156,7 @@ parent x p n d start before arc after = record {
   least = λ q fits.
       (let this = source_is x p n (arc_is x p n 1 arc).0 in
       let other = source_is x q n (arc_is x q n fits.metric fits.arc).0 in
-      at_most_itself p q (some_is (sym this ∙ other)));
+      at_most_itself p q (some_equal _ _ (sym this ∙ other)));
 }
 
 hop : (x y : ℕ) (dest : NetAddr) (cost : ℕ) (before : NetAddr) → Contains (peers x) y → FirstNode (IsParent (state x) (host (addr x))) (host (addr x)) dest (host (addr y)) →
@@ -171,7 +172,7 @@ hop x y dest cost before c way = record {
   best = λ i k m other.
       (let (e_i, z, _, _, e_link) = link_is x i k other.link other.stands in
       let P : Link → Type 0 = λ b. b.link_out ≡ Some m in
-      let same : one ≡ m = some_is (subst P e_link other.out) in
+      let same : one ≡ m = some_equal _ _ (subst P e_link other.out) in
       let at : k.addr ≡ addr y = only (addr y) k.addr other.of_it in
       let number : k.addr.0 ≡ suc y = ap (λ (a : Addr4). a.0) at in
       inr (ap metric_value same, inr (sym e_i, omega (arith, number))));

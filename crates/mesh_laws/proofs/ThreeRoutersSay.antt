@@ -11,9 +11,10 @@ use Rattle.mesh_atoms.specs.declared.tuples.LinkState.{LinkState}
 use Rattle.mesh_atoms.specs.declared.tuples.LinkState.TheVariants.{Symmetric as Is_symmetric}
 use Rattle.mesh_atoms.specs.State.{HasSymmetricWith}
 use Rattle.mesh_paths.proofs.ShortLists.{only, first_of}
-use Rattle.mesh_laws.proofs.Members.{unmapped, some_is}
+use Rattle.mesh_laws.proofs.Members.{unmapped}
 use Rattle.mesh_laws.proofs.ThreeRouters.{one, addr, net, given, key, link, neighbour, peers, relays, middle_is, state, same_number, link_is, link_has, symmetric_is, symmetric_has}
 use Rattle.mesh_atoms.proofs.Lists.{contains_map, contains_head as here}
+use Rattle.mesh_atoms.proofs.Options.{some_equal}
 
 -- HELLOs
 
@@ -89,14 +90,14 @@ near_in_said x j a m says =
     let (o, n, has, is) = says in
     let (_, _, _, _, same) = near x a o n has in
     let P : Neighbour → Type 0 = λ b. b.metric_in ≡ Some m in
-    sym (some_is (subst P same is))
+    sym (some_equal _ _ (subst P same is))
 
 pub near_out_said : (x j : ℕ) (a : Addr4) (m : Metric) → Says (state x) j 5 a (Near_out m) → m ≡ one
 near_out_said x j a m says =
     let (o, n, has, is) = says in
     let (_, _, _, _, same) = near x a o n has in
     let P : Neighbour → Type 0 = λ b. b.metric_out ≡ Some m in
-    sym (some_is (subst P same is))
+    sym (some_equal _ _ (subst P same is))
 
 pub says_near_in : (x y j : ℕ) → Contains (peers x) y → Says (state x) j 5 (addr y) (Near_in one)
 says_near_in x y j c = (addr y, neighbour x y, near_has x y c, refl)
@@ -114,7 +115,7 @@ gives_is x a o m g =
     let Q : Neighbour → Type 0 = λ b. b.metric_out ≡ Some m in
     let R : Neighbour → Type 0 = λ b. Contains b.addrs a in
     let a_is : a ≡ addr y = elim g.address [ inl has ↦ only (addr y) a (subst R same has) | inr is ↦ is ∙ e ] in
-    (middle_is x (subst P same g.selects), y, c, a_is, e, sym (some_is (subst Q same g.metric)))
+    (middle_is x (subst P same g.selects), y, c, a_is, e, sym (some_equal _ _ (subst Q same g.metric)))
 
 pub gives : (y : ℕ) → Contains (peers 1) y → GivesAsSelector (state 1) (addr y) (addr y) one
 gives y c = record { neighbour = neighbour 1 y; symmetric = symmetric_has 1 y c; selects = refl; metric = refl; address = inr refl }

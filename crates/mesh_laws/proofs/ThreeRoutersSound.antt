@@ -28,14 +28,14 @@ use Rattle.mesh_atoms.specs.TakesHello.{IsHeld}
 use Rattle.mesh_atoms.specs.Words.{AreMoreThan}
 use Rattle.mesh_atoms.proofs.Lookups.{same_addr, same_link, same_two_hop, same_router, same_address, same_network}
 use Rattle.mesh_paths.proofs.ShortLists.{only, two, empty_within, empties_within, empty_distinct}
-use Rattle.mesh_laws.proofs.Members.{each, unmapped, some_is, both_same}
+use Rattle.mesh_laws.proofs.Members.{each, unmapped, both_same}
 use Rattle.mesh_laws.proofs.ThreeRouters.{one, addr, net, settings, peers, beyond, told, gateways, advertisers, key, link, link_entry, neighbour, neighbour_entry, two_hop_key, two_hop_entry, advertiser_entry, router_entry, address_entry, network_entry, host_row, net_row, rows, state, each_pair, same_number, address_on}
 use Rattle.mesh_laws.proofs.ThreeRoutersInRange.{attached_is}
 use Rattle.mesh_laws.proofs.ThreeRoutersSay.{advertises, advertises_is, advertises_originator, advertises_network}
 use Rattle.mesh_laws.proofs.ThreeRoutersSettled.{own_originator, behind}
 use Rattle.mesh_laws.proofs.ThreeRoutersRelays.{relays_are}
 use Rattle.mesh_atoms.proofs.Lists.{contains_none as none_of, contains_head as here}
-use Rattle.mesh_atoms.proofs.Options.{none_is_some}
+use Rattle.mesh_atoms.proofs.Options.{none_is_some, some_equal}
 
 -- Bases in which each tuple ends at 9
 
@@ -125,7 +125,7 @@ by_links x y c = record {
     (λ m given.
         (let (l, has, is) = given in
         let (_, same) = link_of_peer x y l has in
-        let cost : metric_value one ≡ metric_value m = ap metric_value (some_is (sym (ap (λ (b : Link). b.link_out) same) ∙ is)) in
+        let cost : metric_value one ≡ metric_value m = ap metric_value (some_equal _ _ (sym (ap (λ (b : Link). b.link_out) same) ∙ is)) in
         omega (arith, cost))),
   );
 }

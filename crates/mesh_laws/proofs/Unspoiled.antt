@@ -2,7 +2,6 @@
 use Rattle.std.proofs.Common.{◌≡◌, ◌≢◌, ℕ, zero, suc, ◌+◌, refl, sym, ◌∙◌, ap, subst, [], ◌∷◌, Contains, Some, None}
 use Rattle.std.specs.Prelude.{Bool, true, false, cond, ◌&&◌}
 use Rattle.std.specs.Cmp.{IsEquivalence}
-use Rattle.std.proofs.lemmas.Cmp.{nat_eq_equiv, on_equiv, and_equiv}
 use Rattle.mesh_atoms.specs.declared.addr.Addr4.{Addr4}
 use Rattle.mesh_atoms.specs.declared.addr.NetAddr.{NetAddr}
 use Rattle.mesh_atoms.specs.declared.codes.metric.Metric.{Metric}
@@ -12,7 +11,6 @@ use Rattle.mesh_atoms.specs.declared.tuples.TwoHopKey.{TwoHopKey}
 use Rattle.mesh_atoms.specs.declared.tuples.RouterKey.{RouterKey}
 use Rattle.mesh_atoms.specs.declared.tuples.AddressKey.{AddressKey}
 use Rattle.mesh_atoms.specs.declared.tuples.NetworkKey.{NetworkKey}
-use Rattle.mesh_atoms.specs.declared.tuples.FloodKey.{FloodKey}
 use Rattle.mesh_atoms.specs.declared.tuples.Link.{Link}
 use Rattle.mesh_atoms.specs.declared.tuples.TwoHop.{TwoHop}
 use Rattle.mesh_atoms.specs.declared.tuples.Neighbour.{Neighbour}
@@ -35,6 +33,7 @@ use Rattle.mesh_laws.specs.WorkedHello.{peer, me, third, one, three}
 use Rattle.mesh_laws.specs.Unspoiled.{silent, LostIsKept, heading, quiet, noted, MessageIsNoted, MessageIsPassedOver, row, tc, outdated, TcIsTaken}
 use Rattle.mesh_atoms.proofs.Lists.{contains_head as here}
 use Rattle.mesh_atoms.proofs.Options.{none_is_some}
+use Rattle.mesh_flood.proofs.Keys.{flood_equiv}
 
 -- in a base of one tuple for the key at most, one is put at the key
 sets_one : {K V : Type 0} {eq : K → K → Bool} → IsEquivalence eq → (k : K) (e : V × ℕ) (old : Base K V) → ((q : K) → eq q k ≡ false → find eq old q ≡ None) →
@@ -90,11 +89,6 @@ lost_is_kept settings = record {
     stays false = refl
 
 -- Messages
-
-flood_equiv : IsEquivalence flood_eq
-flood_equiv =
-    and_equiv (on_equiv (λ (k : FloodKey). k.kind) nat_eq_equiv)
-    (and_equiv (on_equiv (λ (k : FloodKey). k.originator.0) nat_eq_equiv) (on_equiv (λ (k : FloodKey). k.sequence) nat_eq_equiv))
 
 notes_one : (until : ℕ) → SetsOnly {V = Noted} flood_eq [] ((key_of heading, (record {}, until)) ∷ []) (key_of heading) (Some (record {}, until))
 notes_one until = sets_one {V = Noted} flood_equiv (key_of heading) (record {}, until) [] (λ q other. refl)
