@@ -1,5 +1,5 @@
 -- How a probe begins: its number, and its first frames.
-use Rattle.std.proofs.Common.{◌≡◌, refl, ℕ, zero, suc, ◌<◌, ◌≤◌, inl, inr, sym, ◌∙◌, ap, subst, arith, List, [], ◌∷◌, length, Option, Some, None, slice_get, map, get_or}
+use Rattle.std.proofs.Common.{◌≡◌, refl, ℕ, zero, suc, ◌<◌, ◌≤◌, inl, inr, sym, ◌∙◌, ap, subst, arith, List, [], ◌∷◌, length, Some, None, map, get_or}
 use Rattle.std.specs.Prelude.{All}
 use Rattle.std.proofs.lemmas.List.Elements.{All-nil, All-cons, All-append}
 use Rattle.std.proofs.lemmas.Option.{slice_get_cases}
@@ -21,11 +21,9 @@ use Rattle.mesh_probe.specs.Probes.{AreRoutersAt, HasLeastNumber, IsKnown, IsPro
 use Rattle.mesh_probe.proofs.Prefix.{sends_once}
 use Rattle.mesh_probe.proofs.Queues.{one_sent}
 use Rattle.mesh_probe.proofs.Turns.{state_there}
+use Rattle.mesh_atoms.proofs.Options.{same_some}
 
 -- The number
-
-same_settings : (o : Option RouterSettings) (a b : RouterSettings) → o ≡ Some a → o ≡ Some b → a ≡ b
-same_settings o a b e f = cc
 
 module _ (s : Scenario) (states : List State) (origin : ℕ) (r : RouterSettings) (is : Router s origin r) (o : Addr4) (own : IsOriginator r o)
     (only : (other : Addr4) → IsOriginator r other → other ≡ o) where
@@ -34,7 +32,7 @@ module _ (s : Scenario) (states : List State) (origin : ℕ) (r : RouterSettings
 
   known_of : (n : ℕ) → IsTcNoted s states origin n → IsKnown states (tc_key o n)
   known_of n (other, (q, there, its), known) =
-      let same : q ≡ r = same_settings (slice_get s.routers origin) q r there is in
+      let same : q ≡ r = same_some there is in
       subst (λ (a : Addr4). IsKnown states (tc_key a n)) (only other (subst (λ (t : RouterSettings). IsOriginator t other) same its)) known
 
   pub least_number : (n : ℕ) (c : Coverage) → c.number ≡ n → IsLeastUnknown states o (Some n) → HasLeastNumber s states origin (Done c)

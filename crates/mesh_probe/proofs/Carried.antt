@@ -10,7 +10,8 @@ use Rattle.mesh_wire.specs.Rehop.{HasHop, one_hop_on, hopped}
 use Rattle.mesh_wire.specs.Writes.{alone}
 use Rattle.mesh_wire.proofs.Hops.{can_hop, hop_spells}
 use Rattle.mesh_machine.specs.Frames.{octets_at}
-use Rattle.mesh_machine.proofs.Takes.{part_at}
+use Rattle.mesh_atoms.proofs.Lists.{middle_range}
+use Rattle.mesh_atoms.proofs.Options.{some_equal}
 
 -- the message after so many hops
 abbrev pub at_hop : MessageFields → ℕ → ℕ → MessageFields
@@ -30,7 +31,7 @@ one_span m (s ∷ []) front bytes is =
     let (text, rest, spells, stands, others, parts) = is in
     let there : SpellsMessage m (slice_range (front ++ bytes) (length front) (length front + length text)) =
     subst (λ (b : List ℕ). SpellsMessage m (slice_range (front ++ b) (length front) (length front + length text))) (sym parts)
-    (subst (λ (t : List ℕ). SpellsMessage m t) (sym (part_at front text rest)) spells) in
+    (subst (λ (t : List ℕ). SpellsMessage m t) (sym (middle_range front text rest)) spells) in
     (s, refl, subst (λ (t : Span). SpellsMessage m (octets_at (front ++ bytes) t)) (sym stands) there)
 one_span m (s ∷ t ∷ spans) front bytes is = absurd is.4
 
@@ -80,7 +81,7 @@ carried_on m limit hops text octet room spells =
       limit = limit - hops;
       limit_is = refl;
       above = omega (arith, room);
-      count = λ count is. (let e : hops ≡ count = some_same hops count is in omega (arith, e, room, octet));
+      count = λ count is. (let e : hops ≡ count = some_equal hops count is in omega (arith, e, room, octet));
     } in
     let next : SpellsMessage (one_hop_on here) (hopped text) = hop_spells here text spells (can_hop here text spells hop).flagged in
     let e : (limit - hops) - 1 ≡ limit - suc hops = omega arith in
@@ -89,6 +90,3 @@ carried_on m limit hops text octet room spells =
     ap (λ (n : ℕ). let r : MessageFields = record m { limit = Some n; count = Some (hops + 1) } in r) e
     ∙ ap (λ (n : ℕ). let r : MessageFields = record m { limit = Some (limit - suc hops); count = Some n } in r) f in
     behind_zero (at_hop m limit (suc hops)) (hopped text) (subst (λ (x : MessageFields). SpellsMessage x (hopped text)) same next)
-  where
-    some_same : (a b : ℕ) → Some a ≡ Some b → a ≡ b
-    some_same a b e = cc

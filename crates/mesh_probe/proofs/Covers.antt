@@ -2,13 +2,14 @@
 use Rattle.std.proofs.Common.{◌≡◌, ℕ, zero, suc, ◌+◌, ◌<◌, ◌≤◌, ◌⊎◌, inl, inr, refl, sym, ◌∙◌, ap, subst, arith, List, [], ◌∷◌, ◌++◌, length, Contains, Option, Some}
 use Rattle.std.specs.Prelude.{Bool, true, false, nat_eq}
 use Rattle.std.specs.List.{IsDistinct, AllByRecursion}
-use Rattle.std.proofs.lemmas.Bool.{eq-eqb, eqb-true, cases_Bool, cases_lt, cases_eq, or_right, or_parts, or_cases}
+use Rattle.std.proofs.lemmas.Bool.{eq-eqb, eqb-true, cases_Bool, cases_eq, or_right, or_parts, or_cases}
 use Rattle.std.proofs.lemmas.List.Elements.{Contains-append_left, Contains-append_right, Contains-append_cases, Contains-push, Contains-push_cases}
 use Rattle.std.proofs.lemmas.Map.Keys.{IsDistinct-cons}
 use Rattle.std.proofs.lemmas.Map.Steps.{length-le_from_distinct_below}
 use Rattle.mesh_probe.proofs.Wave.{has, Spread, Going, frames_on, where_sent, Net, Takes, Deaf, Quiet, Sends, Hears, All_heard, One_hears, Wave, Ends, Goes, WaveFrom, Chain, Itself, On, IsSelected, IsCovering, WaveCovers}
 use Rattle.mesh_atoms.proofs.Lists.{contains_tail as in_tail, contains_cases, contains_none as none_of}
 use Rattle.mesh_atoms.proofs.Options.{true_false}
+use Rattle.std.proofs.Math.Nat.{eq-or-lt_of_le}
 
 -- Lists
 
@@ -36,16 +37,13 @@ none_equal w (x ∷ ws) h = let (e, rest) = or_parts (nat_eq w x) (has ws w) h i
 
 pub frame_on : (w h k faces : ℕ) → k < faces → (g : Going) × Contains (frames_on w h faces) g × (g.from ≡ w) × (g.iface ≡ k)
 frame_on w h k zero l = absurd (omega arith)
-frame_on w h k (suc i) l = elim (less_or_same k i (omega arith)) [
-  | inl less ↦ let (g, c, e, f) = frame_on w h k i less in (g, Contains-append_left (frames_on w h i) (last ∷ []) g c, e, f)
-  | inr same ↦ (last, Contains-push (frames_on w h i) last, refl, sym same)
+frame_on w h k (suc i) l = elim (eq-or-lt_of_le {n = k} {m = i} (omega arith)) [
+  | inl same ↦ (last, Contains-push (frames_on w h i) last, refl, sym same)
+  | inr less ↦ let (g, c, e, f) = frame_on w h k i less in (g, Contains-append_left (frames_on w h i) (last ∷ []) g c, e, f)
 ]
   where
     last : Going
     last = record { from = w; iface = i; hops = h }
-
-    less_or_same : (k i : ℕ) → k ≤ i → (k < i) ⊎ (k ≡ i)
-    less_or_same k i l = elim (cases_lt k i) [ inl less ↦ inl less | inr more ↦ inr (omega arith) ]
 
 pub frame_is : (w h faces : ℕ) (g : Going) → Contains (frames_on w h faces) g → (g.from ≡ w) × (g.hops ≡ h)
 frame_is w h zero g c = absurd (none_of g c)

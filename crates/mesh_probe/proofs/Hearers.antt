@@ -11,7 +11,7 @@ use Rattle.mesh_probe.specs.declared.coverage.Sending.{Sending}
 use Rattle.mesh_probe.specs.Flood.{is_arc_from, hearers_of}
 use Rattle.mesh_probe.specs.Hearing.{BringsTo}
 use Rattle.mesh_probe.specs.Probes.{HearsOne}
-use Rattle.mesh_atoms.proofs.Lists.{contains_tail as in_tail, contains_cases}
+use Rattle.mesh_atoms.proofs.Lists.{contains_tail as in_tail, contains_cases, contains_cond}
 
 pub hearer : (arcs : List RadioArc) (x i : ℕ) (arc : RadioArc) → Contains arcs arc → arc.from ≡ x → arc.from_iface ≡ i → Contains (hearers_of arcs x i) (arc.to, arc.to_iface)
 hearer [] x i arc c from at = absurd (omega (arith, c.1))
@@ -22,12 +22,8 @@ hearer (first ∷ arcs) x i arc c from at = elim (contains_cases first arcs arc 
       let g : is_arc_from first x i ≡ true = rw (e, f) refl in
       subst (λ (b : Bool). Contains (cond b ((first.to, first.to_iface) ∷ hearers_of arcs x i) (hearers_of arcs x i)) (arc.to, arc.to_iface)) (sym g)
       (subst (λ (a : RadioArc). Contains ((first.to, first.to_iface) ∷ hearers_of arcs x i) (a.to, a.to_iface)) same (0, omega arith, refl))
-  | inr later ↦ further (is_arc_from first x i) (first.to, first.to_iface) (hearers_of arcs x i) (arc.to, arc.to_iface) (hearer arcs x i arc later from at)
+  | inr later ↦ contains_cond (is_arc_from first x i) (first.to, first.to_iface) (arc.to, arc.to_iface) (hearers_of arcs x i) (hearer arcs x i arc later from at)
 ]
-  where
-    further : (b : Bool) (p : ℕ × ℕ) (ps : List (ℕ × ℕ)) (q : ℕ × ℕ) → Contains ps q → Contains (cond b (p ∷ ps) ps) q
-    further true p ps q c = in_tail p ps q c
-    further false p ps q c = c
 
 pub hearer_of : (arcs : List RadioArc) (x i w j : ℕ) → Contains (hearers_of arcs x i) (w, j) → (arc : RadioArc) × Contains arcs arc × (arc.from ≡ x) × (arc.from_iface ≡ i) × (arc.to ≡ w)
 hearer_of [] x i w j c = absurd (omega (arith, c.1))

@@ -1,10 +1,8 @@
 -- What is noted of a message, and what is answered to it.
 use Rattle.std.proofs.Common.{◌≡◌, ℕ, ◌+◌, ◌<◌, ◌≤◌, inl, inr, refl, sym, ◌∙◌, ap, subst, arith, List, [], length, Option, Some, None}
 use Rattle.std.specs.Prelude.{Bool, true, false, cond, nat_lt, is_some, if◌then◌else◌}
-use Rattle.std.specs.Cmp.{IsEquivalence}
 use Rattle.std.specs.Map.{keys_of}
 use Rattle.std.proofs.lemmas.Bool.{lt-ltb, cases_eq}
-use Rattle.std.proofs.lemmas.Cmp.{nat_eq_equiv, on_equiv, and_equiv}
 use Rattle.std.proofs.lemmas.Map.Entries.{length-keys_of}
 use Rattle.std.proofs.lemmas.Map.Made.{is_some-lookup}
 use Rattle.std.proofs.lemmas.Map.Steps.{length-le_from_keys}
@@ -24,6 +22,7 @@ use Rattle.mesh_flood.specs.Verdict.{key_of, if_noted, is_full, has_no_hops, for
 use Rattle.mesh_machine.specs.Messages.{forwarding}
 use Rattle.mesh_probe.specs.Laws.{IsUnknown}
 use Rattle.mesh_atoms.proofs.Options.{some_of as some_is}
+use Rattle.mesh_flood.proofs.Keys.{flood_equiv}
 
 -- Verdicts
 
@@ -85,9 +84,6 @@ is_do forward.NotSelector e = absurd (let f : false ≡ true = e in cc)
 is_do (forward.Full base) e = absurd (let f : false ≡ true = e in cc)
 
 -- Sets
-
-pub flood_equiv : IsEquivalence flood_eq
-flood_equiv = and_equiv (on_equiv (λ (k : FloodKey). k.kind) nat_eq_equiv) (and_equiv (on_equiv (λ (k : FloodKey). k.originator.0) nat_eq_equiv) (on_equiv (λ (k : FloodKey). k.sequence) nat_eq_equiv))
 
 -- a base of no more keys is no longer
 pub fewer : (old new : Base FloodKey Noted) → HasDistinctKeys flood_eq new → ((q : FloodKey) (e : Noted × ℕ) → find flood_eq new q ≡ Some e → (f : Noted × ℕ) × (find flood_eq old q ≡ Some f)) →

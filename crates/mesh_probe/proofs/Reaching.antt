@@ -18,9 +18,9 @@ use Rattle.mesh_probe.specs.declared.coverage.Probe.TheVariants.{NoNumber, Done}
 use Rattle.mesh_probe.specs.declared.coverage.Sending.{Sending}
 use Rattle.mesh_probe.specs.declared.transmission.Transmission.{Transmission}
 use Rattle.mesh_probe.specs.Laws.{AreUnknown, AreSentApart, IsUnknown, FloodReaches, FloodSendsOnce, key_of_tc, tc_key}
-use Rattle.mesh_probe.proofs.Turns.{same_state}
 use Rattle.mesh_probe.specs.Probes.{AreRoutersAt, AreReached, HasLeastNumber, IfDone, ReachesAll, SendsOnce, ProbesReach, ProbesSendOnce, TellsFlood, sending_of}
 use Rattle.mesh_atoms.proofs.Lists.{contains_map}
+use Rattle.mesh_atoms.proofs.Options.{same_some}
 
 -- What no router knows
 
@@ -54,7 +54,7 @@ mapped_apart ts apart i j d l n e =
 module _ (s : Scenario) (old new : List State) (now origin : ℕ) where
   reaches : FloodReaches → (c : Coverage) → HasLeastNumber s old origin (Done c) → TellsFlood s old now origin new (Done c) → AreReached s origin c → ReachesAll s old now origin c
   reaches law c number (heard, f, sends) reached p at settled willing enough never_full z joined other =
-      let is : p ≡ f.p = same_state origin p f.p at f.at in
+      let is : p ≡ f.p = same_some at.is f.at.is in
       let limit : length s.routers ≤ f.p.settings.times.tc_hop_limit = subst (λ (q : State). length s.routers ≤ q.settings.times.tc_hop_limit) is enough in
       let owner : OriginatorOf s origin f.tc.originator = (f.p.settings, settled.routers.settings origin f.p f.at, f.tc_is.originator) in
       let free : AreUnknown old f.tc =

@@ -52,12 +52,9 @@ use Rattle.mesh_probe.proofs.Covers.{has_first, has_later, has_cases}
 use Rattle.mesh_atoms.proofs.Values.{one_originator, addr_itself as same_eq}
 use Rattle.mesh_machine.proofs.Soundness.{same_originator}
 use Rattle.mesh_atoms.proofs.Lists.{contains_tail as in_tail, contains_cases, contains_none as none_of}
-use Rattle.mesh_atoms.proofs.Options.{true_false}
+use Rattle.mesh_atoms.proofs.Options.{true_false, same_some}
 
 -- Keys
-
-some_same : {A : Type 0} (o : Option A) (a b : A) → o ≡ Some a → o ≡ Some b → a ≡ b
-some_same o a b e f = cc
 
 pub same_key : (heading : Heading) (tc : Tc) → heading.kind ≡ 1 → heading.originator ≡ tc.originator → heading.sequence ≡ tc.sequence → key_of heading ≡ key_of_tc tc
 same_key heading tc a b c =
@@ -189,7 +186,7 @@ module _ {s : Scenario} {states : List State} {now origin : ℕ} {tc : Tc} {m : 
         own = h.own;
         is_own = h.is_own;
         heading = t.heading;
-        key = same_key t.heading tc (t.is_heading.kind ∙ G.kind) from (some_same m.sequence t.heading.sequence tc.sequence t.is_heading.sequence G.sequence);
+        key = same_key t.heading tc (t.is_heading.kind ∙ G.kind) from (same_some t.is_heading.sequence G.sequence);
         from = from;
         limit_is = t.is_heading.limit;
         count_is = t.is_heading.count;
@@ -393,9 +390,6 @@ module _ {s : Scenario} {states : List State} {now origin : ℕ} {tc : Tc} {m : 
   still_told {w = w} {old = old} v (Quiet flag nay) e = has_later w v old.told e
   still_told {w = w} {old = old} v (Sends flag nay) e = has_later w v old.told e
 
-  same_at : {xs : List State} (w : ℕ) (p q : State) → At xs w p → At xs w q → p ≡ q
-  same_at w p q a b = let e = a.is in let f = b.is in cc
-
   replaced : (cur mid : List State) (w hops : ℕ) (q0 q : State) (st : Spread) (flag : Option Bool) (sent : List Frame) → AreLike cur st → At states w q0 → BecomesAt cur w q mid →
       (d : Does w hops q0 q st flag sent) → AreLike mid d.new
   replaced cur mid w hops q0 q st flag sent like at_w replaces d = record {
@@ -403,7 +397,7 @@ module _ {s : Scenario} {states : List State} {now origin : ℕ} {tc : Tc} {m : 
     each = λ v q' at_v. elim (cases_eq v w) [
       | inl e ↦
           let here : At mid w q' = subst (λ (x : ℕ). At mid x q') e at_v in
-          let same : q ≡ q' = same_at w q q' replaces.at here in (
+          let same : q ≡ q' = same_some replaces.at.is here.is in (
             q0,
             subst (λ (x : ℕ). At states x q0) (sym e) at_w,
             subst (λ (x : ℕ). IsLike x q0 q' d.new) (sym e) (subst (λ (x : State). IsLike w q0 x d.new) same d.like),
@@ -474,7 +468,7 @@ module _ {s : Scenario} {states : List State} {now origin : ℕ} {tc : Tc} {m : 
         links = λ prem j key. refl;
         unknown = λ prem fresh. G.unknown prem w q at;
         sent = λ e. elim (has_cases origin w [] e) [
-          | inl same ↦ inl (subst (λ (x : State). IsOriginator x.settings tc.originator) (same_at origin G.first q G.at (subst (λ (x : ℕ). At states x q) same at)) G.own)
+          | inl same ↦ inl (subst (λ (x : State). IsOriginator x.settings tc.originator) (same_some G.at.is (subst (λ (x : ℕ). slice_get states x ≡ Some q) same at.is)) G.own)
           | inr nay ↦ absurd (let f : false ≡ true = nay in cc)
         ];
       },

@@ -19,6 +19,7 @@ use Rattle.mesh_wire.proofs.Standing.{get_set, get_unset}
 use Rattle.mesh_probe.specs.declared.transmission.Transmission.{Transmission}
 use Rattle.mesh_probe.specs.Flood.{is_arc_from, hearers_of, BecomesAt, AllHear, All_have_heard, Next_hears, sent_by}
 use Rattle.mesh_probe.specs.Hearing.{CanHear, IsOfInterface, HearsFrame}
+use Rattle.mesh_atoms.proofs.Options.{same_some}
 
 -- One state is replaced
 
@@ -32,16 +33,13 @@ becomes state xs w is less =
       others = λ y other. ap (λ (l : List State). slice_get l y) same ∙ get_unset (map state xs) w y (state is) (λ e. other (sym e));
     }
 
-pub same_state : {states : List State} (x : ℕ) (p q : State) → At states x p → At states x q → p ≡ q
-same_state x p q a b = let e = a.is in let f = b.is in cc
-
 module _ {s : Scenario} {now : ℕ} {old new : List State} {w : ℕ} {q : State} (b : BecomesAt old w q new) where
   pub still_can : (p : State) → At old w p → q.settings ≡ p.settings → q.last ≤ now → CanHear s old now → CanHear s new now
   still_can p at same late can = record {
     routers = record {
       settings = λ x r here. elim (cases_eq x w) [
         | inl e ↦
-            let is : q ≡ r = same_state w q r b.at (subst (λ (y : ℕ). At new y r) e here) in
+            let is : q ≡ r = same_some b.at.is (subst (λ (y : ℕ). slice_get new y ≡ Some r) e here.is) in
             let own : Router s w r.settings = subst (λ (t : RouterSettings). Router s w t) (sym same ∙ ap (λ (t : State). t.settings) is) (can.routers.settings w p at) in
             subst (λ (y : ℕ). Router s y r.settings) (sym e) own
         | inr other ↦ can.routers.settings x r (record { is = sym (b.others x other) ∙ here.is })
@@ -53,7 +51,7 @@ module _ {s : Scenario} {now : ℕ} {old new : List State} {w : ℕ} {q : State}
     };
     lasts = λ x r here. elim (cases_eq x w) [
       | inl e ↦
-          let is : q ≡ r = same_state w q r b.at (subst (λ (y : ℕ). At new y r) e here) in
+          let is : q ≡ r = same_some b.at.is (subst (λ (y : ℕ). slice_get new y ≡ Some r) e here.is) in
           subst (λ (t : State). t.last ≤ now) is late
       | inr other ↦ can.lasts x r (record { is = sym (b.others x other) ∙ here.is })
     ];
@@ -128,11 +126,8 @@ router_there s now states arc can stands =
     let (r, is, less) = arc_leads_to s arc stands in
     let (p, at) = can.routers.all arc.to r is in
     let own : Router s arc.to p.settings = can.routers.settings arc.to p at in
-    let same : r ≡ p.settings = same_settings (slice_get s.routers arc.to) r p.settings is own in
+    let same : r ≡ p.settings = same_some is own in
     (p, at, can.lasts arc.to p at, subst (λ (t : RouterSettings). arc.to_iface < length t.interfaces) same less)
-  where
-    same_settings : (o : _) (a b : RouterSettings) → o ≡ Some a → o ≡ Some b → a ≡ b
-    same_settings o a b e f = cc
 
 pub within : {A : Type 0} (state : A → State) (xs : List A) (w : ℕ) (p : State) → At (map state xs) w p → w < length xs
 within state xs w p at = let less = slice_get_within (map state xs) w p at.is in let count = length-map xs state in omega (arith, less, count)
@@ -144,4 +139,4 @@ item_at state xs i x is less = record { is = slice_get-map state xs i ∙ ap (op
 pub state_there : {A : Type 0} (state : A → State) (xs : List A) (w : ℕ) (p : State) (x : A) → At (map state xs) w p → p ≡ state (get_or xs w x)
 state_there state xs w p x at =
     let less : w < length xs = within state xs w p at in
-    same_state w p (state (get_or xs w x)) at (record { is = slice_get-map state xs w ∙ ap (option_map state) (slice_get-get_or xs w x less) })
+    same_some at.is (slice_get-map state xs w ∙ ap (option_map state) (slice_get-get_or xs w x less))

@@ -3,10 +3,8 @@ use Rattle.std.specs.Prelude.{slice_get}
 use Rattle.std.proofs.lemmas.Option.{slice_get_read, slice_get_within, slice_get-get_or}
 use Rattle.mesh_atoms.specs.declared.settings.Interface.{Interface}
 use Rattle.mesh_atoms.specs.declared.settings.RouterSettings.{RouterSettings}
+use Rattle.mesh_atoms.proofs.Options.{same_some}
 use Rattle.mesh_probe.proofs.flooding.sender_of.Goals as goal
-
-same : {A : Type 0} (o : _) (a b : A) → o ≡ Some a → o ≡ Some b → a ≡ b
-same o a b e f = cc
 
 pub returns : goal.returns
 returns c =
@@ -19,7 +17,7 @@ returns c =
     let there : router ≡ get_or routers x router = subst (λ (l : List RouterSettings). router ≡ get_or l x router) c.as_slice.ensures c.index-as_slice-frame.is in
     let here : face ≡ get_or router.interfaces i face = subst (λ (l : List Interface). face ≡ get_or l i face) c.as_slice-2.ensures c.index-as_slice-frame-2.is in
     let is : slice_get routers x ≡ Some router = slice_get_read routers (length routers) x router refl (slice_get_within routers x settings stands) there in
-    let its : settings ≡ router = same (slice_get routers x) settings router stands is in
+    let its : settings ≡ router = same_some stands is in
     let inside : i < length router.interfaces = subst (λ (r : RouterSettings). i < length r.interfaces) its less in (
       router,
       is,

@@ -1,11 +1,12 @@
-use Rattle.std.proofs.Common.{◌≡◌, inl, inr, arith, sym, ◌∙◌, subst, map, true}
+use Rattle.std.proofs.Common.{◌≡◌, inl, inr, arith, sym, ◌∙◌, subst, map, true, Some, slice_get}
 use Rattle.std.proofs.lemmas.Bool.{cases_lt, false≢true}
 use Rattle.mesh_atoms.specs.Settled.{At}
 use Rattle.mesh_atoms.specs.State.{State}
 use Rattle.mesh_flood.specs.Standing.{HasNoted}
 use Rattle.mesh_flood.specs.Verdict.{key_of}
 use Rattle.mesh_paths.proofs.Rows.{yes, no}
-use Rattle.mesh_probe.proofs.Turns.{item_at, same_state, within}
+use Rattle.mesh_probe.proofs.Turns.{item_at, within}
+use Rattle.mesh_atoms.proofs.Options.{same_some}
 use Rattle.mesh_probe.proofs.numbers.is_known.Goals as goal
 
 pub returns-then-has_noted : goal.returns-then-has_noted
@@ -24,7 +25,7 @@ loop-router-preserved g c = λ x q less at has.
       | inr past ↦
           let same : x ≡ i = omega (arith, less, past) in
           let here : At states i (state c.router-item.result) = item_at state c.args.routers.now i c.router-item.result c.router-item.is c.loop-router-test.true in
-          let is : q ≡ state c.router-item.result = same_state i q (state c.router-item.result) (subst (λ y. At states y q) same at) here in
+          let is : q ≡ state c.router-item.result = same_some (subst (λ y. slice_get states y ≡ Some q) same at.is) here.is in
           let t : c.has_noted.result ≡ true = c.has_noted.ensures.1 (subst (λ (r : State). HasNoted r.bases.noted (key_of c.args.heading.now)) is has) in
           absurd (false≢true (sym c.if-has_noted.false ∙ t))
     ]
