@@ -14,10 +14,10 @@ use Rattle.mesh_atoms.specs.declared.tuples.Base.TheVariants.{Advertisers, Route
 use Rattle.mesh_atoms.specs.AfterTc.{Becomes, Given, Left, BecomesSet, AfterTc, if_not_dropped, is_overfull, first_overfull, GivesRouter, GivesAddress, GivesNetwork}
 use Rattle.mesh_atoms.specs.Base.{Base, find, addr_eq, router_eq, address_eq, network_eq}
 use Rattle.mesh_atoms.specs.State.{TopologyBase}
-use Rattle.mesh_atoms.proofs.Lookups.{addr_equiv}
+use Rattle.mesh_atoms.proofs.Lookups.{addr_equiv, net_equiv, router_equiv, address_equiv, network_equiv}
 use Rattle.mesh_topo.specs.Sets.{AreFew}
 use Rattle.mesh_nhdp.proofs.Limits.{no_more, found_left, found_right}
-use Rattle.mesh_machine.proofs.Tables.{one_more, net_equiv, router_equiv, address_equiv, network_equiv}
+use Rattle.mesh_machine.proofs.Tables.{one_more}
 use Rattle.mesh_atoms.specs.Base.{net_eq}
 use Rattle.mesh_atoms.specs.declared.addr.NetAddr.{NetAddr}
 use Rattle.mesh_atoms.specs.declared.tuples.RouterKey.{RouterKey}

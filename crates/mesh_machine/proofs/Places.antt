@@ -4,6 +4,7 @@ use Rattle.std.specs.Prelude.{slice_get, slice_set, ◌≢◌}
 use Rattle.std.proofs.lemmas.List.Elements.{All-nil, All-cons, All-head, All-tail}
 use Rattle.std.proofs.lemmas.Option.{slice_get_cases}
 use Rattle.mesh_atoms.proofs.Lists.{get_pushed as push_at}
+pub use Rattle.mesh_atoms.proofs.Lists.{set_here}
 pub use Rattle.mesh_wire.proofs.Standing.{same_at}
 
 -- what holds at each place holds with one more item
@@ -33,13 +34,7 @@ set_at (z ∷ xs) (suc i) x (suc j) y h = elim (set_at xs i x j y h) [
   | inr (a, b) ↦ inr ((λ e. a (omega (arith, e))), b)
 ]
 
--- it stands in the other's place
-pub set_here : {A : Type 0} (xs : List A) (i : ℕ) (x y : A) → slice_get xs i ≡ Some y → slice_get (slice_set xs i x) i ≡ Some x
-set_here [] i x y h = absurd (cc)
-set_here (z ∷ xs) zero x y h = refl
-set_here (z ∷ xs) (suc i) x y h = set_here xs i x y h
-
--- and the others stay
+-- the others stay
 pub set_there : {A : Type 0} (xs : List A) (i : ℕ) (x : A) (j : ℕ) (y : A) → j ≢ i → slice_get xs j ≡ Some y → slice_get (slice_set xs i x) j ≡ Some y
 set_there [] i x j y other h = absurd (cc)
 set_there (z ∷ xs) zero x zero y other h = absurd (other refl)

@@ -12,7 +12,7 @@ use Rattle.mesh_atoms.specs.Live.{Live, LiveTopology, LiveNoted}
 use Rattle.mesh_atoms.specs.Sound.{Sound, SoundNeighbourhood, SoundTopology, SoundNoted}
 use Rattle.mesh_atoms.specs.State.{Neighbourhood, TopologyBase, NotedMessages, Bases, State, IsOriginator}
 use Rattle.mesh_atoms.specs.TakesHello.{HelloAnswer, TakesHello, Breaks, Overfull, Overfull_two_hops, Takes}
-use Rattle.mesh_atoms.proofs.Lookups.{addr_equiv}
+use Rattle.mesh_atoms.proofs.Lookups.{addr_equiv, router_equiv, address_equiv, network_equiv}
 use Rattle.mesh_topo.specs.declared.topology.TcTaken.TheVariants as taken
 use Rattle.mesh_topo.specs.Sets.{AreFew}
 use Rattle.mesh_topo.proofs.Soundness as topology
@@ -41,8 +41,9 @@ use Rattle.mesh_machine.specs.Machine.{Event, HearsPacket, Step, Heard_frame, Ti
 use Rattle.mesh_machine.specs.Messages.{ConsidersForwarding, ProcessesTc, Tc_taken, Tc_passed, TakesMessage, Hello_read, Hello_broken, Tc_read, Tc_broken, Other_passed, Other_left, TakesMessages, No_messages, First_message, is_processed}
 use Rattle.mesh_machine.proofs.Given.{tc_few}
 use Rattle.mesh_machine.specs.Laws.{SoundBases}
-use Rattle.mesh_machine.proofs.Tables.{fewer, note_fits, router_equiv, address_equiv, network_equiv, flood_equiv}
+use Rattle.mesh_machine.proofs.Tables.{fewer, note_fits}
 use Rattle.mesh_atoms.proofs.Values.{one_originator}
+use Rattle.mesh_flood.proofs.Keys.{flood_equiv}
 
 -- ---- expiry
 

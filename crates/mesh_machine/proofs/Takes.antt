@@ -1,5 +1,5 @@
 -- Messages one after the other, and where they stand.
-use Rattle.std.proofs.Common.{◌≡◌, ℕ, ◌+◌, ◌-◌, ◌≤◌, ◌<◌, zero, suc, arith, List, [], ◌∷◌, ◌++◌, length, take, Option, Some, refl, sym, ap, subst, ◌∙◌}
+use Rattle.std.proofs.Common.{◌≡◌, ℕ, ◌+◌, ◌≤◌, ◌<◌, zero, suc, arith, List, [], ◌∷◌, ◌++◌, length, take, Option, Some, refl, sym, ap, subst, ◌∙◌}
 use Rattle.std.specs.Prelude.{slice_get, slice_range}
 use Rattle.std.proofs.lemmas.Option.{none-some}
 use Rattle.std.proofs.Common.{map, get_or}
@@ -21,7 +21,7 @@ use Rattle.mesh_machine.specs.declared.frame.Frame.{Frame}
 use Rattle.mesh_machine.specs.Frames.{octets_at}
 use Rattle.mesh_machine.specs.Messages.{TakesMessage, TakesMessages, No_messages, First_message, AreSpelled}
 use Rattle.std.proofs.lemmas.List.{append_assoc, append-nil, length-append}
-use Rattle.std.proofs.Math.Seq.{drop-append_seam, take-append_seam}
+use Rattle.mesh_atoms.proofs.Lists.{middle_range}
 
 -- ---- one message more
 
@@ -35,12 +35,6 @@ takes_snoc {settings} {own} {arrival} {bytes} {old} {new = new} {more = more} {m
     subst (λ (s : List Frame). TakesMessages settings own arrival bytes old (first ∷ (messages ++ message ∷ [])) (place ∷ (spans ++ span ∷ [])) new s (its ∷ (fates ++ fate ∷ []))) (sym (append_assoc sent rest more)) (First_message one (takes_snoc span others last))
 
 -- ---- where messages stand
-
--- the part behind another one
-pub part_at : (front text rest : List ℕ) → slice_range (front ++ (text ++ rest)) (length front) (length front + length text) ≡ text
-part_at front text rest =
-    let size : (length front + length text) - length front ≡ length text = omega arith in
-    rw (size, drop-append_seam front (text ++ rest)) (take-append_seam text rest)
 
 each_cons : (bytes : List ℕ) (message : MessageFields) (span : Span) (messages : List MessageFields) (spans : List Span) → (span.start + span.len ≤ length bytes) × SpellsMessage message (octets_at bytes span) →
     AreSpelled bytes messages spans → AreSpelled bytes (message ∷ messages) (span ∷ spans)
@@ -67,7 +61,7 @@ each_spelled front (m ∷ messages) (s ∷ spans) bytes is =
     let whole : (front ++ text) ++ rest ≡ front ++ bytes = append_assoc front text rest ∙ ap (λ (b : List ℕ). front ++ b) (sym parts) in
     let there : (length front + length text ≤ length (front ++ bytes)) × SpellsMessage m (octets_at (front ++ bytes) (record { start = length front; len = length text })) = (
       let h = length-append front bytes in let k = ap (λ (b : List ℕ). length b) parts in let l = length-append text rest in omega (arith, h, k, l),
-      subst (λ (b : List ℕ). SpellsMessage m (slice_range (front ++ b) (length front) (length front + length text))) (sym parts) (subst (λ (t : List ℕ). SpellsMessage m t) (sym (part_at front text rest)) spells),
+      subst (λ (b : List ℕ). SpellsMessage m (slice_range (front ++ b) (length front) (length front + length text))) (sym parts) (subst (λ (t : List ℕ). SpellsMessage m t) (sym (middle_range front text rest)) spells),
     ) in
     each_cons (front ++ bytes) m s messages spans
     (subst (λ (t : Span). (t.start + t.len ≤ length (front ++ bytes)) × SpellsMessage m (octets_at (front ++ bytes) t)) (sym stands) there)

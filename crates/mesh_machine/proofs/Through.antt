@@ -16,8 +16,8 @@ use Rattle.mesh_machine.specs.Net.{NetState, NetStep, By_delivery, By_tick, By_l
 use Rattle.mesh_machine.specs.Traffic.{Traffic, Delivery, with_heard}
 use Rattle.mesh_machine.specs.NetRun.{NetRun, AreMachines, EndTogether, events_at}
 use Rattle.mesh_machine.proofs.Sent.{first_and_others, sent_later}
-use Rattle.mesh_machine.proofs.Places.{same_at, set_at, set_here, set_there}
-use Rattle.mesh_atoms.proofs.Lists.{item_at as stands}
+use Rattle.mesh_machine.proofs.Places.{same_at, set_at, set_there}
+use Rattle.mesh_atoms.proofs.Lists.{item_at as stands, set_here}
 
 -- Each event moves one router
 
