@@ -5,7 +5,6 @@ use Rattle.mesh_atoms.specs.State.{State}
 use Rattle.mesh_trace.specs.machine.Net.{NetState}
 use Rattle.mesh_trace.specs.machine.Traffic.{Traffic as Flights}
 use Rattle.mesh_trace.specs.Positions.Standing.{Item, with_state, with_traffic}
-use Rattle.mesh_trace.proofs.machine.Places.{set_here}
 use Rattle.mesh_replay.specs.declared.checking.case.Case.{Case}
 use Rattle.mesh_replay.specs.declared.checking.case.CheckedEvent.{CheckedEvent}
 use Rattle.mesh_replay.specs.declared.checking.case.Progress.{Progress}
@@ -14,6 +13,7 @@ use Rattle.mesh_trace.specs.Reading.Readers.{IsReaderOf}
 use Rattle.mesh_replay.specs.Checking.Cases.{MayBeIn, IsProgress, LeadsPast, StandsIn, TellsItems}
 use Rattle.mesh_replay.specs.Checking.Going.{at, Went, FitsOrStops}
 use Rattle.mesh_replay.proofs.CheckingLemmas.Going.{went_nowhere, goes_on, goes_there, goes_not}
+use Rattle.mesh_atoms.proofs.Lists.{set_here}
 
 -- ---- of one state of the router
 

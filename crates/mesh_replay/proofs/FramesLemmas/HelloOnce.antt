@@ -1,7 +1,6 @@
 -- A router has one HELLO on an interface at a moment.
-use Rattle.std.proofs.Common.{◌≡◌, ◌↔◌, ℕ, ◌≤◌, inl, inr, refl, sym, ◌∙◌, ap, subst, arith, Option, Some, None, Contains, Bool, true, false}
-use Rattle.std.specs.Prelude.{◌≢◌, IsTrue}
-use Rattle.std.proofs.lemmas.Bool.{false≢true}
+use Rattle.std.proofs.Common.{◌≡◌, ℕ, ◌≤◌, inl, inr, refl, sym, ◌∙◌, ap, subst, arith, Option, Some, None, Contains}
+use Rattle.std.specs.Prelude.{◌≢◌}
 use Rattle.mesh_atoms.specs.declared.addr.Addr4.{Addr4}
 use Rattle.mesh_atoms.specs.declared.addr.NetAddr.{NetAddr}
 use Rattle.mesh_atoms.specs.declared.codes.metric.Metric.{Metric}
@@ -18,7 +17,7 @@ use Rattle.mesh_atoms.specs.declared.tuples.LinkState.{LinkState}
 use Rattle.mesh_atoms.specs.declared.tuples.LinkState.TheVariants.{Lost as Is_lost, Symmetric as Is_symmetric, Heard as Is_heard}
 use Rattle.mesh_atoms.specs.declared.tuples.Link.{Link}
 use Rattle.mesh_atoms.specs.declared.tuples.Neighbour.{Neighbour}
-use Rattle.mesh_atoms.specs.Hello.{Other_lost, Other_symmetric, Link_in, Link_out, Near_in, Near_out, Flooding, Routing, HasLinkTo, SaysLink, Says, IsHelloRow, IsHelloNow, IsRoundedUp, local_part, link_part, other_part}
+use Rattle.mesh_atoms.specs.Hello.{Other_lost, Other_symmetric, Link_in, Link_out, Near_in, Near_out, HasLinkTo, SaysLink, Says, IsHelloRow, IsHelloNow, IsRoundedUp, local_part, link_part, other_part}
 use Rattle.mesh_atoms.specs.Nodes.{IsBefore}
 use Rattle.mesh_atoms.specs.Sound.{SoundNeighbourhood}
 use Rattle.mesh_atoms.specs.State.{State, state_of, link_at, neighbour_at, HasSymmetricWith}
@@ -30,6 +29,7 @@ use Rattle.mesh_trace.proofs.SpellingLemmas.SameRows.{same_row}
 use Rattle.mesh_atoms.proofs.Lookups.{has_found, has_found_on, addr_equiv, same_addr, link_equiv, same_link}
 use Rattle.mesh_atoms.proofs.Values.{one_originator}
 use Rattle.mesh_wire.proofs.OneHello.{same_metrics, same_mpr, hello_from, from_rows}
+use Rattle.mesh_atoms.proofs.Options.{same_answer}
 
 -- of pairs that are one
 abbrev first_or : {A : Type 0} → A → Option (A × ℕ) → A
@@ -45,12 +45,6 @@ value_once P once None None h k = refl
 value_once P once None (Some y) h k = absurd (h y k)
 value_once P once (Some x) None h k = absurd (k x h)
 value_once P once (Some x) (Some y) h k = ap (λ z. Some z) (once x y h k)
-
-bools_once : (P : Type 0) (a b : Bool) → IsTrue a ↔ P → IsTrue b ↔ P → a ≡ b
-bools_once P true true h k = refl
-bools_once P false false h k = refl
-bools_once P true false h k = absurd (false≢true (k.1 (h.0 refl)))
-bools_once P false true h k = absurd (false≢true (h.1 (k.0 refl)))
 
 row_apart : (x y : HelloRow) → IsBefore x.addr y.addr → IsBefore y.addr x.addr → ⊥
 row_apart x y (inl p) (inl q) = omega (arith, p, q)
@@ -153,7 +147,7 @@ module _ (s : State) (i now m : ℕ) (sound : SoundNeighbourhood s.settings m s.
       (value_once _ (other_once a) p.other q.other h.other k.other)
       (same_metrics p.metrics q.metrics (value_once _ (in_once a) p.metrics.link_in q.metrics.link_in h.link_in k.link_in) (value_once _ (out_once a) p.metrics.link_out q.metrics.link_out h.link_out k.link_out)
       (value_once _ (near_in_once a) p.metrics.near_in q.metrics.near_in h.near_in k.near_in) (value_once _ (near_out_once a) p.metrics.near_out q.metrics.near_out h.near_out k.near_out))
-      (same_mpr p.mpr q.mpr (bools_once (Says s i now a Flooding) p.mpr.flooding q.mpr.flooding h.flooding k.flooding) (bools_once (Says s i now a Routing) p.mpr.routing q.mpr.routing h.routing k.routing))
+      (same_mpr p.mpr q.mpr (same_answer p.mpr.flooding q.mpr.flooding h.flooding k.flooding) (same_answer p.mpr.routing q.mpr.routing h.routing k.routing))
 
   -- each row of the one is a row of the other
   row_also : (f g : Hello) → IsHelloNow s i now f → IsHelloNow s i now g → (row : HelloRow) → Contains f.rows row → Contains g.rows row

@@ -6,7 +6,7 @@ use Rattle.mesh_atoms.specs.declared.addr.Addr4.{Addr4}
 use Rattle.mesh_atoms.specs.declared.settings.RadioArc.{RadioArc}
 use Rattle.mesh_atoms.specs.declared.settings.Scenario.{Scenario}
 use Rattle.mesh_atoms.specs.State.{State}
-use Rattle.mesh_trace.proofs.machine.Places.{same_at, set_here}
+use Rattle.mesh_trace.proofs.machine.Places.{same_at}
 use Rattle.mesh_trace.specs.machine.declared.arrival.Arrival.{Arrival}
 use Rattle.mesh_trace.specs.machine.Net.{NetState, HearsNext, IsSender}
 use Rattle.mesh_trace.specs.machine.Traffic.{Delivery, with_heard}
@@ -21,6 +21,7 @@ use Rattle.mesh_trace.specs.Reading.Lines.{IsLineOf}
 use Rattle.mesh_trace.proofs.PositionsLemmas.EventsOnce.{not_tick, not_last, behind_all as behind, sender_once}
 use Rattle.mesh_replay.specs.Checking.Going.{at}
 use Rattle.mesh_replay.proofs.CheckingLemmas.Opened.{Opens}
+use Rattle.mesh_atoms.proofs.Lists.{set_here}
 
 -- ---- what is heard first is one frame
 

@@ -11,7 +11,7 @@ use Rattle.mesh_trace.specs.Positions.Events.{OpensTick, OpensEvent, By_delivery
 use Rattle.mesh_trace.specs.Positions.Leading.{LineLeads, To_event, To_item}
 use Rattle.mesh_trace.specs.Positions.Standing.{Item, TracePosition, with_state}
 use Rattle.mesh_trace.specs.Reading.Lines.{IsLineOf}
-use Rattle.mesh_trace.proofs.machine.Places.{same_at, set_here}
+use Rattle.mesh_trace.proofs.machine.Places.{same_at}
 use Rattle.mesh_trace.proofs.PositionsLemmas.EventsOnce.{due_once, not_tick, not_last, tick_not_last}
 use Rattle.mesh_texts.specs.Trace.{tick_line}
 use Rattle.mesh_replay.specs.declared.checking.case.Case.{Case}
@@ -23,6 +23,7 @@ use Rattle.mesh_replay.specs.Checking.Kept.{AreAtRest}
 use Rattle.mesh_replay.specs.Checking.Scenes.{IsTickNext, Is_due, Is_last, IsReachedNet}
 use Rattle.mesh_replay.specs.Checking.Texts.{TakesText}
 use Rattle.mesh_replay.proofs.CheckingLemmas.Opened.{Opens, opened_addresses, opened_not, opened_on, settings_same}
+use Rattle.mesh_atoms.proofs.Lists.{set_here}
 
 -- the tick that is next opens the next event
 opens_next : (net : NetState) (x now l : ℕ) (line : List ℕ) (q : TracePosition) → IsTickNext net x now l → OpensTick net x now l line q → OpensEvent net line q
