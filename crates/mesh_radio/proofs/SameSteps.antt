@@ -14,12 +14,13 @@ use Rattle.mesh_machine.specs.Net.{NetStep, By_delivery, By_tick, By_last_tick, 
 use Rattle.mesh_machine.specs.Renewal.{Renews}
 use Rattle.mesh_machine.specs.Sending.{SendsHellos, Hellos_early, Hellos_due, SendsTcs, Tcs_early, Tcs_silent, Tcs_due}
 use Rattle.mesh_machine.specs.Traffic.{Traffic}
-use Rattle.mesh_machine.proofs.Places.{same_at, set_at, set_here, set_there}
+use Rattle.mesh_machine.proofs.Places.{same_at, set_at, set_there}
 use Rattle.mesh_machine.proofs.Soundness.{step_sound}
 use Rattle.mesh_core.specs.Deferred.{IsKeptOf}
 use Rattle.mesh_radio.specs.declared.scene.Scene.{Scene}
 use Rattle.mesh_radio.specs.Scene.{AreKeptOf, AreSoundStates, net_of}
 use Rattle.mesh_radio.proofs.Keeping.{kept_through, whole_at, rest_at, dues_of, first_of}
+use Rattle.mesh_atoms.proofs.Lists.{set_here}
 
 -- One router
 
