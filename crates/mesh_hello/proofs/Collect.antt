@@ -1,12 +1,12 @@
 -- Walks over the places of a list, and what they gather.
-use Rattle.std.proofs.Common.{◌≡◌, ℕ, zero, suc, ◌+◌, ◌<◌, ◌≤◌, ◌⊎◌, ◌↔◌, inl, inr, refl, sym, ◌∙◌, ap, subst, arith, List, [], ◌∷◌, ◌++◌, length, take, Contains, slice_get, get_or, Some, None}
+use Rattle.std.proofs.Common.{◌≡◌, ℕ, zero, suc, ◌+◌, ◌<◌, ◌≤◌, ◌⊎◌, ◌↔◌, inl, inr, refl, sym, ◌∙◌, ap, subst, arith, List, [], ◌∷◌, ◌++◌, length, take, Contains, slice_get, get_or, Some}
 use Rattle.std.specs.Prelude.{Bool, true}
 use Rattle.std.specs.Cmp.{IsEquivalence}
 use Rattle.std.specs.Map.{keys_of}
 use Rattle.std.proofs.lemmas.Bool.{cases_eq}
 use Rattle.std.proofs.lemmas.List.{append_assoc, take_more, take_all}
 use Rattle.std.proofs.lemmas.List.Elements.{Contains-append_cases, Contains-append_left, Contains-append_right, Contains-push, Contains-push_cases}
-use Rattle.std.proofs.lemmas.Option.{slice_get_within, get_or_from_slice_get, slice_get_cases, none-some}
+use Rattle.std.proofs.lemmas.Option.{slice_get_within, get_or_from_slice_get, slice_get_cases, slice_get_read}
 use Rattle.std.proofs.lemmas.Map.Entries.{place_from_lookup, lookup_from_place}
 use Rattle.mesh_atoms.specs.Base.{Base, find, HasDistinctKeys}
 use Rattle.mesh_hello.specs.Gathers.{Gathers}
@@ -14,13 +14,6 @@ use Rattle.mesh_hello.specs.Gathers.{Gathers}
 -- some element below a place has the property
 abbrev pub SomeBelow : {E : Type 0} → List E → ℕ → (E → Type 0) → Type 0
 SomeBelow {E} xs n P = (k : ℕ) × (e : E) × (k < n) × (slice_get xs k ≡ Some e) × P e
-
--- something stands at each place below the length
-pub none_within : {E B : Type 0} (xs : List E) (k : ℕ) → k < length xs → slice_get xs k ≡ None → B
-none_within xs k lt none = elim ((slice_get_cases xs k).1) [
-  | inl there ↦ absurd (none-some there.0 (sym none ∙ there.2))
-  | inr past ↦ absurd (omega (arith, past.0, lt))
-]
 
 -- one more element at the end of what is taken
 pub taken_more : {E : Type 0} (xs : List E) (k : ℕ) (e : E) → slice_get xs k ≡ Some e → take (k + 1) xs ≡ take k xs ++ e ∷ []
@@ -139,22 +132,7 @@ adds_so old new P Q iff adds a = (
 
 -- an item of a walk stands at its place
 pub item_at : {E : Type 0} (xs : List E) (k : ℕ) (x : E) → k < length xs → x ≡ get_or xs k x → slice_get xs k ≡ Some x
-item_at xs k x lt is = elim ((slice_get_cases xs k).1) [
-  | inl there ↦ there.2 ∙ ap (λ y. Some y) (sym there.3 ∙ same xs k there.0 x lt (sym is))
-  | inr past ↦ absurd (omega (arith, past.0, lt))
-]
-  where
-    same : {E : Type 0} (xs : List E) (k : ℕ) (x e : E) → k < length xs → get_or xs k e ≡ e → get_or xs k x ≡ e
-    same [] k x e lt at = absurd (omega (arith, lt))
-    same (y ∷ ys) zero x e lt at = at
-    same (y ∷ ys) (suc k) x e lt at = same ys k x e (omega (arith, lt)) at
-
--- what stands at a place, at any default
-pub copied_at : {E : Type 0} (xs : List E) (k : ℕ) (d : E) → k < length xs → slice_get xs k ≡ Some (get_or xs k d)
-copied_at xs k d lt = elim ((slice_get_cases xs k).1) [
-  | inl there ↦ there.2 ∙ ap (λ y. Some y) (sym (get_or_from_slice_get xs k there.0 d there.2))
-  | inr past ↦ absurd (omega (arith, past.0, lt))
-]
+item_at xs k x lt is = slice_get_read xs (length xs) k x refl lt is
 
 pub iff_on : {A B C : Type 0} → (A ↔ B) → (B ↔ C) → A ↔ C
 iff_on f g = ((λ a. g.0 (f.0 a)), (λ c. f.1 (g.1 c)))

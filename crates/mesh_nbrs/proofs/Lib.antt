@@ -1,5 +1,5 @@
 -- Lemmas for crates above, each file with the crates that cite it.
-pub mod Summaries  -- hello
+pub mod Summaries  -- hello, nhdp
 -- Lemmas of this crate alone.
 mod ByAddress
 mod Dropping

@@ -3,7 +3,6 @@ use Rattle.std.proofs.Common.{◌≡◌, ℕ, zero, suc, ◌<◌, ◌≢◌, ◌
 use Rattle.std.specs.Prelude.{true}
 use Rattle.mesh_atoms.specs.declared.addr.Addr4.{Addr4}
 use Rattle.mesh_atoms.specs.declared.admit.Admit.{Admit}
-use Rattle.mesh_atoms.specs.declared.codes.metric.Metric.{Metric}
 use Rattle.mesh_atoms.specs.declared.tuples.LinkKey.{LinkKey}
 use Rattle.mesh_nbrs.specs.declared.neighbours.LinkNote.{LinkNote}
 use Rattle.mesh_atoms.specs.declared.tuples.Link.{Link}
@@ -12,21 +11,18 @@ use Rattle.mesh_atoms.specs.declared.tuples.Lost.{Lost}
 use Rattle.mesh_atoms.specs.Base.{Base, base_of, find, link_eq, addr_eq}
 use Rattle.mesh_atoms.specs.State.{Neighbourhood, is_symmetric}
 use Rattle.mesh_atoms.specs.Live.{HasLinkOf, HasSymmetricOf, IsByLinks, Restores, SettlesLost, Back, Gone, Stays}
-use Rattle.mesh_atoms.specs.Words.{IsLeastMetric, IsKept, IsBeyond, Meets}
+use Rattle.mesh_atoms.specs.Words.{IsKept, IsBeyond, Meets}
 use Rattle.mesh_atoms.specs.HelloTold.{Told}
 use Rattle.mesh_atoms.specs.AfterHello.{GoesOn, IsApart, IsTheirs, LinkKeptOrMade, Stood, Made, renewed, Matches, announced, BecomesOther, Joins, Remains}
 use Rattle.mesh_links.specs.Links.{EndsOutside, HearsOn}
 use Rattle.mesh_nbrs.specs.Neighbours.{HasNote, HasSymmetricNote, IsByNotes, RestoresBy, Replaces}
 use Rattle.mesh_nhdp.specs.Calls.{note_of, TellsLinks, TellsLinksOf}
-use Rattle.mesh_nhdp.proofs.HelloSound.{kept_from}
 use Rattle.mesh_atoms.proofs.Options.{same_some, none_not}
 use Rattle.mesh_atoms.proofs.Values.{contains_or_not}
+use Rattle.mesh_links.proofs.Tied.{kept_from}
+use Rattle.mesh_nbrs.proofs.Summaries.{least_same}
 
 -- Neighbours: by the notes of all links is by the links
-
-pub least_metric_iff : (P Q : Metric → Type 0) → ((m : Metric) → P m → Q m) → ((m : Metric) → Q m → P m) → (o : Option Metric) → IsLeastMetric P o → IsLeastMetric Q o
-least_metric_iff P Q to from None none = λ m q. none m (from m q)
-least_metric_iff P Q to from (Some m) least = (to m least.0, λ n q. least.1 n (from n q))
 
 module _ (near : Neighbourhood) (now : ℕ) (notes : List LinkNote) (Of : List Addr4 → Type 0)
     (told : (note : LinkNote) → Contains notes note → (i : ℕ) × (e : Link × ℕ) × (find link_eq (base_of near.links i) note.key ≡ Some e) × (note ≡ note_of now note.key e))
@@ -61,12 +57,12 @@ module _ (near : Neighbourhood) (now : ℕ) (notes : List LinkNote) (Of : List A
       λ h. let (note, has) = b.symmetric.0 h in let (link, of, _, _) = symmetric_link n.addrs note has in (link, of),
       λ h. let (note, has, _, _) = symmetric_note n.addrs its h.0 h.1 in b.symmetric.1 (note, has),
     );
-    metric_in = least_metric_iff _ _
+    metric_in = least_same n.metric_in
         (λ m h. let (note, has, is) = h in let (link, of, same, _) = symmetric_link n.addrs note has in (link, of, sym same ∙ is))
-        (λ m h. let (link, of, is) = h in let (note, has, same, _) = symmetric_note n.addrs its link of in (note, has, same ∙ is)) n.metric_in b.metric_in;
-    metric_out = least_metric_iff _ _
+        (λ m h. let (link, of, is) = h in let (note, has, same, _) = symmetric_note n.addrs its link of in (note, has, same ∙ is)) b.metric_in;
+    metric_out = least_same n.metric_out
         (λ m h. let (note, has, is) = h in let (link, of, _, same) = symmetric_link n.addrs note has in (link, of, sym same ∙ is))
-        (λ m h. let (link, of, is) = h in let (note, has, _, same) = symmetric_note n.addrs its link of in (note, has, same ∙ is)) n.metric_out b.metric_out;
+        (λ m h. let (link, of, is) = h in let (note, has, _, same) = symmetric_note n.addrs its link of in (note, has, same ∙ is)) b.metric_out;
   }
 
   restores_so : (old new : Option (Neighbour × ℕ)) → ((e : Neighbour × ℕ) → old ≡ Some e → Of e.0.addrs) → RestoresBy notes old new → Restores near now old new

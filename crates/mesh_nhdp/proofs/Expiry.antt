@@ -1,9 +1,9 @@
 -- The parts of expiry, interface by interface.
-use Rattle.std.proofs.Common.{◌≡◌, ℕ, ◌+◌, ◌<◌, ◌≤◌, ◌↔◌, inl, inr, refl, sym, ◌∙◌, ap, subst, arith, List, [], ◌∷◌, ◌++◌, length, take, drop, get_or, Contains}
+use Rattle.std.proofs.Common.{◌≡◌, ℕ, ◌+◌, ◌<◌, ◌≤◌, ◌↔◌, inl, inr, refl, sym, ◌∙◌, ap, subst, arith, List, [], ◌++◌, length, take, drop, get_or, Contains}
 use Rattle.std.specs.Prelude.{Some, slice_get}
 use Rattle.std.proofs.lemmas.Option.{slice_get_cases}
 use Rattle.std.specs.List.{IsDistinct}
-use Rattle.std.proofs.lemmas.List.{take_all, length-drop}
+use Rattle.std.proofs.lemmas.List.{take_all, length-drop, nil_from_length}
 use Rattle.mesh_atoms.specs.declared.addr.Addr4.{Addr4}
 use Rattle.mesh_atoms.specs.declared.tuples.LinkKey.{LinkKey}
 use Rattle.mesh_atoms.specs.declared.tuples.Link.{Link}
@@ -41,11 +41,7 @@ face_rule settings r i faces face faces_are same lt is =
 -- a slice of the whole of a vector is written back whole
 pub written_back : {A : Type 0} (len : ℕ) (new items : List A) → length new ≡ length items → len ≡ length items → take len (new ++ drop (length new) items) ≡ new
 written_back len new items same all =
-    ap (λ rest. take len (new ++ rest)) (none_left (drop (length new) items) (let h = length-drop (length new) items in omega (arith, h, same))) ∙ (ap (λ xs. take len xs) (append_nothing new) ∙ take_all len new (omega (arith, same, all)))
-  where
-    none_left : {A : Type 0} (xs : List A) → length xs ≡ 0 → xs ≡ []
-    none_left [] h = refl
-    none_left (x ∷ xs) h = absurd (omega (arith, h))
+    ap (λ rest. take len (new ++ rest)) (nil_from_length (drop (length new) items) (let h = length-drop (length new) items in omega (arith, h, same))) ∙ (ap (λ xs. take len xs) (append_nothing new) ∙ take_all len new (omega (arith, same, all)))
 
 -- where there is no interface
 expires_on_none : (rule : Admit) (hold now : ℕ) → ExpiresOn rule hold now [] [] [] []

@@ -19,7 +19,7 @@ use Rattle.mesh_atoms.specs.declared.settings.RouterSettings.{RouterSettings}
 use Rattle.mesh_atoms.specs.Base.{Base, find, base_of, two_hop_eq}
 use Rattle.mesh_atoms.specs.State.{Neighbourhood, is_symmetric, is_heard, link_at, two_hop_at, neighbour_at, lost_at, HasAddress}
 use Rattle.mesh_atoms.specs.Live.{trimmed, KeepsNeighbour, is_symmetric_at}
-use Rattle.mesh_atoms.specs.Words.{IsAscending, IsKept}
+use Rattle.mesh_atoms.specs.Words.{IsAscending}
 use Rattle.mesh_atoms.specs.HelloTold.{Told, Tells, IsListed, LooksAt, tells_symmetric, two_hop_of}
 use Rattle.mesh_atoms.specs.AfterHello.{AfterHello, LinkKeptOrMade, Stood, Made, renewed, by_status, by_hearing, GoesOn, Matches, announced, BecomesOther, Joins, Remains, StoodOn, Same_link, New_link, TellsTwoHop, By_row, By_none}
 use Rattle.mesh_atoms.specs.TakesHello.{IsHeld, IsFault, Local, Originator, Sender, IsFullOfAddresses, FitsTwoHops}
@@ -34,6 +34,7 @@ use Rattle.mesh_nhdp.proofs.LiveSound.{is_trimmed, restores_from, restores_to, s
 use Rattle.mesh_atoms.proofs.Lists.{contains_at}
 use Rattle.mesh_atoms.proofs.Options.{same_some, cond_none_some, none_not}
 use Rattle.mesh_atoms.proofs.Values.{same_address, contains_or_not}
+use Rattle.mesh_links.proofs.Tied.{kept_from}
 
 -- The link that the HELLO renews
 
@@ -75,12 +76,6 @@ is_renewed shown hold now e holds =
 begins_addrs : {rule : Admit} {shown : Shown} {now : ℕ} {old : Option (Link × ℕ)} {start : Link × ℕ} → LinkKeptOrMade rule shown now old start → start.0.addrs ≡ shown.sending
 begins_addrs (Stood e at same) = same
 begins_addrs (Made none) = refl
-
--- what a kept entry was
-pub kept_from : {A : Type 0} (P : A → Type 0) (old new : Option A) (e : A) → IsKept P old new → new ≡ Some e → P e × (old ≡ Some e)
-kept_from P None new e k is = none_not k is
-kept_from P (Some f) new e (inl k) is = let same : f ≡ e = same_some refl (sym k.1 ∙ is) in (subst P same k.0, ap (λ x. Some x) same)
-kept_from P (Some f) new e (inr k) is = none_not k.1 is
 
 module _ (settings : RouterSettings) (now i : ℕ) (sender : Addr4) (hello : Hello) (told : Told) (old new : Neighbourhood) (fault : IsFault settings sender hello None) (T : Tells settings i sender hello told)
     (lasts : 0 < told.shown.validity) (holds : 0 < settings.times.link_hold) (keeps : 0 < settings.times.neighbour_hold)

@@ -1,10 +1,8 @@
 -- How many rows a router advertises.
 use Rattle.std.proofs.Common.{◌≡◌, ℕ, ◌<◌, ◌≤◌, ◌⊎◌, inl, inr, refl, sym, ◌∙◌, ap, subst, arith, List, [], ◌∷◌, length, map, Contains, Bool, true, false, get_or}
 use Rattle.std.specs.Prelude.{not, AllPairs, is_some}
-use Rattle.std.specs.Cmp.{IsEquivalence}
 use Rattle.std.specs.List.{IsDistinct, filter}
 use Rattle.std.proofs.lemmas.Bool.{false≢true}
-use Rattle.std.proofs.lemmas.Cmp.{nat_eq_equiv, on_equiv, and_equiv}
 use Rattle.std.proofs.lemmas.List.{length-map, get_or-map}
 use Rattle.std.proofs.lemmas.List.Filters.{length-filter_both}
 use Rattle.std.proofs.lemmas.List.Kept.{AllPairs-filter}
@@ -20,15 +18,12 @@ use Rattle.mesh_atoms.specs.Nodes.{IsBefore}
 use Rattle.mesh_atoms.specs.Sound.{SoundNeighbourhood}
 use Rattle.mesh_atoms.specs.State.{State}
 use Rattle.mesh_atoms.specs.TakesHello.{IsHeld}
-use Rattle.mesh_atoms.proofs.Lookups.{looks_up_neighbours, same_net}
+use Rattle.mesh_atoms.proofs.Lookups.{looks_up_neighbours, same_net, net_equiv}
 use Rattle.mesh_hello.proofs.Fits.{distinct_fits}
 use Rattle.mesh_hello.proofs.SayingLemmas.RowCounts.{counted, rows_ascend, neighbour_held}
 use Rattle.mesh_atoms.proofs.Lists.{contains_filter_cases, contains_map, contains_map_cases}
 
 -- Lists
-
-net_equiv : IsEquivalence net_eq
-net_equiv = and_equiv (on_equiv (λ (a : NetAddr). a.addr.0) nat_eq_equiv) (on_equiv (λ (a : NetAddr). a.prefix) nat_eq_equiv)
 
 before_apart : (x y : NetAddr) → IsBefore x y → net_eq x y ≡ false
 before_apart x y before = by_test (net_eq x y) refl where

@@ -15,12 +15,12 @@ use Rattle.mesh_atoms.specs.HelloTold.{Told}
 use Rattle.mesh_atoms.specs.AfterHello.{GoesOn, IsTheirs, Matches}
 use Rattle.mesh_atoms.specs.Sound.{SoundNeighbourhood}
 use Rattle.mesh_nhdp.specs.Wanted.{symmetric_at}
-use Rattle.mesh_nhdp.proofs.Composes.{least_metric_iff}
-use Rattle.mesh_nhdp.proofs.HelloSound.{kept_from}
 use Rattle.mesh_nhdp.proofs.SymmetricAddresses.{symmetric_or_not}
 use Rattle.mesh_atoms.proofs.Lists.{contains_at}
 use Rattle.mesh_atoms.proofs.Options.{same_some, none_not}
 use Rattle.mesh_atoms.proofs.Values.{same_address}
+use Rattle.mesh_links.proofs.Tied.{kept_from}
+use Rattle.mesh_nbrs.proofs.Summaries.{least_same}
 
 pub and_same : (a b : Bool) → (IsTrue a → IsTrue b) → a ≡ (a && b)
 and_same true b h = sym (h refl)
@@ -99,8 +99,8 @@ module _ (settings : RouterSettings) (now i : ℕ) (told : Told) (old new : Neig
       latest = let (j, key, link, of) = b.latest in (j, key, link, has_now j key (link, e.1) of);
       no_later = λ j key link u of. b.no_later j key link u (had j key (link, u) of);
       symmetric = ((λ h. let (link, of) = b.symmetric.0 h in (link, symmetric_now link of)), (λ h. b.symmetric.1 (h.0, symmetric_then h.0 h.1)));
-      metric_in = least_metric_iff _ _ (λ m h. (h.0, symmetric_now h.0 h.1, h.2)) (λ m h. (h.0, symmetric_then h.0 h.1, h.2)) e.0.metric_in b.metric_in;
-      metric_out = least_metric_iff _ _ (λ m h. (h.0, symmetric_now h.0 h.1, h.2)) (λ m h. (h.0, symmetric_then h.0 h.1, h.2)) e.0.metric_out b.metric_out;
+      metric_in = least_same e.0.metric_in (λ m h. (h.0, symmetric_now h.0 h.1, h.2)) (λ m h. (h.0, symmetric_then h.0 h.1, h.2)) b.metric_in;
+      metric_out = least_same e.0.metric_out (λ m h. (h.0, symmetric_now h.0 h.1, h.2)) (λ m h. (h.0, symmetric_then h.0 h.1, h.2)) b.metric_out;
     }
 
     restores : Restores new now (Some e) (Some e)

@@ -24,12 +24,12 @@ use Rattle.mesh_links.specs.Links.{IsLinkUnchanged, AllStay}
 use Rattle.mesh_nhdp.specs.Staying.{LinksStay, AllIsAsItWas, ExpiresBeside}
 use Rattle.mesh_nhdp.proofs.Bases.{base_cases}
 use Rattle.mesh_nhdp.proofs.BesideWalk.{some_gone}
-use Rattle.mesh_nhdp.proofs.Composes.{least_metric_iff}
 use Rattle.mesh_nhdp.proofs.Limits.{no_more}
 use Rattle.mesh_nhdp.proofs.LiveSound.{live_sound}
 use Rattle.mesh_nhdp.proofs.SymmetricAddresses.{symmetric_or_not}
 use Rattle.mesh_nhdp.proofs.Touched.{and_same}
 use Rattle.mesh_hello.proofs.Lookups.{live_from}
+use Rattle.mesh_nbrs.proofs.Summaries.{least_same}
 
 -- A link of which nothing becomes
 
@@ -91,8 +91,8 @@ module _ (settings : RouterSettings) (last now : ℕ) (old : Neighbourhood) (S :
     latest = b.latest;
     no_later = b.no_later;
     symmetric = ((λ h. let (link, of) = b.symmetric.0 h in (link, symmetric_of n.addrs link of)), (λ h. b.symmetric.1 (h.0, symmetric_then n.addrs h.0 h.1)));
-    metric_in = least_metric_iff _ _ (λ m h. (h.0, symmetric_of n.addrs h.0 h.1, h.2)) (λ m h. (h.0, symmetric_then n.addrs h.0 h.1, h.2)) n.metric_in b.metric_in;
-    metric_out = least_metric_iff _ _ (λ m h. (h.0, symmetric_of n.addrs h.0 h.1, h.2)) (λ m h. (h.0, symmetric_then n.addrs h.0 h.1, h.2)) n.metric_out b.metric_out;
+    metric_in = least_same n.metric_in (λ m h. (h.0, symmetric_of n.addrs h.0 h.1, h.2)) (λ m h. (h.0, symmetric_then n.addrs h.0 h.1, h.2)) b.metric_in;
+    metric_out = least_same n.metric_out (λ m h. (h.0, symmetric_of n.addrs h.0 h.1, h.2)) (λ m h. (h.0, symmetric_then n.addrs h.0 h.1, h.2)) b.metric_out;
   }
 
   restores_there : (two_hops : List (Base TwoHopKey TwoHop)) (losts : Base Addr4 Lost) (o : Addr4) (e : Option (Neighbour × ℕ)) → neighbour_at old o ≡ e

@@ -1,7 +1,7 @@
 -- What rows tell as the sender's, and which HELLOs are refused for it.
 use Rattle.std.proofs.Common.{◌≡◌, ◌≢◌, ℕ, Bool, true, false, not, inl, inr, refl, sym, ap, subst, ◌∙◌}
 use Rattle.std.specs.Prelude.{IsTrue, ◌↔◌, List, Contains, Any, Some, None, Option, is_some, unwrap_or}
-use Rattle.std.proofs.lemmas.Bool.{false≢true, eq-eqb}
+use Rattle.std.proofs.lemmas.Bool.{eq-eqb}
 use Rattle.mesh_atoms.specs.declared.addr.Addr4.{Addr4}
 use Rattle.mesh_atoms.specs.declared.addr.NetAddr.{NetAddr}
 use Rattle.mesh_atoms.specs.declared.hello.LocalIf.{LocalIf}
@@ -129,10 +129,6 @@ beyond a first b e = (
   by_test : (t : Bool) → addr_eq a first ≡ t → (a ≢ first) → b ≡ true
   by_test true is ne = absurd (ne (same_addr a first is))
   by_test false is ne = cc
-
--- a test that fails is of nothing
-pub fails_so : {P : Type 0} (b : Bool) → (IsTrue b ↔ P) → b ≡ false → P → ⊥
-fails_so b tells is h = false≢true (sym is ∙ tells.1 h)
 
 negated : (b : Bool) → false ≡ not b → b ≡ true
 negated true e = refl

@@ -1,7 +1,7 @@
 use Rattle.std.proofs.Common.{ap, sym, ◌∙◌, ◌++◌, arith}
-use Rattle.mesh_hello.proofs.Collect.{keys_all, keys_put, none_within}
+use Rattle.mesh_hello.proofs.Collect.{keys_all, keys_put}
 use Rattle.mesh_hello.proofs.lists.put_table_keys.Goals as goal
-use Rattle.mesh_atoms.proofs.Lists.{append_nothing}
+use Rattle.mesh_atoms.proofs.Lists.{append_nothing, none_within}
 
 pub loop-place-init : goal.loop-place-init
 loop-place-init g c = sym (append_nothing c.args.keys.now.items)
@@ -12,7 +12,7 @@ loop-place-preserved g c =
     (sym c.in-Some.ensures) c.loop-place.invariant c.in_ok-push-in-Some.ensures.items
 
 pub returns-in-None : goal.returns-in-None
-returns-in-None g c = none_within (g.T.Table.content c.args.table.now) c.loop-place.place (omega arith) (sym c.in-None.ensures)
+returns-in-None g c = none_within (g.T.Table.content c.args.table.now) c.loop-place.place (omega arith) c.in-None.ensures
 
 pub returns : goal.returns
 returns g c = c.loop-place.invariant ∙ ap (λ ks. c.args.keys.now.items ++ ks) (keys_all (g.T.Table.content c.args.table.now) c.loop-place.place (omega arith))

@@ -2,8 +2,8 @@ use Rattle.std.proofs.Common.{◌≡◌, length, subst, arith}
 use Rattle.mesh_atoms.specs.Base.{find, two_hop_eq}
 use Rattle.mesh_atoms.specs.Words.{IsKept}
 use Rattle.mesh_nhdp.specs.Calls.{is_symmetric_in}
-use Rattle.mesh_hello.proofs.Collect.{copied_at}
 use Rattle.mesh_nhdp.proofs.Ends.{IsEndedBelow, ended_more, ended_none, ended_all}
+use Rattle.std.proofs.lemmas.Option.{slice_get-get_or}
 use Rattle.mesh_nhdp.proofs.drops.drop_ended.Goals as goal
 
 pub loop-key-init : goal.loop-key-init
@@ -11,7 +11,7 @@ loop-key-init g c q = ended_none c.args.keys.now (is_symmetric_in c.args.links.n
 
 pub loop-key-preserved : goal.loop-key-preserved
 loop-key-preserved g c q =
-    ended_more c.args.keys.now (is_symmetric_in c.args.links.now c.args.now) c.loop-key.key-index _ q.link (copied_at c.args.keys.now c.loop-key.key-index _ (omega arith)) (find two_hop_eq c.args.two_hops.now q)
+    ended_more c.args.keys.now (is_symmetric_in c.args.links.now c.args.now) c.loop-key.key-index _ q.link (slice_get-get_or c.args.keys.now c.loop-key.key-index _ (omega arith)) (find two_hop_eq c.args.two_hops.now q)
     (find two_hop_eq c.loop-key.two_hops q) _ (c.loop-key.invariant q) (c.drop_if_ended.ensures q)
 
 pub returns : goal.returns

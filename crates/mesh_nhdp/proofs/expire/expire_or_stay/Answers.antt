@@ -1,8 +1,7 @@
-use Rattle.mesh_hello.proofs.ToldLemmas.Local.{fails_so}
 use Rattle.mesh_nhdp.specs.NhdpState.{near_with}
 use Rattle.mesh_nhdp.proofs.Unchanged.{as_it_was, beside_live, beside_sound}
 use Rattle.std.proofs.Common.{refl}
-use Rattle.std.proofs.lemmas.Bool.{false≢true}
+use Rattle.std.proofs.lemmas.Bool.{false≢true, iff_false}
 use Rattle.mesh_nhdp.proofs.expire.expire_or_stay.Goals as goal
 
 pub are_links_unchanged-requires-clause-now : goal.are_links_unchanged-requires-clause-now
@@ -45,4 +44,4 @@ pub returns-in_ok-expire_all-clause-same : goal.returns-in_ok-expire_all-clause-
 returns-in_ok-expire_all-clause-same g c same = absurd (false≢true same)
 
 pub returns-in_ok-expire_all-clause-when : goal.returns-in_ok-expire_all-clause-when
-returns-in_ok-expire_all-clause-when g c = ((λ same. absurd (false≢true same)), (λ all. absurd (fails_so _ c.are_links_unchanged.ensures c.if-are_links_unchanged.false all.links)))
+returns-in_ok-expire_all-clause-when g c = ((λ same. absurd (false≢true same)), (λ all. absurd (iff_false c.are_links_unchanged.ensures c.if-are_links_unchanged.false all.links)))

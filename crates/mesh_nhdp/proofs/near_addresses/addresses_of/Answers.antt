@@ -1,13 +1,14 @@
 use Rattle.std.proofs.Common.{◌≡◌, ℕ, ◌↔◌, length, Contains, subst, arith}
 use Rattle.mesh_atoms.specs.declared.addr.Addr4.{Addr4}
 use Rattle.mesh_nhdp.specs.Wanted.{IsWantedAt}
-use Rattle.mesh_hello.proofs.Collect.{gathers_more, below_contains, copied_at, iff_on, SomeBelow}
+use Rattle.mesh_hello.proofs.Collect.{gathers_more, below_contains, iff_on, SomeBelow}
+use Rattle.std.proofs.lemmas.Option.{slice_get-get_or}
 use Rattle.mesh_nhdp.proofs.near_addresses.addresses_of.Goals as goal
 
 pub loop-originator-preserved : goal.loop-originator-preserved
 loop-originator-preserved g c =
     gathers_more c.args.originators.now (λ o a. IsWantedAt (g.T.Table.content c.args.table.now) c.args.wanted o a) c.loop-originator.originator-index _ _ _
-    (copied_at c.args.originators.now c.loop-originator.originator-index _ (omega arith)) c.loop-originator.invariant c.in_ok-add_wanted_at.ensures
+    (slice_get-get_or c.args.originators.now c.loop-originator.originator-index _ (omega arith)) c.loop-originator.invariant c.in_ok-add_wanted_at.ensures
 
 pub returns : goal.returns
 returns g c a =

@@ -5,11 +5,12 @@ use Rattle.mesh_atoms.specs.Base.{Base}
 use Rattle.mesh_atoms.proofs.Lookups.{link_equiv, same_link}
 use Rattle.mesh_nbrs.specs.declared.neighbours.LinkNote.{LinkNote}
 use Rattle.mesh_nhdp.specs.Calls.{note_of}
-use Rattle.mesh_hello.proofs.Collect.{SomeBelow, adds_more, adds_one, adds_so, none_within, found_below, below_found}
+use Rattle.mesh_hello.proofs.Collect.{SomeBelow, adds_more, adds_one, adds_so, found_below, below_found}
+use Rattle.mesh_atoms.proofs.Lists.{none_within}
 use Rattle.mesh_nhdp.proofs.notes.add_notes.Goals as goal
 
 pub returns-in-None : goal.returns-in-None
-returns-in-None g c = none_within (g.T.Table.content c.args.table.now) c.loop-place.place (omega arith) (sym c.in-None.ensures)
+returns-in-None g c = none_within (g.T.Table.content c.args.table.now) c.loop-place.place (omega arith) c.in-None.ensures
 
 pub loop-place-preserved : goal.loop-place-preserved
 loop-place-preserved g c =

@@ -1,5 +1,4 @@
-use Rattle.std.proofs.Common.{◌≡◌, ◌<◌, refl, sym, subst, Bool, true, false}
-use Rattle.std.specs.Prelude.{not}
+use Rattle.std.proofs.Common.{◌<◌, refl, sym, subst}
 use Rattle.mesh_atoms.specs.TakesHello.{Taken, Broken_at, Breaks, Takes}
 use Rattle.mesh_hello.specs.Told.Telling.{told_of}
 use Rattle.mesh_nhdp.specs.declared.judge.HelloCheck.{HelloCheck}
@@ -8,11 +7,8 @@ use Rattle.mesh_nhdp.specs.NhdpState.{near_with}
 use Rattle.mesh_nhdp.proofs.Judges.{own_at, overfull, taken_sound}
 use Rattle.mesh_nhdp.proofs.RowsRepeat.{both_true}
 use Rattle.mesh_nhdp.proofs.RepeatsLaw.{repeats_same, unchanged_same}
+use Rattle.mesh_atoms.proofs.Options.{not_false}
 use Rattle.mesh_nhdp.proofs.take.take_in.Goals as goal
-
-not_false : (b : Bool) → not b ≡ false → b ≡ true
-not_false true h = refl
-not_false false h = sym h
 
 pub judge-requires-clause-iface : goal.judge-requires-clause-iface
 judge-requires-clause-iface g c = c.requires.iface

@@ -3,10 +3,10 @@ use Rattle.std.proofs.lemmas.List.{take_all}
 use Rattle.mesh_atoms.specs.declared.addr.Addr4.{Addr4}
 use Rattle.mesh_atoms.specs.declared.hello.HelloRow.{HelloRow}
 use Rattle.mesh_atoms.specs.Base.{host}
-use Rattle.mesh_hello.proofs.Collect.{copied_at}
 use Rattle.mesh_hello.proofs.SayingLemmas.Message.{addrs_more, rows_more}
 use Rattle.mesh_hello.proofs.saying.rows.rows_of.Goals as goal
 use Rattle.mesh_atoms.proofs.Lists.{contains_at}
+use Rattle.std.proofs.lemmas.Option.{slice_get-get_or}
 
 pub loop-addr-init : goal.loop-addr-init
 loop-addr-init g c = record {
@@ -18,11 +18,11 @@ pub row_of-requires-clause-apart : goal.row_of-requires-clause-apart
 row_of-requires-clause-apart g c = c.requires.apart
 
 pub row_of-requires-clause-said : goal.row_of-requires-clause-said
-row_of-requires-clause-said g c = c.requires.said _ (contains_at c.args.addrs.now c.loop-addr.addr-index _ (copied_at c.args.addrs.now c.loop-addr.addr-index _ (omega arith)))
+row_of-requires-clause-said g c = c.requires.said _ (contains_at c.args.addrs.now c.loop-addr.addr-index _ (slice_get-get_or c.args.addrs.now c.loop-addr.addr-index _ (omega arith)))
 
 pub loop-addr-preserved : goal.loop-addr-preserved
 loop-addr-preserved g c = record {
-  addrs = addrs_more c.loop-addr.rows _ c.args.addrs.now c.loop-addr.addr-index c.row_of.result _ (copied_at c.args.addrs.now c.loop-addr.addr-index _ (omega arith)) c.in_ok-push.ensures.ok c.row_of.ensures.addr c.loop-addr.invariant.addrs;
+  addrs = addrs_more c.loop-addr.rows _ c.args.addrs.now c.loop-addr.addr-index c.row_of.result _ (slice_get-get_or c.args.addrs.now c.loop-addr.addr-index _ (omega arith)) c.in_ok-push.ensures.ok c.row_of.ensures.addr c.loop-addr.invariant.addrs;
   says = rows_more _ c.loop-addr.rows _ c.row_of.result c.in_ok-push.ensures.ok (_, c.row_of.ensures.says) c.loop-addr.invariant.says;
 }
 

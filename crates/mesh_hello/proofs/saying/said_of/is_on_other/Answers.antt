@@ -1,7 +1,6 @@
 use Rattle.std.proofs.Common.{refl, arith, below_more}
-use Rattle.std.proofs.lemmas.Bool.{false≢true}
+use Rattle.std.proofs.lemmas.Bool.{false≢true, iff_false}
 use Rattle.std.proofs.lemmas.Option.{slice_get_within}
-use Rattle.mesh_hello.proofs.ToldLemmas.Local.{fails_so}
 use Rattle.mesh_hello.proofs.saying.said_of.is_on_other.Goals as goal
 use Rattle.mesh_hello.proofs.saying.said_of.is_on_other.Goals.{else-place-iface-via-then-place-iface+else-is_on, else-place-iface-via-else-place-iface}
 
@@ -10,7 +9,7 @@ returns-then-is_on c = ((λ h. (c.loop-place.place, c.if-place-iface.true, c.is_
 
 pub loop-place-preserved : goal.loop-place-preserved
 loop-place-preserved c = below_more _ _ c.loop-place.invariant (elim c.else-place-iface.branch [
-  | else-place-iface-via-then-place-iface+else-is_on w ↦ λ ne has. fails_so _ w.is_on.ensures w.if-is_on.false has
+  | else-place-iface-via-then-place-iface+else-is_on w ↦ λ ne has. iff_false w.is_on.ensures w.if-is_on.false has
   | else-place-iface-via-else-place-iface w ↦ λ ne has. ne w.if-place-iface.false
 ])
 
