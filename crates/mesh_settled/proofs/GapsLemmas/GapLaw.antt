@@ -43,12 +43,11 @@ use Rattle.mesh_settled.specs.Gaps.Joints.{all_addresses}
 use Rattle.mesh_settled.specs.Gaps.Network.{IsNetwork}
 use Rattle.mesh_settled.specs.Gaps.Law.{NoGapIsSettled}
 use Rattle.mesh_settled.proofs.GapsLemmas.FaceLemmas.{end_has_least}
-use Rattle.mesh_settled.proofs.GapsLemmas.LinkLemmas.{same_flags}
 use Rattle.mesh_settled.proofs.GapsLemmas.MetricLemmas.{has_metric}
 use Rattle.mesh_settled.proofs.GapsLemmas.ShownLemmas.{shows_flooding, shows_routing}
 use Rattle.mesh_settled.proofs.GapsLemmas.Sides.{all_self, all_sym}
 use Rattle.mesh_atoms.proofs.Values.{one_originator}
-use Rattle.mesh_atoms.proofs.Options.{some_equal as some_nat, same_some}
+use Rattle.mesh_atoms.proofs.Options.{some_equal as some_nat, same_some, same_answer}
 
 -- Values that fields tell
 
@@ -121,7 +120,7 @@ module _ (s : Scenario) (graph : RadioGraph) (states : List State) (now x : ℕ)
       (
         ap known_cost (is.link_out ∙ sym is'.link_out),
         (
-          ap (λ (b : Bool). Some (cond b 1 0)) (same_flags t.selector t'.selector is.selector is'.selector),
+          ap (λ (b : Bool). Some (cond b 1 0)) (same_answer t.selector t'.selector is.selector is'.selector),
           tt,
         ),
       ),
@@ -158,7 +157,7 @@ module _ (s : Scenario) (graph : RadioGraph) (states : List State) (now x : ℕ)
         (
           ap known_cost is.metric_out ∙ (ap (λ (v : ℕ). Some v) (equal_values there there' m m') ∙ ap known_cost (sym is'.metric_out)),
           (
-            ap (λ (b : Bool). Some (cond b 1 0)) (same_flags t.selector t'.selector (is.selector 0) (is'.selector 0)),
+            ap (λ (b : Bool). Some (cond b 1 0)) (same_answer t.selector t'.selector (is.selector 0) (is'.selector 0)),
             tt,
           ),
         ),

@@ -38,7 +38,7 @@ use Rattle.mesh_settled.specs.Gaps.Links.{symmetric_fields, held_fields, given_f
 use Rattle.mesh_settled.proofs.GapsLemmas.JointLemmas.{same_state, no_state}
 use Rattle.mesh_settled.proofs.GapsLemmas.Leasts.{least_as, least_one, least_all, least_lesser}
 use Rattle.mesh_settled.proofs.GapsLemmas.Sides.{all_self, tested}
-use Rattle.mesh_atoms.proofs.Options.{same_some}
+use Rattle.mesh_atoms.proofs.Options.{same_some, same_answer}
 use Rattle.mesh_atoms.proofs.Lists.{place_of as place_in}
 
 module _ (p : State) (now i : ℕ) (key : LinkKey) (distinct : HasDistinctKeys link_eq (base_of p.bases.neighbourhood.links i)) where
@@ -69,12 +69,6 @@ module _ (p : State) (now i : ℕ) (key : LinkKey) (distinct : HasDistinctKeys l
   held_side = by_found stands refl
 
 -- Links that are given
-
-pub same_flags : {X : Type 0} (a b : Bool) → IsTrue a ↔ X → IsTrue b ↔ X → a ≡ b
-same_flags true true f h = refl
-same_flags true false f h = absurd (false≢true (h.1 (f.0 refl)))
-same_flags false true f h = absurd (false≢true (f.1 (h.0 refl)))
-same_flags false false f h = refl
 
 module _ (s : Scenario) (graph : RadioGraph) (states : List State) (now x : ℕ) (p : State) (net : IsNetwork s graph states now) where
   module _ (i : ℕ) (key : LinkKey) where
@@ -130,7 +124,7 @@ module _ (s : Scenario) (graph : RadioGraph) (states : List State) (now x : ℕ)
                   (
                     ap known_cost (is'.link_out ∙ ap (λ (m : Metric). Some m) (there_is ∙ sym by.link_out)),
                     (
-                      ap (λ (b : Bool). Some (cond b 1 0)) (same_flags t.selector g.selector is'.selector by.selector),
+                      ap (λ (b : Bool). Some (cond b 1 0)) (same_answer t.selector g.selector is'.selector by.selector),
                       tt,
                     ),
                   ),

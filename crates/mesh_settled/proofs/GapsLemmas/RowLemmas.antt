@@ -1,7 +1,7 @@
 -- The rows of a router's TC, and what they say.
 use Rattle.std.proofs.Common.{◌≡◌, ℕ, ◌<◌, inl, inr, arith, refl, sym, ◌∙◌, ap, subst, length, List, Option, Some, None, Bool, true, false, cond, slice_get, get_or, nat_eq}
 use Rattle.std.specs.Prelude.{◌↔◌, IsTrue, ◌&&◌, not, Contains, option_map, AllPairs}
-use Rattle.std.proofs.lemmas.Bool.{false≢true, eq-eqb, cases_eq, cases_lt, and_parts as both}
+use Rattle.std.proofs.lemmas.Bool.{false≢true, eq-eqb, cases_eq, cases_lt, and_parts as both, and_from}
 use Rattle.std.proofs.lemmas.Option.{none-some, get_or_from_slice_get}
 use Rattle.mesh_atoms.specs.declared.addr.Addr4.{Addr4}
 use Rattle.mesh_atoms.specs.declared.addr.NetAddr.{NetAddr}
@@ -22,18 +22,14 @@ use Rattle.mesh_settled.specs.Gaps.Joints.{IsOfSome}
 use Rattle.mesh_settled.specs.Gaps.Peers.{IsValueOf}
 use Rattle.mesh_settled.specs.Gaps.Topics.{dest_of, is_row_of, claim_by, claim_if, key_at, IsClaimBy}
 use Rattle.mesh_atoms.proofs.Values.{not_before_itself}
-use Rattle.mesh_atoms.proofs.Options.{same_some}
+use Rattle.mesh_atoms.proofs.Options.{same_some, cond_none_some}
 use Rattle.mesh_atoms.proofs.Lists.{place_of as place_in}
 use Rattle.mesh_paths.proofs.Rows.{no as never}
 
 -- Whether a row is_row_of
 
 net_self : (net : NetAddr) → net_eq net net ≡ true
-net_self net = by_case (nat_eq net.addr.0 net.addr.0) (nat_eq net.prefix net.prefix) (eq-eqb net.addr.0 net.addr.0 refl) (eq-eqb net.prefix net.prefix refl)
-  where
-    by_case : (a b : Bool) → a ≡ true → b ≡ true → (a && b) ≡ true
-    by_case true b e f = f
-    by_case false b e f = e
+net_self net = and_from (nat_eq net.addr.0 net.addr.0) (nat_eq net.prefix net.prefix) (eq-eqb net.addr.0 net.addr.0 refl) (eq-eqb net.prefix net.prefix refl)
 
 fits_flag : (b : Bool) (net : NetAddr) → b ≡ true → (b && net_eq net net) ≡ true
 fits_flag true net e = net_self net
@@ -59,10 +55,6 @@ says ansn row m d has gateway = ap (λ (o : Option Metric). option_map (λ n. cl
 
 claim_is : (ansn : ℕ) (row : TcRow) (t : Claim) (m : Metric) (d : Option ℕ) → claim_by ansn row ≡ Some t → row.metric ≡ Some m → row.gateway ≡ d → t ≡ claim ansn m d
 claim_is ansn row t m d e has gateway = same_some e (says ansn row m d has gateway)
-
-if_some : (b : Bool) (x : Option Claim) (t : Claim) → cond b x None ≡ Some t → (b ≡ true) × (x ≡ Some t)
-if_some true x t e = (refl, e)
-if_some false x t e = absurd (none-some t e)
 
 some_if : (b : Bool) (x : Option Claim) (t : Claim) → b ≡ true → x ≡ Some t → cond b x None ≡ Some t
 some_if true x t e f = f
@@ -179,7 +171,7 @@ module _ (q : State) (sound : Sound q) where
       IsValueOf (IsClaimBy q topic from net) o
   claim_found from origin topic net None none = λ t w. let r = of_row from topic net t w in none t (r.0, r.1.0, some_if (is_row_of topic net r.0) (claim_by q.ansn r.0) t r.1.1 r.1.2)
   claim_found from origin topic net (Some t) (row, has, is) =
-      let (fit, says_it) = if_some (is_row_of topic net row) (claim_by q.ansn row) t is in (
+      let (fit, says_it) = cond_none_some (is_row_of topic net row) (claim_by q.ansn row) t is in (
         by_row from origin topic net row t ((sound.rows.exactly row).0 has) fit says_it,
         λ u w.
             let r = of_row from topic net u w in
