@@ -1,6 +1,5 @@
 -- The states at the end of a run of a network are those of its scenario's routers, in order, and they are a network's at one moment.
-use Rattle.std.proofs.Common.{◌≡◌, ℕ, List, [], ◌∷◌, length, map, Some, inl, inr, refl, sym, ap, ◌∙◌, subst, arith, length-set}
-use Rattle.std.specs.Prelude.{slice_get}
+use Rattle.std.proofs.Common.{◌≡◌, ℕ, List, [], ◌∷◌, length, map, inl, inr, refl, sym, ap, ◌∙◌, subst, arith, length-set}
 use Rattle.std.proofs.lemmas.Option.{slice_get_within, slice_get_cases}
 use Rattle.mesh_atoms.specs.declared.graphs.RadioGraph.{RadioGraph}
 use Rattle.mesh_atoms.specs.declared.settings.RouterSettings.{RouterSettings}
@@ -12,6 +11,7 @@ use Rattle.mesh_settled.specs.machine.declared.frame.Frame.{Frame}
 use Rattle.mesh_settled.specs.machine.Machine.{Event, Step, Heard_frame, Ticked, Steps, No_events, First_event, Run}
 use Rattle.mesh_settled.proofs.machine.Effects.{hears_settings}
 use Rattle.mesh_atoms.specs.declared.network.NetEvent.{NetEvent}
+use Rattle.mesh_atoms.proofs.Options.{same_some}
 use Rattle.mesh_settled.specs.machine.Net.{NetState, NetStep, By_delivery, By_tick, By_last_tick, Moves, event_of, frames_of}
 use Rattle.mesh_settled.specs.machine.Traffic.{Traffic, with_heard}
 use Rattle.mesh_settled.specs.machine.NetRun.{NetRun, events_at}
@@ -56,9 +56,6 @@ run_count old (event ∷ events) new (mid, step, run) = run_count mid events new
 pub routers_are_runs : (s : Scenario) (run : WholeRun s) → RoutersAreRuns run
 routers_are_runs s run = are_machines s run.opening run.events run.final run.is_opening run.runs
 
-one_state : (states : List State) (x : ℕ) (a b : State) → slice_get states x ≡ Some a → slice_get states x ≡ Some b → a ≡ b
-one_state states x a b e f = cc
-
 pub run_states : (s : Scenario) (run : WholeRun s) → AreStates s run.final.routers
 run_states s run = record { settings = settings; all = all } where
   all : (x : ℕ) (r : RouterSettings) → Router s x r → (p : State) × At run.final.routers x p
@@ -69,7 +66,7 @@ run_states s run = record { settings = settings; all = all } where
     | inl there ↦
         let (r, _, is, _) = there in
         let end = routers_are_runs s run x r is in
-        let same = one_state run.final.routers x end.0 p end.1 at.is in
+        let same = same_some {a = end.0} {b = p} end.1 at.is in
         subst (λ (q : RouterSettings). Router s x q) (sym (run_settings r (map event_of (events_at x run.events)) (map frames_of (events_at x run.events)) end.0 end.2) ∙ ap (λ (q : State). q.settings) same) is
     | inr past ↦ absurd (
         let within = slice_get_within run.final.routers x p at.is in

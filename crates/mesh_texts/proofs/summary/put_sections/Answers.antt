@@ -1,13 +1,14 @@
 use Rattle.std.proofs.Common.{◌≡◌, [], ◌++◌, drop, refl, arith, append_assoc}
 use Rattle.std.proofs.lemmas.List.{append-nil, drop_all}
 use Rattle.mesh_atoms.specs.Sound.{Sound}
+use Rattle.mesh_atoms.proofs.Lists.{all_read}
 use Rattle.mesh_settled.proofs.machine.tlv.Grows.{grows_on}
-use Rattle.mesh_texts.proofs.States.{next_state, state_has}
+use Rattle.mesh_texts.proofs.States.{next_state}
 use Rattle.mesh_texts.proofs.summary.put_sections.Goals as goal
 
 pub put_section-requires : goal.put_section-requires
 put_section-requires g c =
-    state_has Sound g.R.RouterView.state c.args.routers.now c.loop-router.router-index c.router-item.result c.requires c.loop-router-test.true c.router-item.is
+    all_read g.R.RouterView.state Sound c.args.routers.now c.loop-router.router-index c.router-item.result c.requires c.loop-router-test.true c.router-item.is
 
 pub loop-router-preserved : goal.loop-router-preserved
 loop-router-preserved g c =
