@@ -4,17 +4,15 @@ use Rattle.std.proofs.lemmas.List.{drop-drop, length-drop, take_all}
 use Rattle.mesh_trace.specs.Reading.Lines.{lines_of}
 use Rattle.std.specs.Prelude.{Option, Some, None, IfSome, IsNone}
 use Rattle.std.specs.Borrow.{Bor}
+use Rattle.mesh_atoms.proofs.Lists.{heads_equal}
 use Rattle.mesh_trace.specs.declared.reading.Reader.{Reader}
 use Rattle.mesh_trace.specs.Reading.Readers.{lines_from, IsRest}
-
-pub same_line : (a b : List ℕ) (xs ys : List (List ℕ)) → a ∷ xs ≡ b ∷ ys → a ≡ b
-same_line a b xs ys e = cc
 
 pub rest_is : (trace : List ℕ) (reader : Reader) (front line : List ℕ) (more : List (List ℕ)) (result : Option (Bor (List ℕ))) → front ≡ reader.text →
     lines_from trace reader.at ≡ line ∷ more → IfSome result (λ rest. line ≡ front ++ rest.now) →
     (IsNone result → (rest : List ℕ) → line ≡ front ++ rest → ⊥) → IsRest trace reader result
 rest_is trace reader front line more None text here some none = λ other rest lines there same.
-    none refl rest (same_line line other more lines (sym here ∙ there) ∙ (same ∙ ap (λ (l : List ℕ). l ++ rest) (sym text)))
+    none refl rest (heads_equal line other more lines (sym here ∙ there) ∙ (same ∙ ap (λ (l : List ℕ). l ++ rest) (sym text)))
 rest_is trace reader front line more (Some rest) text here some none =
     (more, here ∙ ap (λ (l : List ℕ). l ∷ more) (some ∙ ap (λ (l : List ℕ). l ++ rest.now) text))
 

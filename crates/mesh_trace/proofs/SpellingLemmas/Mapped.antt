@@ -6,6 +6,7 @@ use Rattle.std.proofs.lemmas.List.Elements.{All-contains}
 use Rattle.std.proofs.lemmas.Option.{slice_get_within, slice_get-get_or}
 use Rattle.std.proofs.lemmas.Bool.{ltb-true, ltb-false}
 use Rattle.mesh_atoms.proofs.Lists.{contains_at, contains_map as mapped, contains_map_cases as unmapped}
+use Rattle.mesh_atoms.proofs.Options.{some_equal}
 
 -- the item at a place, as an index gives it
 pub item_at : {X : Type 0} (xs : List X) (i : ℕ) (x : X) → i < length xs → x ≡ slice_index_or xs i x → slice_get xs i ≡ Some x
@@ -22,12 +23,9 @@ module _ {X : Type 0} (P : ℕ → X → Type 0) (xs : List X) where
   pub before_more : (i : ℕ) (x : X) → slice_get xs i ≡ Some x → P i x → HoldsBefore i → HoldsBefore (i + 1)
   before_more i x here holds before j y lt is = elim (lt_or_eq j i (omega (arith, lt))) [
     | inl less ↦ before j y less is
-    | inr same ↦ subst (λ (n : ℕ). P n y) (sym same) (subst (P i) (some_same x y (sym here ∙ ap (slice_get xs) (sym same) ∙ is)) holds)
+    | inr same ↦ subst (λ (n : ℕ). P n y) (sym same) (subst (P i) (some_equal x y (sym here ∙ ap (slice_get xs) (sym same) ∙ is)) holds)
   ]
     where
-      some_same : (a b : X) → Some a ≡ Some b → a ≡ b
-      some_same a b e = cc
-
       lt_or_eq : (a b : ℕ) → a ≤ b → (a < b) ⊎ (a ≡ b)
       lt_or_eq a b le = at (ltb a b) refl where
         at : (t : Bool) → ltb a b ≡ t → (a < b) ⊎ (a ≡ b)

@@ -2,6 +2,7 @@
 use Rattle.std.proofs.Common.{◌≡◌, ℕ, ◌+◌, ◌<◌, Bool, List, [], ◌∷◌, ◌++◌, length, refl, sym, ap, subst, ◌∙◌, arith, append_assoc}
 use Rattle.std.specs.Prelude.{slice_range, slice_index, slice_index_or, IsTrue, ◌↔◌}
 use Rattle.mesh_atoms.proofs.Reading.{text_is, Stands, stands_next, behind}
+use Rattle.mesh_atoms.proofs.Lists.{heads_equal}
 use Rattle.mesh_packet.specs.declared.packet.Span.{Span}
 use Rattle.mesh_packet.specs.Fields.{MessageFields, PacketFields}
 use Rattle.mesh_packet.specs.Grammar.{SpellsMessage, Spells}
@@ -33,9 +34,6 @@ alone_spans packet m spans s none bytes e count at is =
     let same : spans ≡ s ∷ [] = one_span spans none one ∙ ap (λ (p : Span). p ∷ []) (sym at) in
     subst (λ (ss : List Span). Spells (alone m) ss bytes) same (subst (λ (p : PacketFields). Spells p spans bytes) e is)
 
-first_of : {A : Type 0} (a b : A) → a ∷ [] ≡ b ∷ [] → a ≡ b
-first_of a b e = cc
-
 module _ (Says : MessageFields → Type 0) (bytes : List ℕ) where
   -- the octets are a packet of one message alone of which that is true
   abbrev pub IsSole : Type 0
@@ -50,8 +48,8 @@ module _ (Says : MessageFields → Type 0) (bytes : List ℕ) where
     λ sole.
         let (n, only, says) = sole in
         let same = one_packet bytes (alone m) (alone n) (s ∷ []) (only.span ∷ []) is only.spelled in
-        let messages : m ≡ n = first_of m n (ap (λ (p : PacketFields). p.messages) same.0) in
-        let spans : s ≡ only.span = first_of s only.span same.1 in
+        let messages : m ≡ n = heads_equal m n [] [] (ap (λ (p : PacketFields). p.messages) same.0) in
+        let spans : s ≡ only.span = heads_equal s only.span [] [] same.1 in
         let told = subst (λ (o : MessageFields). (text : List ℕ) (spelled : SpellsMessage o text) → slice_range bytes s.start (s.start + s.len) ≡ text → IsTrue answer ↔ (Says o × HasBriefBlocks spelled)) messages tells in
         let there = ap (λ (p : Span). slice_range bytes p.start (p.start + p.len)) spans ∙ stands_alone n only.span bytes only.spelled in
         (told only.spelled.messages_is.0 only.spelled.messages_is.2 there).1 (says, only.brief),

@@ -1,6 +1,6 @@
 use Rattle.std.proofs.Common.{ℕ, ◌+◌, List, length, map, refl, sym, ap, subst, ◌∙◌, arith}
 use Rattle.std.specs.Prelude.{slice_range, IsTrue, ◌↔◌}
-use Rattle.mesh_addr.proofs.Writable.{if_ok}
+use Rattle.std.proofs.lemmas.Result.{IfOk-weaker}
 use Rattle.mesh_packet.specs.declared.packet.Block.{Block}
 use Rattle.mesh_packet.specs.Fields.{fields_of_block, fields_of_message}
 use Rattle.mesh_packet.specs.Grammar.{SpellsPair}
@@ -35,7 +35,7 @@ returns c =
     let start = c.args.span.start in
     let end = start + c.args.span.len in
     let size = c.size_before.ensures in
-    if_ok c.are_brief.result _ _ (λ yes iff text is e.
+    IfOk-weaker c.are_brief.result _ _ (λ yes iff text is e.
     let t = tlvs_there m c.args.frame.now start end text is c.requires.end (omega arith) e in
     let there = ap (λ (n : ℕ). slice_range c.args.frame.now (start + n) end) size ∙ t.1 in
     let place = c.in_ok-at.ensures m.tlvs is.body_is.tlvs is.body_is.blocks is.body_is.tlvs_is there ∙ ap (λ (n : ℕ). start + n + length is.body_is.tlvs) size in

@@ -1,6 +1,6 @@
 use Rattle.std.proofs.Common.{List, refl, ap, arith, slice_index_or}
 use Rattle.std.proofs.lemmas.Bool.{false≢true}
-use Rattle.mesh_addr.proofs.Writable.{if_ok}
+use Rattle.std.proofs.lemmas.Result.{IfOk-weaker}
 use Rattle.mesh_packet.specs.declared.packet.Span.{Span}
 use Rattle.mesh_packet.specs.Fields.{MessageFields, PacketFields, fields_of_message, fields_of_packet}
 use Rattle.mesh_trace.specs.Spelling.Looks.{SaysHello}
@@ -18,7 +18,7 @@ returns-in-Some c =
     let none : Span = record { start = 0; len = 0 } in
     let s : Span = slice_index_or c.as_slice.result.now 0 none in
     let is = alone_spans packet m spans s none bytes c.in-Some.ensures.some c.requires.placed.same (ap (λ (l : List Span). slice_index_or l 0 none) c.as_slice.ensures) c.requires.value in
-    if_ok c.tells_hello.result _ _ (λ yes tells.
+    IfOk-weaker c.tells_hello.result _ _ (λ yes tells.
     let iff = sole_is (SaysHello hello) bytes yes m s is (λ i. omega (arith, c.type_inv.bytes i)) tells in
     (λ y. writes_of hello bytes (iff.0 y), λ w. iff.1 (sole_of hello bytes w))) c.tells_hello.ensures
 
