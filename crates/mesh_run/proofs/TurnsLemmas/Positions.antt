@@ -1,5 +1,5 @@
 -- What was done from one position to another, and then more.
-use Rattle.std.proofs.Common.{◌≡◌, ℕ, ◌+◌, ◌-◌, ◌^◌, ◌<◌, ◌≤◌, min, max, List, [], ◌++◌, ◌∷◌, Option, Some, refl, sym, ap, subst, ◌∙◌, append_assoc, arith, cond, Result, Ok, Err, OnErr, nat_le}
+use Rattle.std.proofs.Common.{◌≡◌, ℕ, ◌+◌, ◌-◌, ◌^◌, ◌<◌, ◌≤◌, min, max, List, [], ◌++◌, ◌∷◌, Option, Some, refl, sym, ap, subst, ◌∙◌, append_assoc, arith, cond, nat_le}
 use Rattle.std.proofs.lemmas.List.{append-nil, length-append}
 use Rattle.std.proofs.lemmas.Bool.{le-leb, lt-leb}
 use Rattle.mesh_atoms.specs.declared.addr.Addr4.{Addr4}
@@ -14,14 +14,6 @@ use Rattle.mesh_run.specs.Turns.Turns.RunsTurns.{Stays, Then_begins, Then_listen
 use Rattle.mesh_run.specs.Turns.Turns.CameToNothing.{A_moment, An_ear}
 use Rattle.mesh_run.specs.Turns.Parts.{Acts, HearsInterface, HearsInVain, Going, Broken, Turning, Stopped, at, counted}
 use Rattle.mesh_run.proofs.TurnsLemmas.Tellings.{tells_nothing, tells_more, counted_nothing, counted_more}
-
-pub on_err : {A E : Type 0} {P Q : Type 0} (r : Result A E) → (P → Q) → OnErr r P → OnErr r Q
-on_err (Ok x) f p = tt
-on_err (Err e) f p = f p
-
-pub on_err_of : {A E : Type 0} {P : Type 0} (r : Result A E) → P → OnErr r P
-on_err_of (Ok x) p = tt
-on_err_of (Err e) p = p
 
 -- What an interface hears
 
