@@ -1,9 +1,10 @@
 -- The scenario that an input states has one list of names.
-use Rattle.std.proofs.Common.{◌≡◌, ℕ, zero, suc, List, [], ◌∷◌, Ok, refl, sym, ap, ◌∙◌, subst}
+use Rattle.std.proofs.Common.{◌≡◌, ℕ, zero, suc, List, [], ◌∷◌, refl, sym, ap, ◌∙◌, subst}
 use Rattle.std.specs.Prelude.{codes}
 use Rattle.toml.specs.Data.{Data, Members}
 use Rattle.mesh_atoms.specs.declared.settings.RouterSettings.{RouterSettings}
 use Rattle.mesh_atoms.specs.declared.settings.Scenario.{Scenario}
+use Rattle.mesh_atoms.proofs.Options.{same_ok}
 use Rattle.mesh_config.specs.Settings.{RouterSays}
 use Rattle.mesh_emulate.specs.Emulation.{States}
 use Rattle.mesh_emulate.specs.Wants.{Wants, HasName, IsNamed, IsUnknownName, FirstUnknown, Of_send, Of_probe}
@@ -11,13 +12,7 @@ use Rattle.mesh_config.specs.Stated.Router.{name}
 use Rattle.mesh_config.specs.Stated.Scenario.{sub_times, routers}
 use Rattle.mesh_config.specs.Stated.Tables.{Each, table_of}
 use Rattle.mesh_config.specs.Keys.Document.{document}
-use Rattle.mesh_config.specs.Keys.Faults.{ReadValue, listed}
-
-same_name : (read : ReadValue (List ℕ)) (a b : List ℕ) → read ≡ Ok a → read ≡ Ok b → a ≡ b
-same_name read a b e f = cc
-
-same_table : (read : ReadValue Members) (a b : Members) → read ≡ Ok a → read ≡ Ok b → a ≡ b
-same_table read a b e f = cc
+use Rattle.mesh_config.specs.Keys.Faults.{listed}
 
 -- of two readings of the same tables, each router has the same name in both
 named_in_both : (times times' : Members) (ds : List Data) (rs qs : List RouterSettings) → Each (RouterSays times) ds rs → Each (RouterSays times') ds qs →
@@ -27,7 +22,7 @@ named_in_both times times' [] (s ∷ rs) qs each each' wanted x has = absurd eac
 named_in_both times times' (d ∷ ds) (s ∷ rs) [] each each' wanted x has = absurd each'
 named_in_both times times' (d ∷ ds) (s ∷ rs) (q ∷ qs) each each' wanted zero (r, at, is) =
     let same : s ≡ r = cc in
-    (q, refl, same_name (name (table_of d)) q.name s.name each'.0.are_fields.is_name each.0.are_fields.is_name ∙ ap (λ (k : RouterSettings). k.name) same ∙ is)
+    (q, refl, same_ok {r = name (table_of d)} {a = q.name} {b = s.name} each'.0.are_fields.is_name each.0.are_fields.is_name ∙ ap (λ (k : RouterSettings). k.name) same ∙ is)
 named_in_both times times' (d ∷ ds) (s ∷ rs) (q ∷ qs) each each' wanted (suc x) (r, at, is) =
     named_in_both times times' ds rs qs each.1 each'.1 wanted x (r, at, is)
 
@@ -35,7 +30,7 @@ pub named_as : (input : List ℕ) (s t : Scenario) → States input s → States
 named_as input s t is it wanted x named =
     let (table, (read, says)) = is.says in
     let (table', (read', says')) = it.says in
-    let same : table ≡ table' = same_table (document input) table table' read read' in
+    let same : table ≡ table' = same_ok {r = document input} {a = table} {b = table'} read read' in
     named_in_both (sub_times table) (sub_times table') (listed (routers table)) s.routers t.routers says.are_routers
     (subst (λ (m : Members). Each (RouterSays (sub_times table')) (listed (routers m)) t.routers) (sym same) says'.are_routers) wanted x named
 

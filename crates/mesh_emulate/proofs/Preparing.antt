@@ -1,11 +1,12 @@
 -- What is known before the first event, from its parts.
-use Rattle.std.proofs.Common.{◌≡◌, ◌<◌, ℕ, true, false, List, length, get_or, Option, Some, None, sym, ap, ◌∙◌, subst}
-use Rattle.std.specs.Prelude.{IfSome, slice_get, codes}
+use Rattle.std.proofs.Common.{◌≡◌, refl, ◌<◌, ℕ, true, false, List, length, get_or, Option, Some, None, sym, ap, ◌∙◌, subst}
+use Rattle.std.specs.Prelude.{IfSome, codes}
 use Rattle.std.specs.Cmp.Lexicographic.{bytes_decides}
-use Rattle.std.proofs.lemmas.Option.{slice_get_within, slice_get-get_or}
+use Rattle.std.proofs.lemmas.Option.{slice_get_within, slice_get_read}
 use Rattle.mesh_atoms.specs.declared.settings.RouterSettings.{RouterSettings}
 use Rattle.mesh_atoms.specs.declared.settings.Scenario.{Scenario}
 use Rattle.mesh_atoms.specs.Settings.{name_eq}
+use Rattle.mesh_atoms.proofs.Options.{same_some}
 use Rattle.mesh_config.specs.Settings.{FirstRefusal}
 use Rattle.mesh_emulate.specs.declared.wanted.Departure.{Departure}
 use Rattle.mesh_emulate.specs.declared.wanted.Errand.{Errand}
@@ -78,21 +79,14 @@ name_refused input wants s e stated is =
 
 -- Names
 
-router_at : (routers : List RouterSettings) (x : ℕ) (router : RouterSettings) → router ≡ get_or routers x router → x < length routers →
-    slice_get routers x ≡ Some router
-router_at routers x router is within = slice_get-get_or routers x router within ∙ ap (λ (r : RouterSettings). Some r) (sym is)
-
 pub named_here : (routers : List RouterSettings) (name : List ℕ) (x : ℕ) (router : RouterSettings) → router ≡ get_or routers x router → x < length routers →
     name_eq name router.name ≡ true → HasName routers name x
-named_here routers name x router is within same = (router, router_at routers x router is within, sym ((bytes_decides name router.name).0 same))
-
-one_router : (routers : List RouterSettings) (x : ℕ) (a b : RouterSettings) → slice_get routers x ≡ Some a → slice_get routers x ≡ Some b → a ≡ b
-one_router routers x a b e f = cc
+named_here routers name x router is within same = (router, slice_get_read routers (length routers) x router refl within is, sym ((bytes_decides name router.name).0 same))
 
 pub named_otherwise : (routers : List RouterSettings) (name : List ℕ) (x : ℕ) (router : RouterSettings) → router ≡ get_or routers x router → x < length routers →
     name_eq name router.name ≡ false → HasName routers name x → ⊥
 named_otherwise routers name x router is within other (r, at, same) =
-    let here : r ≡ router = one_router routers x r router at (router_at routers x router is within) in
+    let here : r ≡ router = same_some at (slice_get_read routers (length routers) x router refl within is) in
     let yes : name_eq name router.name ≡ true = (bytes_decides name router.name).1 (sym same ∙ ap (λ (q : RouterSettings). q.name) here) in
     let e : true ≡ false = sym yes ∙ other in
     cc

@@ -11,7 +11,7 @@ use Rattle.mesh_atoms.specs.State.{State}
 use Rattle.mesh_config.proofs.Builds.{map-then}
 use Rattle.mesh_emulate.specs.Making.Made.{Reached}
 use Rattle.mesh_emulate.specs.Making.Routes.{metrics_of}
-use Rattle.mesh_atoms.proofs.Lists.{contains_map_cases as from_map, all_pairs_tail, contains_map}
+use Rattle.mesh_atoms.proofs.Lists.{contains_map_cases as from_map, all_pairs_tail, contains_map, all_pairs_head}
 
 abbrev pub reached_by : ℕ → Route → Reached
 reached_by x r = record { router = x; dest = r.dest; metric = r.metric }
@@ -74,9 +74,6 @@ apart_first x xs others all zero (suc j) d less within = others (get_or xs j d) 
 apart_first x xs others all (suc i) zero d less within = absurd (omega (arith, less))
 apart_first x xs others all (suc i) (suc j) d less within = all i j d (omega (arith, less)) (omega (arith, within))
 
-pairs_first : {A : Type 0} (R : A → A → Type 0) (x : A) (xs : List A) (y : A) → AllPairs R (x ∷ xs) → Contains xs y → R x y
-pairs_first R x xs y all (k, within, is) = subst (R x) is (all 0 (suc k) y (omega arith) (omega (arith, within)))
-
 apart_both : {A : Type 0} (xs ys : List A) → AllPairs (λ a b. a ≢ b) xs → AllPairs (λ a b. a ≢ b) ys →
     ((x y : A) → Contains xs x → Contains ys y → x ≢ y) → AllPairs (λ a b. a ≢ b) (xs ++ ys)
 apart_both [] ys one two cross = two
@@ -84,7 +81,7 @@ apart_both {A} (x ∷ xs) ys one two cross =
     let rest = apart_both xs ys (all_pairs_tail (λ (a b : A). a ≢ b) x xs one) two (λ a b within. cross a b (suc within.0, omega (arith, within.1), within.2)) in
     apart_first x (xs ++ ys)
     (λ y within. elim (Contains-append_cases xs ys y within) [
-      | inl here ↦ pairs_first (λ (a b : A). a ≢ b) x xs y one here
+      | inl here ↦ all_pairs_head (λ (a b : A). a ≢ b) x xs one y here
       | inr there ↦ cross x y (0, omega arith, refl) there
     ]) rest
 
@@ -100,7 +97,7 @@ one_router_apart x (r ∷ rows) ordered =
     (λ q within same.
     let found = from_map (reached_by x) rows q within in
     let dest : r.dest ≡ found.0.dest = ap (λ (y : Reached). y.dest) (same ∙ sym found.2) in
-    not_before r.dest found.0.dest (pairs_first (λ (a b : Route). IsBefore a.dest b.dest) r rows found.0 ordered found.1) dest)
+    not_before r.dest found.0.dest (all_pairs_head (λ (a b : Route). IsBefore a.dest b.dest) r rows ordered found.0 found.1) dest)
     (one_router_apart x rows (all_pairs_tail (λ (a b : Route). IsBefore a.dest b.dest) r rows ordered))
 
 pub all_apart : (i : ℕ) (ps : List State) → ((j : ℕ) (p : State) → slice_get ps j ≡ Some p →
