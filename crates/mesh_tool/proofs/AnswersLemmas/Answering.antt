@@ -2,7 +2,7 @@
 use Rattle.std.proofs.Common.{◌≡◌, ℕ, ◌+◌, ◌<◌, ◌≤◌, ◌⊎◌, inl, inr, List, [], length, Option, Some, None, Result, Ok, Err, Bool, refl, sym, subst, arith}
 use Rattle.std.specs.Prelude.{IsErr, codes}
 use Rattle.mesh_atoms.specs.declared.addr.Addr4.{Addr4}
-use Rattle.mesh_atoms.proofs.Options.{none_not}
+use Rattle.mesh_atoms.proofs.Options.{none_not, same_ok}
 use Rattle.mesh_config.specs.RunSettings.{run_refusals, FirstRunRefusal}
 use Rattle.mesh_dump.specs.Dump.{IsDumpText}
 use Rattle.mesh_emulate.specs.Emulation.{Emulation, IsRefused}
@@ -32,9 +32,6 @@ use Rattle.mesh_tool.specs.Words.Words.{words_of}
 use Rattle.mesh_tool.proofs.AnswersLemmas.Reads.{works_within, works_short, whole_input, long_not_taken}
 
 -- ---- the job that the words ask for is one, or none
-
-same_job : (r : Result Job ℕ) (a b : Job) → r ≡ Ok a → r ≡ Ok b → a ≡ b
-same_job r a b h k = cc
 
 none_asked : (r : Result Job ℕ) (j : Job) → IsErr r → r ≡ Ok j → ⊥
 none_asked (Ok i) j err h = cc
@@ -115,7 +112,7 @@ no_done (Turns_spent turns greatest end octets asks works spends keeps) same = c
 no_done (Want_of_memory j asks stops) same = cc
 
 whole_finishes : (call : Call) {answer : Status} (j : Job) → Whole call answer → answer ≡ status.Done → Asks call j → Finishes call j 0
-whole_finishes call j (All_well i asked fin) same asks = subst (λ (k : Job). Finishes call k 0) (same_job (words_of call.words) i j asked asks) fin
+whole_finishes call j (All_well i asked fin) same asks = subst (λ (k : Job). Finishes call k 0) (same_ok {r = words_of call.words} {a = i} {b = j} asked asks) fin
 whole_finishes call j (Some_refused recode refused asked some fin) same asks = let bad : ⊥ = cc in absurd bad
 whole_finishes call j (Is_no_run octets line asked works is stands) same asks = let bad : ⊥ = cc in absurd bad
 
@@ -179,7 +176,7 @@ refusal_told : {call : Call} {answer : Status} {line : List ℕ} → FaultLine c
 refusal_told (Wrong_words err reads keeps) same asks stands = let bad : ⊥ = cc in absurd bad
 refusal_told (Read_fault j asked rose keeps) same asks stands = let bad : ⊥ = cc in absurd bad
 refusal_told {call} (Refusal number key j asked refuses keeps) same asks stands =
-    (number, key, subst (λ (k : Job). Refuses k call number key) (same_job (words_of call.words) j job.Replay asked asks) refuses, keeps, stands)
+    (number, key, subst (λ (k : Job). Refuses k call number key) (same_ok {r = words_of call.words} {a = j} {b = job.Replay} asked asks) refuses, keeps, stands)
 refusal_told (Attach_fault turns interface octets asked works fails rose keeps) same asks stands = let bad : ⊥ = cc in absurd bad
 refusal_told (Turns_spent turns greatest end octets asked works spends keeps) same asks stands = let bad : ⊥ = cc in absurd bad
 refusal_told (Want_of_memory j asked stops) same asks stands = let bad : ⊥ = cc in absurd bad
@@ -219,7 +216,7 @@ made_reads call how kind routers seed (Worked octets works did) = works.1
 unread : (call : Call) (how : Ending) → Does call how → (kind : Kind) (routers seed : ℕ) → Asks call (job.Make kind routers seed) → ReadsNothing call.input
 unread call how (No_command is err reads keeps air) kind routers seed asks = reads
 unread call how (Did j asked did) kind routers seed asks =
-    made_reads call how kind routers seed (subst (λ (k : Job). DoesJob k call how) (same_job (words_of call.words) j (job.Make kind routers seed) asked asks) did)
+    made_reads call how kind routers seed (subst (λ (k : Job). DoesJob k call how) (same_ok {r = words_of call.words} {a = j} {b = job.Make kind routers seed} asked asks) did)
 
 told_or_failed : (err : SinkUse) (line : List ℕ) (due answer : Status) → TellsLine err line due answer → (answer ≡ due) ⊎ (answer ≡ status.Write)
 told_or_failed err line due answer (inl (same, stands)) = inl same
@@ -242,7 +239,7 @@ one_too_many : (call : Call) (how : Ending) (answer : Status) → Does call how 
     → (j : Job) (most : ℕ) → Asks call j → (command_in call j).most ≡ Some most → call.input.taken' ≡ call.input.taken + (most + 1) → (answer ≡ status.Refused) ⊎ (answer ≡ status.Write)
 one_too_many call how answer (No_command is err reads keeps air) tells j most asks limit long = absurd (none_asked (words_of call.words) j err asks)
 one_too_many call how answer (Did i asked did) tells j most asks limit long =
-    long_input call how answer j most (subst (λ (k : Job). DoesJob k call how) (same_job (words_of call.words) i j asked asks) did) tells limit long
+    long_input call how answer j most (subst (λ (k : Job). DoesJob k call how) (same_ok {r = words_of call.words} {a = i} {b = j} asked asks) did) tells limit long
 
 -- ---- what is refused is not done
 
@@ -256,7 +253,7 @@ clear_not_refused octets all number key same clear refused =
 long_works : (call : Call) (j : Job) (most : ℕ) (all : List ℕ) → Asks call j → (command_in call j).most ≡ Some most → call.input.left ≡ Some all → most < length all →
     (i : Job) (octets : List ℕ) → Asks call i → WorksOn i call octets → ⊥
 long_works call j most all asks limit is long i octets asked works =
-    works_short (command_in call j).most most call.input octets all limit (subst (λ (k : Job). WorksOn k call octets) (same_job (words_of call.words) i j asked asks) works) is long
+    works_short (command_in call j).most most call.input octets all limit (subst (λ (k : Job). WorksOn k call octets) (same_ok {r = words_of call.words} {a = i} {b = j} asked asks) works) is long
 
 whole_not_long : {call : Call} {answer : Status} → Whole call answer → ((i : Job) (octets : List ℕ) → Asks call i → WorksOn i call octets → ⊥) → ⊥
 whole_not_long (All_well i asked fin) none = none i fin.octets asked fin.works_on
@@ -298,19 +295,19 @@ not_refused call j refused all number key fin is refuses = refuses
 
 whole_not_refused : {call : Call} {answer : Status} (j : Job) (all : List ℕ) (number : ℕ) (key : List ℕ) → Whole call answer → Asks call j → call.input.left ≡ Some all → (command_in call j).refuses all number key → ⊥
 whole_not_refused {call} j all number key (All_well i asked fin) asks is refuses =
-    not_refused call j 0 all number key (subst (λ (k : Job). Finishes call k 0) (same_job (words_of call.words) i j asked asks) fin) is refuses
+    not_refused call j 0 all number key (subst (λ (k : Job). Finishes call k 0) (same_ok {r = words_of call.words} {a = i} {b = j} asked asks) fin) is refuses
 whole_not_refused {call} j all number key (Some_refused recode refused asked some fin) asks is refuses =
-    not_refused call j refused all number key (subst (λ (k : Job). Finishes call k refused) (same_job (words_of call.words) (job.Dump recode) j asked asks) fin) is refuses
+    not_refused call j refused all number key (subst (λ (k : Job). Finishes call k refused) (same_ok {r = words_of call.words} {a = job.Dump recode} {b = j} asked asks) fin) is refuses
 whole_not_refused {call} j all number key (Is_no_run octets line asked works replays stands) asks is refuses =
     answered_not_refused call octets all (No line) number key works replays is
-    (subst (λ (k : Job). (command_in call k).refuses all number key) (same_job (words_of call.words) j job.Replay asks asked) refuses)
+    (subst (λ (k : Job). (command_in call k).refuses all number key) (same_ok {r = words_of call.words} {a = j} {b = job.Replay} asks asked) refuses)
 
 -- nor are the octets of a router that is run
 run_not_refused : (call : Call) (turns : ℕ) (j : Job) (octets all : List ℕ) (number : ℕ) (key : List ℕ) → Asks call (job.Run turns) → Asks call j → IsInput 1048576 call.input octets → call.input.left ≡ Some all →
     first (run_refusals octets) ≡ None → (command_in call j).refuses all number key → ⊥
 run_not_refused call turns j octets all number key asked asks works is clear refused =
     clear_not_refused octets all number key (whole_input all is works) clear
-    (subst (λ (k : Job). (command_in call k).refuses all number key) (same_job (words_of call.words) j (job.Run turns) asks asked) refused)
+    (subst (λ (k : Job). (command_in call k).refuses all number key) (same_ok {r = words_of call.words} {a = j} {b = job.Run turns} asks asked) refused)
 
 refusal_due : {call : Call} {answer : Status} {line : List ℕ} (j : Job) (all : List ℕ) (number : ℕ) (key : List ℕ) → FaultLine call answer line → Asks call j → call.input.left ≡ Some all →
     (command_in call j).refuses all number key → (Rose call.input.faults call.input.faults' → ⊥)
@@ -351,7 +348,7 @@ takes_all call number key j takes (By_rule octets works refused) = takes_rule (c
 attached_all : (call : Call) (turns : ℕ) (j : Job) (interface : ℕ) (octets : List ℕ) → Asks call (job.Run turns) → Asks call j → TakesInput j call → IsInput 1048576 call.input octets →
     FailsToAttach octets interface call.air.told → ⊥
 attached_all call turns j interface octets asked asks takes works fails =
-    let (all, is, few, takes_octets) = subst (λ (k : Job). TakesInput k call) (same_job (words_of call.words) j (job.Run turns) asks asked) takes in
+    let (all, is, few, takes_octets) = subst (λ (k : Job). TakesInput k call) (same_ok {r = words_of call.words} {a = j} {b = job.Run turns} asks asked) takes in
     let stated : StatesSetup all fails.setup = subst (λ (o : List ℕ). StatesSetup o fails.setup) (whole_input all is works) fails.stated in
     omega (arith, takes_octets.1 fails.setup stated, fails.is_attached.attached, fails.fewer)
 
@@ -360,7 +357,7 @@ memory_due : {call : Call} {answer : Status} {line : List ℕ} (j : Job) → Fau
 memory_due {call} j (Wrong_words err reads keeps) asks input takes calm = absurd (none_asked (words_of call.words) j err asks)
 memory_due j (Read_fault i asked rose keeps) asks input takes calm = absurd (calm rose)
 memory_due {call} j (Refusal number key i asked refused keeps) asks input takes calm =
-    absurd (takes number key (subst (λ (k : Job). Refuses k call number key) (same_job (words_of call.words) i j asked asks) refused))
+    absurd (takes number key (subst (λ (k : Job). Refuses k call number key) (same_ok {r = words_of call.words} {a = i} {b = j} asked asks) refused))
 memory_due {call} j (Attach_fault turns interface octets asked works fails rose keeps) asks input takes calm = absurd (attached_all call turns j interface octets asked asks input works fails)
 memory_due j (Turns_spent turns greatest end octets asked works spends keeps) asks input takes calm = inl refl
 memory_due j (Want_of_memory i asked stops) asks input takes calm = inr refl
@@ -372,7 +369,7 @@ IsThrough j answer = (answer ≡ status.Done) ⊎ ((answer ≡ status.Packets) �
 whole_status : {call : Call} {answer : Status} (j : Job) → Asks call j → Whole call answer → IsThrough j answer
 whole_status j asks (All_well i asked fin) = inl refl
 whole_status j asks (Some_refused recode refused asked some fin) = inr (inl refl)
-whole_status {call} j asks (Is_no_run octets line asked works is stands) = inr (inr (inr (inl (refl, same_job (words_of call.words) j job.Replay asks asked))))
+whole_status {call} j asks (Is_no_run octets line asked works is stands) = inr (inr (inr (inl (refl, same_ok {r = words_of call.words} {a = j} {b = job.Replay} asks asked))))
 
 due_status : (j : Job) (answer : Status) → (answer ≡ status.Turns) ⊎ (answer ≡ status.Memory) → IsThrough j answer
 due_status j answer (inl turns) = inr (inr (inl turns))
@@ -396,7 +393,7 @@ hands_worked call how turns (Worked octets works (leaves, inr runs)) = inr (octe
 hands : (call : Call) (how : Ending) → Does call how → (turns : ℕ) → Asks call (job.Run turns) → UsesNoAir call.air ⊎ ((octets : List ℕ) × IsInput 1048576 call.input octets × RunsSoFar octets turns call.air.told)
 hands call how (No_command is err reads keeps air) turns asks = inl air
 hands call how (Did j asked did) turns asks =
-    hands_worked call how turns (subst (λ (k : Job). DoesJob k call how) (same_job (words_of call.words) j (job.Run turns) asked asks) did)
+    hands_worked call how turns (subst (λ (k : Job). DoesJob k call how) (same_ok {r = words_of call.words} {a = j} {b = job.Run turns} asked asks) did)
 
 airless_worked : (call : Call) (how : Ending) (j : Job) → DoesJob j call how → ((turns : ℕ) → j ≡ job.Run turns → ⊥) → UsesNoAir call.air
 airless_worked call how j (Unread most is stops keeps air) other = air
@@ -406,7 +403,7 @@ airless_worked call how j (Worked octets works did) other = did.1
 airless : (call : Call) (how : Ending) → Does call how → (j : Job) → Asks call j → ((turns : ℕ) → j ≡ job.Run turns → ⊥) → UsesNoAir call.air
 airless call how (No_command is err reads keeps air) j asks other = air
 airless call how (Did i asked did) j asks other =
-    airless_worked call how j (subst (λ (k : Job). DoesJob k call how) (same_job (words_of call.words) i j asked asks) did) other
+    airless_worked call how j (subst (λ (k : Job). DoesJob k call how) (same_ok {r = words_of call.words} {a = i} {b = j} asked asks) did) other
 
 no_words_airless : (call : Call) (how : Ending) → Does call how → IsErr (words_of call.words) → UsesNoAir call.air
 no_words_airless call how (No_command is err reads keeps air) wrong = air

@@ -1,5 +1,5 @@
 -- The options of `emulate` of a scenario that is read: asked for, and read.
-use Rattle.std.proofs.Common.{◌≡◌, ℕ, zero, suc, ◌+◌, ◌≤◌, ◌⊎◌, inl, inr, List, [], ◌∷◌, ◌++◌, length, Option, Some, None, Result, Ok, Bool, true, false, not, ◌&&◌, cond, refl, sym, ap, subst, ◌∙◌, arith}
+use Rattle.std.proofs.Common.{◌≡◌, ℕ, zero, suc, ◌+◌, ◌≤◌, ◌⊎◌, inl, inr, List, [], ◌∷◌, ◌++◌, length, Option, Some, None, Result, Ok, Bool, true, false, not, ◌&&◌, refl, sym, ap, subst, ◌∙◌, arith}
 use Rattle.std.specs.Prelude.{codes, is_none}
 use Rattle.std.specs.List.{flat_map}
 use Rattle.std.proofs.lemmas.List.{append-nil}
@@ -16,6 +16,7 @@ use Rattle.mesh_tool.specs.Words.CommandLines.{InAnyOrder, OptionWords, PlacedOp
 use Rattle.mesh_tool.proofs.WordsLemmas.Orders.{later, last, none_left, taken_out, IsFew, first_or_later}
 use Rattle.mesh_tool.proofs.WordsLemmas.Reading.{or_at_ok, if_some, stands, same_job}
 use Rattle.mesh_atoms.proofs.Lists.{append_none as nothing}
+use Rattle.mesh_atoms.proofs.Options.{cond_none_some}
 
 abbrev pub options_of : Bool → Option (ℕ × Addr4) → Option ℕ → EmulateOptions
 options_of trace send probe = record { trace = trace; send = send; probe = probe }
@@ -323,10 +324,6 @@ IsOption n j t s p place w words =
     ReadFrom t s p place (w ∷ words) j
     ⊎ ((is_without (options_of t s p) ≡ true) × ((next : Parsing) × (make_option no_make_options w ≡ Some next) × (read_on next (place + 1) words ≡ Ok j)))
 
-made_or_none : (b : Bool) (read : Option Parsing) (next : Parsing) → cond b read None ≡ Some next → (b ≡ true) × (read ≡ Some next)
-made_or_none true read next h = (refl, h)
-made_or_none false read next h = let bad : ⊥ = cc in absurd bad
-
 trace_next : (n : ℕ) (j : Job) (t : Bool) (s : Option (ℕ × Addr4)) (p : Option ℕ) (place : ℕ) (w : List ℕ) (words : List (List ℕ)) (next : Parsing) → length words ≤ n
     → (is_word w (codes "--trace") && not t) ≡ true → next ≡ asked.Emulate (options_of true s p) → read_on next (place + 1) words ≡ Ok j → ReadsOn n j → ReadFrom t s p place (w ∷ words) j
 trace_next n j t s p place w words next short test is h on =
@@ -357,7 +354,7 @@ option_on n j t s p place w words short h on =
         | inl (test, is) ↦ inl (send_next n j t s p place w words step.0 short test is step.2 on)
         | inr (b, rest') ↦ elim (if_some (is_word w (codes "--probe") && is_none p) (asked.EmulateAwaits (options_of t s p) value.Name) _ step.0 rest') [
           | inl (test, is) ↦ inl (probe_next n j t s p place w words step.0 short test is step.2 on)
-          | inr (d, rest'') ↦ let m = made_or_none (is_without (options_of t s p)) (make_option no_make_options w) step.0 rest'' in inr (m.0, (step.0, m.1, step.2))
+          | inr (d, rest'') ↦ let m = cond_none_some (is_without (options_of t s p)) (make_option no_make_options w) step.0 rest'' in inr (m.0, (step.0, m.1, step.2))
         ]
       ]
     ]
