@@ -6,7 +6,7 @@ use Rattle.std.proofs.lemmas.Bool.{lt-ltb, cases_order}
 use Rattle.std.proofs.lemmas.Map.Entries.{lookup_from_place}
 use Rattle.std.proofs.lemmas.Option.{slice_get_within}
 use Rattle.mesh_atoms.specs.Base.{Base, HasDistinctKeys, find, SetsOnly, IsFresh, if_live, Expires}
-use Rattle.mesh_atoms.proofs.Options.{none_is_not_some}
+use Rattle.mesh_atoms.proofs.Options.{none_is_some}
 use Rattle.mesh_expire.specs.Swept.{AreNotBefore}
 use Rattle.mesh_expire.specs.Table.{changed_at, TakesExpired}
 use Rattle.mesh_expire.proofs.Gone.{live_without, all_expired}
@@ -73,7 +73,7 @@ module _ {K V : Type 0} (eq : K → K → Bool) where
     swept_past none = record { distinct = swept.distinct; live = swept.live; few = swept.few; all = swept.all; stands = stands } where
       stands : (i : ℕ) (e : K × (V × ℕ)) → place ≤ i → slice_get es i ≡ Some e → (now < e.1.1) × (soonest ≤ e.1.1)
       stands i e from is = elim (cases_order i place) [
-        | inl same ↦ absurd (none_is_not_some e (none ∙ ap (λ (n : ℕ). slice_get es n) (sym same) ∙ is))
+        | inl same ↦ none_is_some (none ∙ ap (λ (n : ℕ). slice_get es n) (sym same) ∙ is)
         | inr (inl below) ↦ absurd (omega (arith, below, from))
         | inr (inr after) ↦ swept.stands i e (omega (arith, after, next)) is
       ]

@@ -69,10 +69,10 @@ pub record Answers (call : Call) (answer : Status) : Type 0 where
   pub ends : OutputStands call answer
   -- 0 to `dump`: the listing of the whole input stands on out, and none of its lines is refused
   pub dumped : (recode : Bool) → answer ≡ status.Done → Asks call (Dump recode) →
-      (octets : List ℕ) × IsInput 67108864 call.input octets × (text : List ℕ) × IsDumpText octets recode 0 text × PutsText call.out text
+      (octets : List ℕ) × IsInput LONGEST_INPUT call.input octets × (text : List ℕ) × IsDumpText octets recode 0 text × PutsText call.out text
   -- 0 to `run`: the input states a router, and the report of its run, by the moments and the reports that were given, stands on out
   pub ran : (turns : ℕ) → answer ≡ status.Done → Asks call (Run turns) →
-      (octets : List ℕ) × IsInput 1048576 call.input octets × (r : WholeRouterRun octets turns call.air.told) × PutsText call.out r.text
+      (octets : List ℕ) × IsInput LONGEST_SETTINGS call.input octets × (r : WholeRouterRun octets turns call.air.told) × PutsText call.out r.text
   -- whatever is answered to `run`: the clock and the air weren't used, or they gave a run of the router that the input states, or some
   -- first turns of one, with all frames that were handed over
   pub hands : (turns : ℕ) → Asks call (Run turns) →

@@ -18,5 +18,5 @@ returns-then-is_spared-clause-none g c key e found has =
     let same = same_of _ (c.in-Some-get.link.now, c.in-Some-get._until) e c.in-Some-get.ensures one in
     subst (λ (x : Link × ℕ). Spares c.args.which x.0) same (c.is_spared.ensures.0 c.if-is_spared.true)
 
-pub returns-else-spares-clause-some : goal.returns-else-spares-clause-some
-returns-else-spares-clause-some g c = ((c.in-Some-get.link.now, c.in-Some-get._until), sym c.in-Some-get.ensures, λ stays. true_false (c.spares.ensures.1 stays) c.if-spares.false)
+pub returns-else-is_spared-clause-some : goal.returns-else-is_spared-clause-some
+returns-else-is_spared-clause-some g c = ((c.in-Some-get.link.now, c.in-Some-get._until), sym c.in-Some-get.ensures, λ stays. true_false (c.is_spared.ensures.1 stays) c.if-is_spared.false)

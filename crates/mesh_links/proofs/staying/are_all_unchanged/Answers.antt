@@ -5,13 +5,13 @@ use Rattle.std.proofs.lemmas.Option.{slice_get_within}
 use Rattle.mesh_atoms.specs.Base.{link_eq}
 use Rattle.mesh_atoms.proofs.Lookups.{link_equiv}
 use Rattle.mesh_atoms.proofs.Options.{true_false}
-use Rattle.mesh_links.proofs.staying.all_stay.Goals as goal
+use Rattle.mesh_links.proofs.staying.are_all_unchanged.Goals as goal
 
 pub returns-then-not-is_unchanged_at : goal.returns-then-not-is_unchanged_at
 returns-then-not-is_unchanged_at g c =
     let links = g.T.Table.content c.args.table.now in (
       λ h. absurd (false≢true h),
-      λ all. (let yes = c.stays_at.ensures.1 (λ x at. all x.0 x.1 (lookup_from_place link_equiv links c.loop-place.place x.0 x.1 c.len-place-end.ensures.distinct at)) in absurd (true_false yes c.if-not-stays_at.true)),
+      λ all. (let yes = c.is_unchanged_at.ensures.1 (λ x at. all x.0 x.1 (lookup_from_place link_equiv links c.loop-place.place x.0 x.1 c.len-place-end.ensures.distinct at)) in absurd (true_false yes c.if-not-is_unchanged_at.true)),
     )
 
 pub returns : goal.returns

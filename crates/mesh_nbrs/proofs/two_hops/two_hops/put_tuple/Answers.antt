@@ -1,8 +1,17 @@
-use Rattle.std.proofs.Common.{sym, ◌∙◌}
+use Rattle.std.proofs.Common.{ℕ, sym, ◌∙◌}
+use Rattle.mesh_atoms.specs.declared.tuples.TwoHop.{TwoHop}
 use Rattle.mesh_atoms.proofs.Lookups.{two_hop_equiv}
-use Rattle.mesh_expire.proofs.Laws.{renewed, renewed-none}
 use Rattle.mesh_atoms.proofs.Options.{on_err_of}
+use Rattle.mesh_expire.proofs.Laws.{renewed, renewed-none}
+use Rattle.mesh_nbrs.proofs.KnownLinks.{links_put, links_more}
 use Rattle.mesh_nbrs.proofs.two_hops.two_hops.put_tuple.Goals as goal
+
+pub returns-in-Some-clause-knows : goal.returns-in-Some-clause-knows
+returns-in-Some-clause-knows g c =
+    let base = g.T.Table.content c.args.table.now in
+    let entry : TwoHop × ℕ = (c.args.tuple, c.args.until) in
+    let (was, found, sets) = renewed two_hop_equiv c.args.key entry c.in-Some.before base _ (sym c.in-Some.is ∙ c.in_ok-before.ensures.before) c.in_ok-before.ensures.ok in
+    links_put c.args.links.now base c.requires c.args.key entry _ (c.requires c.args.key was found) sets
 
 pub returns-in-Some-clause-ok : goal.returns-in-Some-clause-ok
 returns-in-Some-clause-ok g c =
@@ -15,7 +24,7 @@ returns-in_err-insert-clause-knows g c =
 
 pub returns-in_err-insert-clause-err : goal.returns-in_err-insert-clause-err
 returns-in_err-insert-clause-err g c =
-    on_err c.from_residual-in_err-insert.result
+    on_err_of c.from_residual-in_err-insert.result
     (renewed-none two_hop_equiv c.args.key (c.args.tuple, c.args.until) (g.T.Table.content c.args.table.now) _ (sym c.in_default.is ∙ c.in_ok-before.ensures.before) c.in_ok-before.ensures.ok)
 
 pub returns-in_err-put-clause-knows : goal.returns-in_err-put-clause-knows
