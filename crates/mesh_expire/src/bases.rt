@@ -1,7 +1,7 @@
 //! Which table each kind of tuple stands in.
 use crate::list_table::ListTable;
 use crate::no_table::NoTable;
-use crate::table::Table;
+use crate::table::{PlacedTable, Table};
 use mesh_atoms::{
     Addr4, AddressKey, AddressTuple, Advertiser, FloodKey, Link, LinkKey, Lost, Neighbour,
     NetworkKey, NetworkTuple, Noted, RouterKey, RouterTuple, TwoHop, TwoHopKey,
@@ -14,7 +14,7 @@ pub trait Bases {
     type Links: Table<LinkKey, Link>;
 
     /// Of one interface.
-    type TwoHops: Table<TwoHopKey, TwoHop>;
+    type TwoHops: PlacedTable<TwoHopKey, TwoHop>;
 
     /// By the originator.
     type Neighbours: Table<Addr4, Neighbour>;

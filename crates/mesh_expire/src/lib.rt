@@ -16,4 +16,4 @@ pub use keyed::{expire_keyed, put_keyed, remove_keyed};
 pub use list_table::ListTable;
 pub use no_table::NoTable;
 pub use swept_table::SweptTable;
-pub use table::{Key, Table};
+pub use table::{Key, PlacedTable, Table};

@@ -3,7 +3,7 @@ ghost use Rattle.std.specs.Prelude.{◌≡◌, ◌+◌, ◌<◌, ◌≤◌, ℕ,
 ghost use Rattle.mesh_atoms.specs.Base.{HasDistinctKeys, find, SetsOnly, Expires, IsFresh};
 ghost use Rattle.mesh_expire.specs.Table.{changed_at, TakesExpired};
 
-use crate::table::{Key, Table};
+use crate::table::{Key, PlacedTable, Table};
 use std::alloc::{AllocError, Global};
 use std::marker::Model;
 
@@ -207,10 +207,6 @@ impl<K: Key + Drop, V: Drop> Table<K, V> for ListTable<K, V> {
         remove_from(&mut self.entries, key)
     }
 
-    fn remove_at(&mut self, place: usize) -> bool {
-        remove_from_place(&mut self.entries, place)
-    }
-
     fn expire(&mut self, now: u64) -> usize {
         drop_expired(&mut self.entries, now)
     }
@@ -228,5 +224,11 @@ impl<K: Key + Drop, V: Drop> Table<K, V> for ListTable<K, V> {
 
     fn set_until(&mut self, key: &K, until: u64) -> Result<bool, AllocError> {
         Ok(set_until_in(&mut self.entries, key, until))
+    }
+}
+
+impl<K: Key + Drop, V: Drop> PlacedTable<K, V> for ListTable<K, V> {
+    fn remove_at(&mut self, place: usize) -> bool {
+        remove_from_place(&mut self.entries, place)
     }
 }

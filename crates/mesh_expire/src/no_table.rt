@@ -1,7 +1,7 @@
 //! A table that holds nothing.
 ghost use Rattle.std.specs.Prelude.{[]};
 
-use crate::table::{Key, Table};
+use crate::table::{Key, PlacedTable, Table};
 use std::alloc::{AllocError, Global};
 
 /// A table that is always empty, and takes no memory.
@@ -40,10 +40,6 @@ impl<K: Key, V: Drop> Table<K, V> for NoTable {
         false
     }
 
-    fn remove_at(&mut self, _place: usize) -> bool {
-        false
-    }
-
     fn expire(&mut self, _now: u64) -> usize {
         0
     }
@@ -58,5 +54,12 @@ impl<K: Key, V: Drop> Table<K, V> for NoTable {
 
     fn set_until(&mut self, _key: &K, _until: u64) -> Result<bool, AllocError> {
         Ok(false)
+    }
+}
+
+#[tactic(auto, using(crate::proofs::Laws::distinct_none))]
+impl<K: Key, V: Drop> PlacedTable<K, V> for NoTable {
+    fn remove_at(&mut self, _place: usize) -> bool {
+        false
     }
 }

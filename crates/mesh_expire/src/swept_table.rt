@@ -4,7 +4,7 @@ ghost use Rattle.mesh_atoms.specs.Base.{HasDistinctKeys, find, SetsOnly, Expires
 ghost use Rattle.mesh_expire.specs.Table.{changed_at, TakesExpired};
 ghost use Rattle.mesh_expire.specs.Swept.{AreNotBefore};
 
-use crate::table::{Key, Table};
+use crate::table::{Key, PlacedTable, Table};
 use indexmap::IndexMap;
 use std::alloc::{AllocError, Global};
 use std::hash::Hash;
@@ -209,10 +209,6 @@ impl<K: Key + Hash + Drop, V: Drop> Table<K, V> for SweptTable<K, V> {
         self.map.swap_remove(key).is_some()
     }
 
-    fn remove_at(&mut self, place: usize) -> bool {
-        self.map.swap_remove_index(place).is_some()
-    }
-
     fn expire(&mut self, now: u64) -> usize {
         expire_in(&mut self.map, &mut self.soonest, now)
     }
@@ -230,5 +226,11 @@ impl<K: Key + Hash + Drop, V: Drop> Table<K, V> for SweptTable<K, V> {
 
     fn set_until(&mut self, key: &K, until: u64) -> Result<bool, AllocError> {
         Ok(set_until_in(&mut self.map, &mut self.soonest, key, until))
+    }
+}
+
+impl<K: Key + Hash + Drop, V: Drop> PlacedTable<K, V> for SweptTable<K, V> {
+    fn remove_at(&mut self, place: usize) -> bool {
+        self.map.swap_remove_index(place).is_some()
     }
 }

@@ -27,7 +27,7 @@ pub trait Table<K: Key, V>: Sized + Drop {
         ensures distinct { HasDistinctKeys K.eq (content self.now) };
 
     /// The entry at a place, counted from 0; `None` from the length on. An entry stays at its place up to the next `put`,
-    /// `remove`, `remove_at`, `expire` or `expire_next`.
+    /// `remove`, `expire` or `expire_next`.
     fn at(&self, place: usize) -> Option<(&K, &V, u64)>
         ensures { entry_of result ≡ slice_get (content self.now) place };
 
@@ -58,15 +58,6 @@ pub trait Table<K: Key, V>: Sized + Drop {
         ensures removed { SetsOnly K.eq (content self.old) (content self.new) key.now None }
         ensures unchanged { result ≡ false → content self.new ≡ content self.old }
         ensures count { length (content self.new) + (if result then 1 else 0) ≡ length (content self.old) }
-        ensures distinct { HasDistinctKeys K.eq (content self.new) };
-
-    /// Takes out the entry at a place, and the last entry comes to its place; false, changing nothing, from the length on. No
-    /// other entry comes to another place. Takes no memory.
-    fn remove_at(&mut self, place: usize) -> bool
-        ensures found { IsTrue result ↔ (place < length (content self.old)) }
-        ensures removed { (e : K × (V × ℕ)) → slice_get (content self.old) place ≡ Some e
-            → content self.new ≡ swap_remove (content self.old) place e }
-        ensures unchanged { result ≡ false → content self.new ≡ content self.old }
         ensures distinct { HasDistinctKeys K.eq (content self.new) };
 
     /// Takes out each entry whose moment is at or below now, and gives their number; where there is none, no entry comes to
@@ -100,4 +91,16 @@ pub trait Table<K: Key, V>: Sized + Drop {
         ensures ok { OnOk result (content self.new ≡ changed_at K.eq (content self.old) key.now (λ e. (e.0, until))) }
         ensures err { OnErr result (content self.new ≡ content self.old) }
         ensures distinct { HasDistinctKeys K.eq (content self.new) };
+}
+
+/// A table whose entries can be taken out by their place.
+pub trait PlacedTable<K: Key, V>: Table<K, V> {
+    /// Takes out the entry at a place, and the last entry comes to its place; false, changing nothing, from the length on. No
+    /// other entry comes to another place. Takes no memory.
+    fn remove_at(&mut self, place: usize) -> bool
+        ensures found { IsTrue result ↔ (place < length (Self.content self.old)) }
+        ensures removed { (e : K × (V × ℕ)) → slice_get (Self.content self.old) place ≡ Some e
+            → Self.content self.new ≡ swap_remove (Self.content self.old) place e }
+        ensures unchanged { result ≡ false → Self.content self.new ≡ Self.content self.old }
+        ensures distinct { HasDistinctKeys K.eq (Self.content self.new) };
 }

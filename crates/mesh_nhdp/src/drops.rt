@@ -4,7 +4,7 @@ ghost use Rattle.mesh_atoms.specs.Base.{base_of, find, link_eq, two_hop_eq};
 ghost use Rattle.mesh_nhdp.specs.Calls.{is_symmetric_in, DropsEnded};
 
 use mesh_atoms::{Link, LinkKey, TwoHop, TwoHopKey};
-use mesh_expire::Table;
+use mesh_expire::{PlacedTable, Table};
 use mesh_links::LinkSet;
 use mesh_nbrs::TwoHopSet;
 
@@ -32,7 +32,7 @@ pub fn has_symmetric_on<T: Table<LinkKey, Link>>(
 }
 
 /// Takes out the tuples of the link with that key, where it isn't SYMMETRIC.
-fn drop_if_ended<L: Table<LinkKey, Link>, H: Table<TwoHopKey, TwoHop>>(
+fn drop_if_ended<L: Table<LinkKey, Link>, H: PlacedTable<TwoHopKey, TwoHop>>(
     links: &LinkSet<L>,
     two_hops: &mut TwoHopSet<H>,
     key: LinkKey,
@@ -46,7 +46,7 @@ fn drop_if_ended<L: Table<LinkKey, Link>, H: Table<TwoHopKey, TwoHop>>(
 }
 
 /// Takes out the tuples of those of these links that aren't SYMMETRIC. Takes no memory.
-pub fn drop_ended<L: Table<LinkKey, Link>, H: Table<TwoHopKey, TwoHop>>(
+pub fn drop_ended<L: Table<LinkKey, Link>, H: PlacedTable<TwoHopKey, TwoHop>>(
     links: &LinkSet<L>,
     two_hops: &mut TwoHopSet<H>,
     keys: &[LinkKey],

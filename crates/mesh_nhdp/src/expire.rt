@@ -11,7 +11,7 @@ use crate::near_addresses::{WantedNeighbours, wanted_addresses};
 use crate::nhdp::Nhdp;
 use crate::staying::{are_links_unchanged, expire_beside};
 use mesh_atoms::{Addr4, Link, LinkKey, Lost, Neighbour, RouterSettings, TwoHop, TwoHopKey};
-use mesh_expire::{Bases, Table};
+use mesh_expire::{Bases, PlacedTable, Table};
 use mesh_links::LinkSet;
 use mesh_nbrs::{LostSet, NeighbourSet, TwoHopSet};
 use std::alloc::AllocError;
@@ -65,7 +65,7 @@ impl<B: Bases> Nhdp<B> {
 /// The same over links, tuples, neighbours and lost addresses, which after want of memory may only be dropped.
 fn expire_all<
     L: Table<LinkKey, Link>,
-    H: Table<TwoHopKey, TwoHop>,
+    H: PlacedTable<TwoHopKey, TwoHop>,
     N: Table<Addr4, Neighbour>,
     O: Table<Addr4, Lost>,
 >(
@@ -98,7 +98,7 @@ fn expire_all<
 /// brings all up to date; whether all is just as it was then.
 fn expire_or_stay<
     L: Table<LinkKey, Link>,
-    H: Table<TwoHopKey, TwoHop>,
+    H: PlacedTable<TwoHopKey, TwoHop>,
     N: Table<Addr4, Neighbour>,
     O: Table<Addr4, Lost>,
 >(

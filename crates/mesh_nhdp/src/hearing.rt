@@ -22,7 +22,7 @@ use crate::near_addresses::spoken_addresses;
 use crate::sending_link::{has_link, update_two_hops_on};
 use crate::two_hop_rows::TwoHopRows;
 use mesh_atoms::{Addr4, Hello, Link, LinkKey, Lost, Neighbour, RouterSettings, TwoHop, TwoHopKey};
-use mesh_expire::Table;
+use mesh_expire::{PlacedTable, Table};
 use mesh_hello::HelloInfo;
 use mesh_links::LinkSet;
 use mesh_nbrs::{LostSet, NeighbourSet, TwoHopSet};
@@ -42,7 +42,7 @@ pub struct HelloReceipt<'a> {
 /// Takes the HELLO in on all interfaces; `least` is the key of the link that it came over, and `own` has the router's addresses.
 /// Answers true only where that link isn't SYMMETRIC then, or all rows repeat what was held. After want of memory links and tuples may
 /// only be dropped.
-fn hear_interfaces<L: Table<LinkKey, Link>, H: Table<TwoHopKey, TwoHop>>(
+fn hear_interfaces<L: Table<LinkKey, Link>, H: PlacedTable<TwoHopKey, TwoHop>>(
     alloc: Global,
     hearing: &Hearing,
     least: LinkKey,
@@ -83,7 +83,7 @@ fn hear_interfaces<L: Table<LinkKey, Link>, H: Table<TwoHopKey, TwoHop>>(
 
 /// Takes a HELLO in on all interfaces; `theirs` has the addresses of the neighbours that it speaks of. Answers as `hear_interfaces`.
 /// After want of memory links and tuples may only be dropped.
-fn hear_links<L: Table<LinkKey, Link>, H: Table<TwoHopKey, TwoHop>>(
+fn hear_links<L: Table<LinkKey, Link>, H: PlacedTable<TwoHopKey, TwoHop>>(
     settings: &RouterSettings,
     receipt: &HelloReceipt,
     theirs: &[Addr4],
@@ -132,7 +132,7 @@ fn hear_links<L: Table<LinkKey, Link>, H: Table<TwoHopKey, TwoHop>>(
 /// or all rows repeat what was held. After want of memory the neighbourhood may only be dropped.
 pub fn hear<
     L: Table<LinkKey, Link>,
-    H: Table<TwoHopKey, TwoHop>,
+    H: PlacedTable<TwoHopKey, TwoHop>,
     N: Table<Addr4, Neighbour>,
     O: Table<Addr4, Lost>,
 >(

@@ -12,7 +12,7 @@ ghost use Rattle.mesh_nhdp.specs.Interfaces.{ExpiresOn, HearsAt, CanHearHello};
 
 use crate::drops::drop_ended;
 use mesh_atoms::{Addr4, Admit, Interface, Link, LinkKey, Shown, TwoHop, TwoHopKey};
-use mesh_expire::Table;
+use mesh_expire::{PlacedTable, Table};
 use mesh_hello::put_table_keys;
 use mesh_links::LinkSet;
 use mesh_nbrs::TwoHopSet;
@@ -31,7 +31,7 @@ fn link_keys<L: Table<LinkKey, Link>>(
 }
 
 /// What becomes of the links and the 2-hop tuples of one interface.
-pub trait Change<L: Table<LinkKey, Link>, H: Table<TwoHopKey, TwoHop>> {
+pub trait Change<L: Table<LinkKey, Link>, H: PlacedTable<TwoHopKey, TwoHop>> {
     ghost is_ready: { Self → Type 0 };
 
     ghost makes: { Self → ℕ → Base LinkKey Link → Base LinkKey Link → Base TwoHopKey TwoHop → Base TwoHopKey TwoHop → Type 0 };
@@ -75,7 +75,7 @@ fn admit_on<L: Table<LinkKey, Link>>(
     }
 }
 
-impl<'a, L: Table<LinkKey, Link>, H: Table<TwoHopKey, TwoHop>> Change<L, H> for Expiry<'a> {
+impl<'a, L: Table<LinkKey, Link>, H: PlacedTable<TwoHopKey, TwoHop>> Change<L, H> for Expiry<'a> {
     ghost is_ready = { λ s. (s.now < 2 ^ 62) × (s.hold < 2 ^ 62) };
 
     ghost makes = { λ s i old new before after. (face : Interface) → slice_get s.faces.now i ≡ Some face
@@ -134,7 +134,7 @@ fn hear_here<L: Table<LinkKey, Link>>(
     }
 }
 
-impl<'a, L: Table<LinkKey, Link>, H: Table<TwoHopKey, TwoHop>> Change<L, H> for Hearing<'a> {
+impl<'a, L: Table<LinkKey, Link>, H: PlacedTable<TwoHopKey, TwoHop>> Change<L, H> for Hearing<'a> {
     ghost is_ready = { λ s. CanHearHello s.moment s.hold s.shown.now };
 
     ghost makes = { λ s i old new before after. (least : LinkKey) → slice_get s.shown.now.sending 0 ≡ Some least.addr
@@ -157,7 +157,7 @@ impl<'a, L: Table<LinkKey, Link>, H: Table<TwoHopKey, TwoHop>> Change<L, H> for 
 }
 
 /// Changes all interfaces.
-pub fn change_all<L: Table<LinkKey, Link>, H: Table<TwoHopKey, TwoHop>, C: Change<L, H>>(
+pub fn change_all<L: Table<LinkKey, Link>, H: PlacedTable<TwoHopKey, TwoHop>, C: Change<L, H>>(
     alloc: Global,
     change: &C,
     links: &mut [LinkSet<L>],

@@ -15,7 +15,7 @@ use crate::two_hop_rows::count_symmetric;
 use mesh_atoms::{
     Addr4, Base, Hello, Lost, MOST_TUPLES, Neighbour, RouterSettings, Seq, TwoHop, TwoHopKey,
 };
-use mesh_expire::Table;
+use mesh_expire::{PlacedTable, Table};
 use mesh_hello::{HelloInfo, own_addresses, receive_fault, tell};
 use mesh_nbrs::{LostSet, NeighbourSet, TwoHopSet};
 use std::alloc::AllocError;
@@ -39,7 +39,7 @@ pub enum HelloCheck {
 }
 
 /// How many 2-hop tuples the interface has. Takes no memory.
-fn count_on<H: Table<TwoHopKey, TwoHop>>(sets: &[TwoHopSet<H>], iface: usize) -> usize
+fn count_on<H: PlacedTable<TwoHopKey, TwoHop>>(sets: &[TwoHopSet<H>], iface: usize) -> usize
     requires { iface < length sets.now }
     ensures { result ≡ length (base_of sets.now iface) }
 {
@@ -48,7 +48,11 @@ fn count_on<H: Table<TwoHopKey, TwoHop>>(sets: &[TwoHopSet<H>], iface: usize) ->
 
 /// The base that the HELLO would fill, if there is one; `own` has the router's addresses. Counts the addresses that the HELLO tells as
 /// SYMMETRIC neighbours only where all its rows would be too many; else it looks at the counts alone.
-fn base_to_fill<H: Table<TwoHopKey, TwoHop>, N: Table<Addr4, Neighbour>, O: Table<Addr4, Lost>>(
+fn base_to_fill<
+    H: PlacedTable<TwoHopKey, TwoHop>,
+    N: Table<Addr4, Neighbour>,
+    O: Table<Addr4, Lost>,
+>(
     two_hops: &[TwoHopSet<H>],
     neighbours: &NeighbourSet<N>,
     losts: &LostSet<O>,
@@ -80,7 +84,7 @@ fn base_to_fill<H: Table<TwoHopKey, TwoHop>, N: Table<Addr4, Neighbour>, O: Tabl
 }
 
 /// Judges a HELLO (RFC 6130, section 12.1, and the limits of the bases).
-pub fn judge<H: Table<TwoHopKey, TwoHop>, N: Table<Addr4, Neighbour>, O: Table<Addr4, Lost>>(
+pub fn judge<H: PlacedTable<TwoHopKey, TwoHop>, N: Table<Addr4, Neighbour>, O: Table<Addr4, Lost>>(
     settings: &RouterSettings,
     two_hops: &[TwoHopSet<H>],
     neighbours: &NeighbourSet<N>,

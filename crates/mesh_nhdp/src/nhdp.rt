@@ -4,7 +4,7 @@ ghost use Rattle.mesh_atoms.specs.Sound.{SoundNeighbourhood};
 ghost use Rattle.mesh_nhdp.specs.NhdpState.{NhdpState, empty_near};
 
 use mesh_atoms::{Addr4, Link, LinkKey, Lost, Neighbour, RouterSettings, TwoHop, TwoHopKey};
-use mesh_expire::{Bases, Table};
+use mesh_expire::{Bases, PlacedTable, Table};
 use mesh_links::LinkSet;
 use mesh_nbrs::{LostSet, NeighbourSet, TwoHopSet};
 use std::alloc::{AllocError, Global};
@@ -82,7 +82,7 @@ fn no_links<T: Table<LinkKey, Link>>(
 }
 
 /// No 2-hop tuples on so many interfaces.
-fn no_two_hops<T: Table<TwoHopKey, TwoHop>>(
+fn no_two_hops<T: PlacedTable<TwoHopKey, TwoHop>>(
     alloc: Global,
     count: usize,
 ) -> Result<Vec<TwoHopSet<T>>, AllocError>
@@ -98,7 +98,7 @@ fn no_two_hops<T: Table<TwoHopKey, TwoHop>>(
 /// No links and no 2-hop tuples on so many interfaces, no neighbour, and no lost address.
 fn no_tuples<
     L: Table<LinkKey, Link>,
-    H: Table<TwoHopKey, TwoHop>,
+    H: PlacedTable<TwoHopKey, TwoHop>,
     N: Table<Addr4, Neighbour>,
     O: Table<Addr4, Lost>,
 >(

@@ -12,7 +12,7 @@ ghost use Rattle.mesh_nhdp.specs.Repeats.{RepeatsRows};
 
 use crate::two_hop_rows::{TwoHopRows, tell_two_hops};
 use mesh_atoms::{Addr4, Link, LinkKey, TwoHop, TwoHopKey};
-use mesh_expire::Table;
+use mesh_expire::{PlacedTable, Table};
 use mesh_links::LinkSet;
 use mesh_nbrs::TwoHopSet;
 use std::alloc::AllocError;
@@ -34,7 +34,7 @@ pub fn has_link<L: Table<LinkKey, Link>>(
 }
 
 /// Takes out the tuples of the link, where it is a new one.
-fn start_two_hops<H: Table<TwoHopKey, TwoHop>>(
+fn start_two_hops<H: PlacedTable<TwoHopKey, TwoHop>>(
     two_hops: &mut TwoHopSet<H>,
     link: LinkKey,
     stood: bool,
@@ -48,7 +48,7 @@ fn start_two_hops<H: Table<TwoHopKey, TwoHop>>(
 }
 
 /// Makes of the tuples of the link what the rows of the HELLO tell, where it is SYMMETRIC; whether all those rows repeat what was held.
-fn tell_if_symmetric<H: Table<TwoHopKey, TwoHop>>(
+fn tell_if_symmetric<H: PlacedTable<TwoHopKey, TwoHop>>(
     two_hops: &mut TwoHopSet<H>,
     rows: &TwoHopRows,
     symmetric: bool,
@@ -68,7 +68,7 @@ fn tell_if_symmetric<H: Table<TwoHopKey, TwoHop>>(
 
 /// Brings the tuples of the link that the HELLO came over up to date: where it is a new one they go, and where it is SYMMETRIC
 /// they are made as the rows tell; whether it stood, and all those rows repeat what was held.
-fn update_two_hops<H: Table<TwoHopKey, TwoHop>>(
+fn update_two_hops<H: PlacedTable<TwoHopKey, TwoHop>>(
     two_hops: &mut TwoHopSet<H>,
     rows: &TwoHopRows,
     stood: bool,
@@ -87,7 +87,7 @@ fn update_two_hops<H: Table<TwoHopKey, TwoHop>>(
 }
 
 /// The same of the interface of that number.
-pub fn update_two_hops_on<H: Table<TwoHopKey, TwoHop>>(
+pub fn update_two_hops_on<H: PlacedTable<TwoHopKey, TwoHop>>(
     two_hops: &mut [TwoHopSet<H>],
     iface: usize,
     rows: &TwoHopRows,

@@ -11,7 +11,7 @@ ghost use Rattle.mesh_nhdp.specs.NhdpState.{near_with};
 ghost use Rattle.mesh_nhdp.specs.Staying.{LinksStay, ExpiresBeside};
 
 use mesh_atoms::{Addr4, Link, LinkKey, Lost, RouterSettings, TwoHop, TwoHopKey};
-use mesh_expire::Table;
+use mesh_expire::{PlacedTable, Table};
 use mesh_links::LinkSet;
 use mesh_nbrs::{LostSet, TwoHopSet};
 
@@ -58,7 +58,7 @@ fn is_none_gone(before: bool, gone: usize) -> bool
 }
 
 /// Takes out the 2-hop tuples that are expired, interface by interface; whether none is. Takes no memory.
-fn expire_two_hops<H: Table<TwoHopKey, TwoHop>>(sets: &mut [TwoHopSet<H>], now: u64) -> bool
+fn expire_two_hops<H: PlacedTable<TwoHopKey, TwoHop>>(sets: &mut [TwoHopSet<H>], now: u64) -> bool
     ensures length { length sets.new ≡ length sets.old }
     ensures each { (i : ℕ) → i < length sets.old → Expires two_hop_eq now (base_of sets.old i) (base_of sets.new i) }
     ensures distinct { (i : ℕ) → i < length sets.old → HasDistinctKeys two_hop_eq (base_of sets.new i) }
@@ -74,7 +74,7 @@ fn expire_two_hops<H: Table<TwoHopKey, TwoHop>>(sets: &mut [TwoHopSet<H>], now: 
 }
 
 /// Takes out the 2-hop tuples and the lost addresses that are expired; whether none is. Takes no memory.
-pub fn expire_beside<H: Table<TwoHopKey, TwoHop>, O: Table<Addr4, Lost>>(
+pub fn expire_beside<H: PlacedTable<TwoHopKey, TwoHop>, O: Table<Addr4, Lost>>(
     two_hops: &mut [TwoHopSet<H>],
     losts: &mut LostSet<O>,
     now: u64,

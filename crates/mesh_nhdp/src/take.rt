@@ -13,7 +13,7 @@ use crate::repeating::is_repeated;
 use mesh_atoms::{
     Addr4, Base, Hello, Link, LinkKey, Lost, Neighbour, RouterSettings, TwoHop, TwoHopKey,
 };
-use mesh_expire::{Bases, Table};
+use mesh_expire::{Bases, PlacedTable, Table};
 use mesh_links::LinkSet;
 use mesh_nbrs::{LostSet, NeighbourSet, TwoHopSet};
 use std::alloc::AllocError;
@@ -92,7 +92,7 @@ impl<B: Bases> Nhdp<B> {
 /// Takes in a HELLO, as `take_and_tell` does.
 fn take_in<
     L: Table<LinkKey, Link>,
-    H: Table<TwoHopKey, TwoHop>,
+    H: PlacedTable<TwoHopKey, TwoHop>,
     N: Table<Addr4, Neighbour>,
     O: Table<Addr4, Lost>,
 >(

@@ -14,7 +14,7 @@ ghost use Rattle.mesh_nhdp.specs.Rows.{LooksOn, RowTells, TellsSymmetric};
 use mesh_atoms::{
     Addr4, Hello, HelloRow, LinkKey, LinkStatus, Metric, OtherStatus, TwoHop, TwoHopKey, contains,
 };
-use mesh_expire::Table;
+use mesh_expire::PlacedTable;
 use mesh_hello::ascending;
 use mesh_nbrs::TwoHopSet;
 use std::alloc::{AllocError, Global};
@@ -64,7 +64,7 @@ pub struct TwoHopRows<'a> {
 }
 
 /// Makes of the tuple of its address what the row tells; whether that repeats what was held.
-fn tell_row<H: Table<TwoHopKey, TwoHop>>(
+fn tell_row<H: PlacedTable<TwoHopKey, TwoHop>>(
     two_hops: &mut TwoHopSet<H>,
     link: LinkKey,
     until: u64,
@@ -84,7 +84,7 @@ fn tell_row<H: Table<TwoHopKey, TwoHop>>(
 }
 
 /// The same, where the row tells of a neighbour of the sender; another repeats what was held.
-fn tell_if_looked_at<H: Table<TwoHopKey, TwoHop>>(
+fn tell_if_looked_at<H: PlacedTable<TwoHopKey, TwoHop>>(
     two_hops: &mut TwoHopSet<H>,
     rows: &TwoHopRows,
     row: &HelloRow,
@@ -102,7 +102,7 @@ fn tell_if_looked_at<H: Table<TwoHopKey, TwoHop>>(
 
 /// Makes of the 2-hop tuples of a link what the rows of the HELLO tell (RFC 6130, section 12.6, and RFC 7181, section 15.3); whether all
 /// rows repeat what was held, so that nothing but moments changes.
-pub fn tell_two_hops<H: Table<TwoHopKey, TwoHop>>(
+pub fn tell_two_hops<H: PlacedTable<TwoHopKey, TwoHop>>(
     two_hops: &mut TwoHopSet<H>,
     rows: &TwoHopRows,
 ) -> Result<bool, AllocError>

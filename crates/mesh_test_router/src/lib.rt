@@ -8,8 +8,6 @@ mod fixtures;
 #[cfg(test)]
 mod frames;
 #[cfg(test)]
-mod index_tables;
-#[cfg(test)]
 mod near;
 #[cfg(test)]
 mod rows;

@@ -1,7 +1,6 @@
 //! Runs, and the tables that they are tried over.
 use crate::frames::steps::Network;
 use crate::frames::{full, hears, lone, row};
-use crate::index_tables::IndexTables;
 use crate::near::routers::Setup;
 use crate::near::steps::Routers;
 use crate::near::{exchange, neighbourhood};
@@ -13,7 +12,7 @@ use crate::topology::takings;
 use crate::tried::goes_right;
 use crate::{frames, near};
 use mesh_core::Core;
-use mesh_expire::{Bases, NoBases, PlainBases};
+use mesh_expire::{Bases, IndexedBases, NoBases, PlainBases};
 use mesh_flood::Flood;
 use mesh_links::LinkSet;
 use mesh_nbrs::{LostSet, NeighbourSet, TwoHopSet};
@@ -83,7 +82,7 @@ fn over_lists(alloc: Global, run: Run) -> Result<bool, AllocError> {
 }
 
 fn over_indexes(alloc: Global, run: Run) -> Result<bool, AllocError> {
-    is_right_over::<IndexTables>(alloc, run)
+    is_right_over::<IndexedBases>(alloc, run)
 }
 
 fn over_nothing(alloc: Global, run: Run) -> Result<bool, AllocError> {

@@ -7,41 +7,9 @@ ghost use Rattle.mesh_tool.specs.Words.Words.{texts};
 
 use crate::answers::top_over;
 use crate::jobs::Status;
-use mesh_atoms::{
-    Addr4, AddressKey, AddressTuple, Advertiser, FloodKey, Link, LinkKey, Lost, Neighbour,
-    NetworkKey, NetworkTuple, Noted, RouterKey, RouterTuple, TwoHop, TwoHopKey,
-};
-use mesh_expire::{Bases, IndexTable, ListTable, SweptTable};
+use mesh_expire::IndexedBases;
 use mesh_io::{Air, Clock, Sink, Source};
 use std::alloc::Global;
-
-/// The bases of the program: lists for the kinds of which there are few tuples, a swept table for the 2-hop tuples, and indexed tables.
-#[derive(Drop)]
-pub struct ProgramBases;
-
-impl Bases for ProgramBases {
-    type Links = IndexTable<LinkKey, Link>;
-
-    type TwoHops = SweptTable<TwoHopKey, TwoHop>;
-
-    type Neighbours = ListTable<Addr4, Neighbour>;
-
-    type Losts = ListTable<Addr4, Lost>;
-
-    type Advertisers = ListTable<Addr4, Advertiser>;
-
-    type Routers = IndexTable<RouterKey, RouterTuple>;
-
-    type Addresses = IndexTable<AddressKey, AddressTuple>;
-
-    type Networks = IndexTable<NetworkKey, NetworkTuple>;
-
-    type Received = IndexTable<FloodKey, Noted>;
-
-    type Processed = IndexTable<FloodKey, Noted>;
-
-    type Forwarded = IndexTable<FloodKey, Noted>;
-}
 
 /// The program: `top_over` over indexed tables.
 pub fn mesh_top<S: Source, O: Sink, E: Sink, A: Air, C: Clock>(
@@ -66,5 +34,5 @@ pub fn mesh_top<S: Source, O: Sink, E: Sink, A: Air, C: Clock>(
     // What holds of every emulation, trip, probe, run of a router, made network and trace.
     ensures laws { ProgramLaws }
 {
-    top_over::<ProgramBases, S, O, E, A, C>(alloc, words, input, out, err, air, clock)
+    top_over::<IndexedBases, S, O, E, A, C>(alloc, words, input, out, err, air, clock)
 }

@@ -5,7 +5,7 @@ ghost use Rattle.mesh_expire.specs.Table.{changed_at, TakesExpired};
 ghost use Rattle.mesh_expire.specs.Index.Moments.{AreMomentsOf};
 
 use crate::index::moments::{Bucket, move_moment, put_key, take_expired, take_key};
-use crate::{Key, Table};
+use crate::{Key, PlacedTable, Table};
 use indexmap::IndexMap;
 use std::alloc::{AllocError, Global};
 use std::collections::BTreeMap;
@@ -253,10 +253,6 @@ impl<K: Key + Ord + Hash + Drop, V: Drop> Table<K, V> for IndexTable<K, V> {
         remove_from(&mut self.map, &mut self.moments, key)
     }
 
-    fn remove_at(&mut self, place: usize) -> bool {
-        remove_from_place(&mut self.map, &mut self.moments, place)
-    }
-
     fn expire(&mut self, now: u64) -> usize {
         drop_expired(&mut self.map, &mut self.moments, now)
     }
@@ -274,5 +270,11 @@ impl<K: Key + Ord + Hash + Drop, V: Drop> Table<K, V> for IndexTable<K, V> {
 
     fn set_until(&mut self, key: &K, until: u64) -> Result<bool, AllocError> {
         set_until_in(&mut self.map, &mut self.moments, key, until)
+    }
+}
+
+impl<K: Key + Ord + Hash + Drop, V: Drop> PlacedTable<K, V> for IndexTable<K, V> {
+    fn remove_at(&mut self, place: usize) -> bool {
+        remove_from_place(&mut self.map, &mut self.moments, place)
     }
 }

@@ -5,20 +5,20 @@ ghost use Rattle.mesh_nbrs.specs.TwoHops.TwoHops.{DropsLink, KnowsLinks};
 
 use crate::two_hops::dropping::drop_all;
 use mesh_atoms::{Addr4, LinkKey, Metric, TwoHop, TwoHopKey};
-use mesh_expire::Table;
+use mesh_expire::PlacedTable;
 use std::alloc::{AllocError, Global};
 use std::collections::BTreeSet;
 use std::marker::Model;
 
 /// The 2-hop tuples of one interface. After want of memory the set may only be dropped.
 #[derive(Drop)]
-pub struct TwoHopSet<T: Table<TwoHopKey, TwoHop>> {
+pub struct TwoHopSet<T: PlacedTable<TwoHopKey, TwoHop>> {
     table: T,
     // The links that may have tuples; one without tuples may be here up to its `drop_link`.
     links: BTreeSet<LinkKey>,
 }
 
-impl<T: Table<TwoHopKey, TwoHop>> Model for TwoHopSet<T> {
+impl<T: PlacedTable<TwoHopKey, TwoHop>> Model for TwoHopSet<T> {
     ghost use Rattle.mesh_atoms.specs.Base.{Base};
     ghost use Rattle.mesh_atoms.specs.declared.tuples.TwoHopKey.{TwoHopKey};
     ghost use Rattle.mesh_atoms.specs.declared.tuples.TwoHop.{TwoHop};
@@ -35,7 +35,7 @@ impl<T: Table<TwoHopKey, TwoHop>> Model for TwoHopSet<T> {
 
 // Makes the tuple of a key, and gives the one that was there before. Want of memory leaves the table unchanged; the links may then have
 // the key's link all the same.
-fn put_tuple<T: Table<TwoHopKey, TwoHop>>(
+fn put_tuple<T: PlacedTable<TwoHopKey, TwoHop>>(
     table: &mut T,
     links: &mut BTreeSet<LinkKey>,
     key: TwoHopKey,
@@ -66,7 +66,7 @@ fn is_tuple(before: Option<TwoHop>, tuple: TwoHop) -> bool
     before == Some(tuple)
 }
 
-impl<T: Table<TwoHopKey, TwoHop>> TwoHopSet<T> {
+impl<T: PlacedTable<TwoHopKey, TwoHop>> TwoHopSet<T> {
     /// No tuples.
     pub fn new(alloc: Global) -> Result<TwoHopSet<T>, AllocError>
         ensures { IfOk result (λ set. set ≡ []) }

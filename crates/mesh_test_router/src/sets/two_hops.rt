@@ -4,7 +4,7 @@ use crate::runs::{Case, Run};
 use crate::tried::Tried;
 use crate::values::metric_if;
 use mesh_atoms::{Addr4, TwoHop, TwoHopKey};
-use mesh_expire::Table;
+use mesh_expire::PlacedTable;
 use mesh_nbrs::TwoHopSet;
 use std::alloc::{AllocError, Global};
 
@@ -22,7 +22,7 @@ pub(crate) enum Call {
     Len(usize),
 }
 
-fn tuple_of<T: Table<TwoHopKey, TwoHop>>(
+fn tuple_of<T: PlacedTable<TwoHopKey, TwoHop>>(
     set: &TwoHopSet<T>,
     link: u32,
     addr: u32,
@@ -34,7 +34,7 @@ fn tuple_of<T: Table<TwoHopKey, TwoHop>>(
 }
 
 /// Makes a call that takes no memory, and says whether its answer is right.
-fn shows<T: Table<TwoHopKey, TwoHop>>(set: &mut TwoHopSet<T>, call: &Call) -> bool {
+fn shows<T: PlacedTable<TwoHopKey, TwoHop>>(set: &mut TwoHopSet<T>, call: &Call) -> bool {
     match *call {
         Call::DropRow(link, addr, was) => set.drop_row(link_key(link), Addr4(addr)) == was,
         Call::DropLink(link, count) => set.drop_link(link_key(link)) == count,
@@ -48,7 +48,7 @@ fn shows<T: Table<TwoHopKey, TwoHop>>(set: &mut TwoHopSet<T>, call: &Call) -> bo
     }
 }
 
-impl<T: Table<TwoHopKey, TwoHop>> Tried for TwoHopSet<T> {
+impl<T: PlacedTable<TwoHopKey, TwoHop>> Tried for TwoHopSet<T> {
     type Setup = ();
 
     type Call = Call;

@@ -1,6 +1,6 @@
 //! The same 2,000 calls on a plain list and on another table, drawn from words of ChaCha20.
 use mesh_atoms::Addr4;
-use mesh_expire::{IndexTable, ListTable, SweptTable, Table};
+use mesh_expire::{IndexTable, ListTable, PlacedTable, SweptTable, Table};
 use rand_chacha::ChaCha20Rng;
 use rand_core::SeedableRng;
 use rand_core::utils::NextWord;
@@ -36,7 +36,7 @@ fn draw_of(word: u32, value: u64) -> Draw {
 }
 
 /// Takes out the entry of a key by its place.
-fn remove_by_place<T: Table<Addr4, u64>>(table: &mut T, key: Addr4) -> bool {
+fn remove_by_place<T: PlacedTable<Addr4, u64>>(table: &mut T, key: Addr4) -> bool {
     for place in 0..table.len() {
         let is_there = match table.at(place) {
             Some((other, _, _)) => *other == key,
@@ -49,7 +49,7 @@ fn remove_by_place<T: Table<Addr4, u64>>(table: &mut T, key: Addr4) -> bool {
     false
 }
 
-fn call<T: Table<Addr4, u64>>(table: &mut T, draw: Draw) -> Result<Reply, AllocError> {
+fn call<T: PlacedTable<Addr4, u64>>(table: &mut T, draw: Draw) -> Result<Reply, AllocError> {
     match draw.kind {
         0 => {
             table.put(draw.key, draw.value, draw.moment)?;
@@ -95,7 +95,7 @@ fn has_its_places<T: Table<Addr4, u64>>(table: &T) -> bool {
 }
 
 /// Makes a call on both, and says whether they answer alike and are alike then.
-fn stay_alike<S: Table<Addr4, u64>, T: Table<Addr4, u64>>(
+fn stay_alike<S: PlacedTable<Addr4, u64>, T: PlacedTable<Addr4, u64>>(
     one: &mut S,
     other: &mut T,
     draw: Draw,
@@ -109,7 +109,7 @@ fn stay_alike<S: Table<Addr4, u64>, T: Table<Addr4, u64>>(
 }
 
 /// The same of so many calls, each by the next word.
-fn stay_alike_long<S: Table<Addr4, u64>, T: Table<Addr4, u64>>(
+fn stay_alike_long<S: PlacedTable<Addr4, u64>, T: PlacedTable<Addr4, u64>>(
     one: &mut S,
     other: &mut T,
     words: &mut ChaCha20Rng,
@@ -124,7 +124,7 @@ fn stay_alike_long<S: Table<Addr4, u64>, T: Table<Addr4, u64>>(
 }
 
 /// A table and a list.
-fn stays_like_a_list<T: Table<Addr4, u64>>(alloc: Global) -> Result<bool, AllocError> {
+fn stays_like_a_list<T: PlacedTable<Addr4, u64>>(alloc: Global) -> Result<bool, AllocError> {
     let mut list = ListTable::<Addr4, u64>::new(alloc)?;
     let mut table = T::new(alloc)?;
     let mut words = ChaCha20Rng::from_seed([0; 32]);

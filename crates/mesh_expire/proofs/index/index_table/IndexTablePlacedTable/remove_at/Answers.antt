@@ -1,4 +1,4 @@
-use Rattle.mesh_expire.proofs.index.index_table.IndexTableTable.remove_at.Goals as goal
+use Rattle.mesh_expire.proofs.index.index_table.IndexTablePlacedTable.remove_at.Goals as goal
 
 pub remove_from_place-requires : goal.remove_from_place-requires
 remove_from_place-requires g c = c.self.invariant

@@ -1,4 +1,4 @@
-use Rattle.mesh_expire.proofs.list_table.ListTableTable.remove_at.Goals as goal
+use Rattle.mesh_expire.proofs.list_table.ListTablePlacedTable.remove_at.Goals as goal
 
 pub remove_from_place-requires : goal.remove_from_place-requires
 remove_from_place-requires g c = c.self.invariant
