@@ -15,7 +15,9 @@ mod views;
 pub use deferred::DeferredCore;
 pub use held::{InformationBases, Outbox, Quiet};
 pub use machine::Machine;
-pub use mesh_machine::{Arrival, Fate, Frame, Heard, Read, RouterView, Said};
+pub use mesh_machine::{
+    ArcsOut, Arrival, Fate, Frame, Heard, Read, RouterView, Said, leaving_of, ways_of,
+};
 pub use mesh_routes::graph_of;
 pub use network_router::NetworkRouter;
 pub use reading::TypedFrame;

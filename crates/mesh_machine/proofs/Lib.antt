@@ -8,7 +8,7 @@ pub use Rattle.mesh_wire.proofs as wire
 -- Lemmas for crates above, each file with the crates that cite it.
 pub mod Effects  -- core, texts
 pub mod FirstDue  -- radio, replay
-pub mod Hops  -- core, replay
+pub mod Hops  -- core, trace, replay
 pub mod Leaving  -- radio, replay
 pub mod Opening  -- core, replay, run
 pub mod Originators  -- core, renewal, replay
@@ -22,4 +22,5 @@ pub mod Takes  -- core, replay
 pub mod Through  -- emulate, texts
 -- Lemmas of this crate alone.
 mod Given
+mod LeavingArcs
 mod Saying

@@ -18,3 +18,4 @@ pub mod Said
 pub mod Sendable
 pub mod Sending
 pub mod Traffic
+pub mod Ways

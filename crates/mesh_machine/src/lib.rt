@@ -10,6 +10,7 @@ mod laws;
 mod names;
 mod said;
 mod view;
+mod ways;
 
 pub use arrival::Arrival;
 pub use count::all_two_hop_count;
@@ -21,3 +22,4 @@ pub use laws::{
 pub use names::router_name;
 pub use said::{Said, said_of};
 pub use view::RouterView;
+pub use ways::{ArcsOut, leaving_of, ways_of};

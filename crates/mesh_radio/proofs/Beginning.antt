@@ -16,7 +16,7 @@ use Rattle.mesh_machine.specs.NetRun.{IsOpeningNet}
 use Rattle.mesh_radio.specs.Scene.{IsSound, IsFlying, net_of}
 use Rattle.mesh_radio.specs.declared.traffic.traffic.RadioTraffic.{RadioTraffic}
 use Rattle.mesh_radio.specs.Traffic.Traffic.{traffic_of}
-use Rattle.mesh_radio.specs.Traffic.Ways.{AreArcsOut}
+use Rattle.mesh_machine.specs.Ways.{AreArcsOut}
 use Rattle.mesh_machine.proofs.Places.{each_more, same_at}
 
 pub none_opening : {A : Type 0} (state : A → State) (settings : List RouterSettings) (routers : List A) → routers ≡ [] → AreOpeningUpTo settings 0 (map state routers)

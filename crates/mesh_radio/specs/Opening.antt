@@ -6,7 +6,7 @@ use Rattle.mesh_atoms.specs.declared.settings.Scenario.{Scenario}
 use Rattle.mesh_machine.specs.Machine.{IsOpening}
 use Rattle.mesh_radio.specs.declared.scene.Due.{Due}
 use Rattle.mesh_radio.specs.declared.scene.Scene.{Scene}
-use Rattle.mesh_radio.specs.Traffic.Ways.{AreArcsOut}
+use Rattle.mesh_machine.specs.Ways.{AreArcsOut}
 
 -- the first routers, one for each settings, so many
 pub record AreOpeningUpTo (settings : List RouterSettings) (count : ℕ) (routers : List State) : Type 0 where

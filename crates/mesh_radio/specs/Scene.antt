@@ -17,7 +17,7 @@ use Rattle.mesh_machine.specs.Net.{NetState, NetStep, IsFirstDue, IsSender, even
 use Rattle.mesh_machine.specs.Traffic.{Delivery, Traffic, SendsAll, with_heard}
 use Rattle.mesh_machine.specs.NetRun.{IsOver, IsOfScenario, IsOfPackets, NetRun}
 use Rattle.mesh_radio.specs.Traffic.Traffic.{traffic_of}
-use Rattle.mesh_radio.specs.Traffic.Ways.{AreArcsOut}
+use Rattle.mesh_machine.specs.Ways.{AreArcsOut}
 
 -- the network that is meant
 abbrev pub net_of : List State → Scene → NetState

@@ -2,4 +2,3 @@ pub mod Air
 pub mod Draws
 pub mod Flights
 pub mod Traffic
-pub mod Ways

@@ -5,7 +5,7 @@ ghost use Rattle.mesh_radio.specs.Occurrences.{net_event_of};
 ghost use Rattle.mesh_radio.specs.Traffic.Air.{delivery_of};
 ghost use Rattle.mesh_radio.specs.Scene.{AreRouterStates, Lands, SendsAlone, TicksOne};
 ghost use Rattle.mesh_radio.specs.Traffic.Traffic.{traffic_of};
-ghost use Rattle.mesh_radio.specs.Traffic.Ways.{AreArcsOut};
+ghost use Rattle.mesh_machine.specs.Ways.{AreArcsOut};
 
 use crate::occurrences::Occurrence;
 use crate::routers::{hear, sender_of, tick};

@@ -16,4 +16,4 @@ pub use mesh_atoms::{Counts, Emission, NetEvent};
 pub use mesh_core::{Core, Machine, RouterView};
 pub use mesh_machine::{machines, routers_end_together};
 pub use net::Net;
-pub use traffic::{ArcsOut, ArrivedFrame, Draws, FramesInAir, RadioTraffic, ways_of, words_of};
+pub use traffic::{ArrivedFrame, Draws, FramesInAir, RadioTraffic, words_of};

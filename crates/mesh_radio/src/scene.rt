@@ -1,7 +1,8 @@
 //! What an emulated network has besides its routers.
-use crate::traffic::{ArcsOut, RadioTraffic};
+use crate::traffic::RadioTraffic;
 use mesh_atoms::{Scenario, Seq};
 use mesh_core::Outbox;
+use mesh_machine::ArcsOut;
 
 /// The router that ticks first, and when.
 #[derive(Clone, Copy)]

@@ -3,10 +3,8 @@
 mod air;
 mod draws;
 mod traffic;
-mod ways;
 
 pub use crate::traffic::air::{ArrivedFrame, FramesInAir};
 pub use crate::traffic::draws::{Draws, words_of};
 pub use crate::traffic::traffic::RadioTraffic;
 pub(crate) use crate::traffic::traffic::send_all;
-pub use crate::traffic::ways::{ArcsOut, ways_of};

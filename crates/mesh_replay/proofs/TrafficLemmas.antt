@@ -1,3 +1,2 @@
 pub mod Flying
 pub mod Hearing
-pub mod Leaving

@@ -1,4 +1,3 @@
 pub mod Air
 pub mod Draws
 pub mod Traffic
-pub mod Ways

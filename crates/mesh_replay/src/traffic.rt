@@ -4,8 +4,6 @@
 mod air;
 mod draws;
 mod traffic;
-mod ways;
 
 pub(crate) use crate::traffic::air::Delivered;
 pub(crate) use crate::traffic::traffic::TraceTraffic;
-pub(crate) use crate::traffic::ways::{LeavingArcs, ways_of};

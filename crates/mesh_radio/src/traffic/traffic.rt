@@ -6,14 +6,14 @@ ghost use Rattle.mesh_machine.specs.Sendable.{IsSendable};
 ghost use Rattle.mesh_machine.specs.Traffic.{IsLossy, IsLost, Spreads, Sends, SendsAll, frame_of, next_count};
 ghost use Rattle.mesh_radio.specs.Occurrences.{emission_of};
 ghost use Rattle.mesh_radio.specs.Traffic.Traffic.{traffic_of};
-ghost use Rattle.mesh_radio.specs.Traffic.Ways.{AreArcsOut};
+ghost use Rattle.mesh_machine.specs.Ways.{AreArcsOut};
 
 use crate::occurrences::SentFrame;
 use crate::traffic::air::FramesInAir;
 use crate::traffic::draws::Draws;
-use crate::traffic::ways::{ArcsOut, leaving_of};
 use mesh_atoms::{Bytes, Counts, RadioArc, Scenario, Seq};
 use mesh_core::{Outbox, TypedFrame};
+use mesh_machine::{ArcsOut, leaving_of};
 use std::alloc::{AllocError, Global};
 use std::rc::Rc;
 

@@ -9,12 +9,12 @@ use Rattle.mesh_trace.specs.Reading.Readers.{IsReaderOf}
 use Rattle.mesh_replay.specs.declared.checking.case.Case.{Case}
 use Rattle.mesh_replay.specs.declared.checking.case.CheckedEvent.{CheckedEvent}
 use Rattle.mesh_replay.specs.declared.checking.case.Progress.{Progress}
-use Rattle.mesh_replay.specs.Traffic.Ways.{AreLeaving}
+use Rattle.mesh_trace.specs.machine.Ways.{AreArcsOut}
 use Rattle.mesh_replay.specs.Checking.Going.{at, FitsOrStops}
 
 -- the arcs are those of the scenario by the interfaces that they leave
 abbrev pub IsCase : Case → Type 0
-IsCase case = AreLeaving case.scenario.now.arcs case.scenario.now.routers (length case.scenario.now.routers) case.ways
+IsCase case = AreArcsOut case.scenario.now.arcs case.scenario.now.routers (length case.scenario.now.routers) case.ways
 
 -- the trace is read by its reader; words are drawn by the scenario's seed, and frames fly on its arcs
 pub record IsProgress (case : Case) (progress : Progress) : Type 0 where

@@ -1,5 +1,5 @@
 -- What is true of an event's router before and behind the lines of the event.
-use Rattle.std.specs.Prelude.{◌≡◌, ℕ, List, [], Bool, IsTrue}
+use Rattle.std.specs.Prelude.{◌≡◌, List, [], Bool, IsTrue}
 use Rattle.mesh_atoms.specs.State.{State}
 use Rattle.mesh_trace.specs.Positions.Alike.{HasAddresses}
 use Rattle.mesh_trace.specs.Positions.Standing.{Item}

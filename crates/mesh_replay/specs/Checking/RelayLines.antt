@@ -1,5 +1,5 @@
 -- The relay lines of an event, one by one: of an interface, or for routing where there is none.
-use Rattle.std.specs.Prelude.{◌≡◌, ◌<◌, ◌^◌, ℕ, List, [], ◌∷◌, ◌++◌, All, Bool, true, false, cond, Option, Some, None, map, drop, length, slice_get}
+use Rattle.std.specs.Prelude.{◌≡◌, ◌<◌, ◌^◌, ℕ, List, [], ◌∷◌, ◌++◌, All, true, false, cond, Option, Some, None, map, drop, length, slice_get}
 use Rattle.std.specs.List.{enumerate_from}
 use Rattle.mesh_atoms.specs.declared.addr.Addr4.{Addr4}
 use Rattle.mesh_atoms.specs.declared.graphs.NeighbourGraph.{NeighbourGraph}

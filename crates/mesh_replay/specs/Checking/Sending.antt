@@ -12,7 +12,7 @@ use Rattle.mesh_texts.specs.Lines.Marks.{joined}
 use Rattle.mesh_trace.specs.machine.declared.frame.Frame.{Frame}
 use Rattle.mesh_trace.specs.machine.Sending.{IsTcOfRows}
 use Rattle.mesh_trace.specs.machine.Traffic.{Sends}
-use Rattle.mesh_trace.specs.Positions.Standing.{Item, Sent, Lost}
+use Rattle.mesh_trace.specs.Positions.Standing.{Sent, Lost}
 use Rattle.mesh_wire.specs.Writes.{WritesHello, WritesTc}
 use Rattle.mesh_replay.specs.declared.checking.case.Case.{Case}
 use Rattle.mesh_replay.specs.declared.checking.case.CheckedEvent.{CheckedEvent}
@@ -21,7 +21,7 @@ use Rattle.mesh_replay.specs.declared.checking.octets.DueMessage.{DueMessage}
 use Rattle.mesh_replay.specs.declared.checking.octets.DueMessage.TheVariants as due
 use Rattle.mesh_replay.specs.declared.checking.tcs.DueRows.{DueRows}
 use Rattle.mesh_replay.specs.Traffic.Traffic.{SeededTraffic}
-use Rattle.mesh_replay.specs.Checking.Cases.{AnyState, IsProgress, TellsItems}
+use Rattle.mesh_replay.specs.Checking.Cases.{AnyState, TellsItems}
 use Rattle.mesh_replay.specs.Checking.Kept.{IsSoundRouter}
 
 -- what stands before the octets in the line of a frame that is sent

@@ -1,6 +1,7 @@
 //! What is checked, the event at hand, and how far the checking came.
-use crate::traffic::{LeavingArcs, TraceTraffic};
+use crate::traffic::TraceTraffic;
 use mesh_atoms::{RouterSettings, Scenario, Seq};
+use mesh_core::ArcsOut;
 use mesh_trace::Reader;
 
 /// A trace with its scenario, and the arcs of this by the interfaces that they leave.
@@ -8,7 +9,7 @@ use mesh_trace::Reader;
 pub(crate) struct Case<'a> {
     pub(crate) trace: &'a [u8],
     pub(crate) scenario: &'a Scenario,
-    pub(crate) ways: Seq<Seq<LeavingArcs>>,
+    pub(crate) ways: Seq<Seq<ArcsOut>>,
 }
 
 /// An event: the number of its router, this router's settings, and the moment.

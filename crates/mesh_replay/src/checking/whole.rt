@@ -14,8 +14,8 @@ use crate::checking::case::{Case, Progress};
 use crate::checking::opening::{opening_progress, opening_scene};
 use crate::checking::scene::{CheckedNet, Outcome};
 use crate::checking::step::next_event;
-use crate::traffic::ways_of;
 use mesh_atoms::Scenario;
+use mesh_core::ways_of;
 use mesh_expire::Bases;
 use std::alloc::{AllocError, Global};
 

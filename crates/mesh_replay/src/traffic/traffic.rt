@@ -5,12 +5,12 @@ ghost use Rattle.mesh_atoms.specs.declared.settings.RouterSettings.{RouterSettin
 ghost use Rattle.mesh_trace.specs.machine.Traffic.{Spreads, Sends, IsLost, IsLossy, next_count};
 ghost use Rattle.mesh_replay.specs.Traffic.Air.{delivery_of};
 ghost use Rattle.mesh_replay.specs.Traffic.Traffic.{HasTaken};
-ghost use Rattle.mesh_replay.specs.Traffic.Ways.{AreLeaving};
+ghost use Rattle.mesh_trace.specs.machine.Ways.{AreArcsOut};
 
 use crate::traffic::air::{AwaitedFrames, Delivered};
 use crate::traffic::draws::WordStream;
-use crate::traffic::ways::{LeavingArcs, leaving_of};
 use mesh_atoms::{Bytes, Counts, RadioArc, Scenario, Seq};
+use mesh_core::{ArcsOut, leaving_of};
 use std::alloc::{AllocError, Global};
 use std::marker::Model;
 use std::rc::Rc;
@@ -65,13 +65,13 @@ impl TraceTraffic {
     pub(crate) fn send(
         &mut self,
         scenario: &Scenario,
-        ways: &Seq<Seq<LeavingArcs>>,
+        ways: &Seq<Seq<ArcsOut>>,
         now: u64,
         router: usize,
         iface: usize,
         frame: &Rc<Bytes>,
     ) -> Result<Seq<usize>, AllocError>
-        requires ways { AreLeaving scenario.now.arcs scenario.now.routers (length scenario.now.routers) ways.now }
+        requires ways { AreArcsOut scenario.now.arcs scenario.now.routers (length scenario.now.routers) ways.now }
         requires face { (settings : RouterSettings) × (slice_get scenario.now.routers router ≡ Some settings)
             × (iface < length settings.interfaces) }
         requires seed { self.old.seed ≡ scenario.now.seed }

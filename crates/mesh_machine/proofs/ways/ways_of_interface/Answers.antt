@@ -1,10 +1,10 @@
 use Rattle.std.proofs.Common.{sym, ◌∙◌, ◌≡◌, ◌++◌, append-nil, drop, [], subst, true, false}
 use Rattle.std.specs.List.{filter, enumerate_from}
 use Rattle.std.proofs.lemmas.List.{drop_all}
-use Rattle.mesh_trace.specs.machine.Traffic.{leaves, leaving}
-use Rattle.mesh_replay.proofs.traffic.ways.ways_of_interface.Goals as goal
-use Rattle.mesh_replay.proofs.traffic.ways.ways_of_interface.Goals.{then-is_arc_from+in_ok-push, else-is_arc_from}
-use Rattle.mesh_trace.proofs.machine.Leaving.{leaving_more}
+use Rattle.mesh_machine.specs.Traffic.{leaves, leaving}
+use Rattle.mesh_machine.proofs.ways.ways_of_interface.Goals as goal
+use Rattle.mesh_machine.proofs.ways.ways_of_interface.Goals.{then-is_arc_from+in_ok-push, else-is_arc_from}
+use Rattle.mesh_machine.proofs.Leaving.{leaving_more}
 
 pub loop-number-preserved : goal.loop-number-preserved
 loop-number-preserved c =

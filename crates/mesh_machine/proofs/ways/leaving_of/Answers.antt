@@ -1,8 +1,8 @@
 use Rattle.std.proofs.Common.{◌≡◌, ◌∙◌, get_or, subst, List, ℕ}
 use Rattle.std.proofs.lemmas.Option.{slice_get_within}
 use Rattle.mesh_atoms.specs.declared.settings.RadioArc.{RadioArc}
-use Rattle.mesh_replay.proofs.TrafficLemmas.Leaving.{way_at}
-use Rattle.mesh_replay.proofs.traffic.ways.leaving_of.Goals as goal
+use Rattle.mesh_machine.proofs.LeavingArcs.{way_at}
+use Rattle.mesh_machine.proofs.ways.leaving_of.Goals as goal
 
 pub returns : goal.returns
 returns c =

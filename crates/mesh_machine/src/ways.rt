@@ -1,22 +1,22 @@
 //! The arcs of a scenario by the interfaces that they leave.
 ghost use Rattle.std.specs.Prelude.{◌≡◌, ◌<◌, ℕ, length, map, IfOk, Some, slice_get};
 ghost use Rattle.mesh_atoms.specs.declared.settings.RouterSettings.{RouterSettings};
-ghost use Rattle.mesh_trace.specs.machine.Traffic.{leaves, leaving};
-ghost use Rattle.mesh_replay.specs.Traffic.Ways.{AreLeaving, AreLeavingOf};
+ghost use Rattle.mesh_machine.specs.Traffic.{leaves, leaving};
+ghost use Rattle.mesh_machine.specs.Ways.{AreArcsOut, AreWaysOf};
 
 use mesh_atoms::{RadioArc, RouterSettings, Scenario, Seq};
 use std::alloc::{AllocError, Global};
 
 /// Arcs with their numbers, in order.
-pub(crate) type LeavingArcs = Seq<(usize, RadioArc)>;
+pub type ArcsOut = Seq<(usize, RadioArc)>;
 
 /// The arcs that leave each interface of each router. Looks at each arc once for each interface.
-pub(crate) fn ways_of(
+pub fn ways_of(
     alloc: Global,
     routers: &[RouterSettings],
     arcs: &[RadioArc],
-) -> Result<Seq<Seq<LeavingArcs>>, AllocError>
-    ensures { IfOk result (AreLeaving arcs.now routers.now (length routers.now)) }
+) -> Result<Seq<Seq<ArcsOut>>, AllocError>
+    ensures { IfOk result (AreArcsOut arcs.now routers.now (length routers.now)) }
 {
     let mut ways = Seq::new(alloc);
     for (x, router) in routers.iter().enumerate() {
@@ -26,15 +26,14 @@ pub(crate) fn ways_of(
 }
 
 /// The arcs that leave an interface of a router.
-pub(crate) fn leaving_of<'a>(
+pub fn leaving_of<'a>(
     scenario: &Scenario,
-    ways: &'a Seq<Seq<LeavingArcs>>,
+    ways: &'a Seq<Seq<ArcsOut>>,
     router: usize,
     iface: usize,
 ) -> &'a [(usize, RadioArc)]
-    requires ways { AreLeaving scenario.now.arcs scenario.now.routers (length scenario.now.routers) ways.now }
-    requires face { (settings : RouterSettings) × (slice_get scenario.now.routers router ≡ Some settings)
-        × (iface < length settings.interfaces) }
+    requires ways { AreArcsOut scenario.now.arcs scenario.now.routers (length scenario.now.routers) ways.now }
+    requires face { (settings : RouterSettings) × (slice_get scenario.now.routers router ≡ Some settings) × (iface < length settings.interfaces) }
     ensures { result.now ≡ leaving scenario.now.arcs router iface }
 {
     let of_router = &ways.as_slice()[router];
@@ -42,14 +41,14 @@ pub(crate) fn leaving_of<'a>(
     of_interface.as_slice()
 }
 
-/// The arcs that leave each of so many interfaces of a router.
+// The arcs that leave each of so many interfaces of a router.
 fn ways_of_router(
     alloc: Global,
     arcs: &[RadioArc],
     router: usize,
     interfaces: usize,
-) -> Result<Seq<LeavingArcs>, AllocError>
-    ensures { IfOk result (AreLeavingOf arcs.now router interfaces) }
+) -> Result<Seq<ArcsOut>, AllocError>
+    ensures { IfOk result (AreWaysOf arcs.now router interfaces) }
 {
     let mut ways = Seq::new(alloc);
     for iface in 0..interfaces {
@@ -58,13 +57,13 @@ fn ways_of_router(
     Ok(ways)
 }
 
-/// The arcs that leave an interface of a router.
+// The arcs that leave an interface of a router.
 fn ways_of_interface(
     alloc: Global,
     arcs: &[RadioArc],
     router: usize,
     iface: usize,
-) -> Result<LeavingArcs, AllocError>
+) -> Result<ArcsOut, AllocError>
     ensures { IfOk result (λ ways. ways ≡ leaving arcs.now router iface) }
 {
     let mut ways = Seq::new(alloc);
@@ -76,7 +75,7 @@ fn ways_of_interface(
     Ok(ways)
 }
 
-/// Whether an arc leaves an interface of a router.
+// Whether an arc leaves an interface of a router.
 fn is_arc_from(arc: &RadioArc, router: usize, iface: usize) -> bool
     ensures { result ≡ leaves router iface arc.now }
 {

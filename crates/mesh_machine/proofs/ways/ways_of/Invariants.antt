@@ -1,0 +1,5 @@
+use Rattle.mesh_machine.specs.Ways.{AreArcsOut}
+use Rattle.mesh_machine.proofs.ways.ways_of.Given as goal
+
+abbrev pub invariant-loop-x : goal.invariant-loop-x
+invariant-loop-x l = AreArcsOut l.arcs l.routers l.x l.ways
