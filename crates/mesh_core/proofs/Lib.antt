@@ -1,5 +1,6 @@
 -- Lemmas for crates above, each file with the crates that cite it.
 pub mod HeldLemmas  -- replay
+pub mod Kept  -- radio, run
 -- Lemmas of this crate alone.
 mod Clauses
 mod Emptied

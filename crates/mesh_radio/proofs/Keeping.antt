@@ -1,5 +1,5 @@
 -- Routers, and what is kept of them.
-use Rattle.std.proofs.Common.{◌≡◌, ℕ, ◌≤◌, ◌∙◌, List, sym, ap, subst, get_or, arith, All, Some}
+use Rattle.std.proofs.Common.{◌≡◌, ℕ, ◌≤◌, ◌∙◌, List, sym, subst, get_or, arith, All, Some}
 use Rattle.std.specs.Prelude.{slice_get}
 use Rattle.std.proofs.lemmas.List.{same_lists}
 use Rattle.std.proofs.lemmas.Option.{slice_get-get_or, slice_get_within, get_or_from_slice_get}
@@ -8,21 +8,9 @@ use Rattle.mesh_machine.specs.Machine.{due}
 use Rattle.mesh_machine.specs.Net.{IsFirstDue}
 use Rattle.mesh_core.specs.Deferred.{IsKeptOf}
 use Rattle.mesh_radio.specs.Scene.{AreKeptOf}
+use Rattle.mesh_core.proofs.Kept.{kept_due}
 use Rattle.mesh_radio.proofs.Soundness.{all_due}
 use Rattle.mesh_atoms.proofs.Lists.{item_at as stands}
-
--- what is kept of what is kept of a router
-pub kept_through : (until : ℕ) (whole mid rest : State) → IsKeptOf until whole mid → IsKeptOf until mid rest → IsKeptOf until whole rest
-kept_through until whole mid rest first second = record {
-  same = first.same ∙ ap (λ (s : State). record s { relays = whole.relays; routes = whole.routes }) second.same;
-  from_then = λ late.
-      let last : mid.last ≡ rest.last = ap (λ (s : State). s.last) second.same in
-      first.from_then (omega (arith, last, late)) ∙ second.from_then late;
-}
-
--- the due moment is kept
-pub kept_due : (until : ℕ) (whole rest : State) → IsKeptOf until whole rest → due whole ≡ due rest
-kept_due until whole rest kept = ap due kept.same
 
 module _ (until : ℕ) (wholes rests : List State) (kept : AreKeptOf until wholes rests) where
   -- the router of which this is kept

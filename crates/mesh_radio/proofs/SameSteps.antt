@@ -1,94 +1,17 @@
--- A step looks at no relays and routes of the state before it, so that what happens to what is kept of routers happens to them too.
+-- What happens to what is kept of the routers of a network happens to the routers too.
 use Rattle.std.proofs.Common.{◌≡◌, ℕ, ◌<◌, ◌≤◌, ◌∙◌, List, refl, sym, ap, subst, length, Some, inl, inr, length-set}
 use Rattle.std.specs.Prelude.{slice_get, slice_set}
-use Rattle.mesh_atoms.specs.State.{State, Bases}
-use Rattle.mesh_atoms.specs.declared.tuples.Relays.{Relays}
-use Rattle.mesh_atoms.specs.declared.graphs.Route.{Route}
+use Rattle.mesh_atoms.specs.State.{State}
 use Rattle.mesh_atoms.specs.declared.network.NetEvent.{NetEvent}
-use Rattle.mesh_machine.specs.declared.arrival.Arrival.{Arrival}
-use Rattle.mesh_machine.specs.declared.fate.Fate.{Fate}
-use Rattle.mesh_machine.specs.declared.fate.Heard.TheVariants as heard
-use Rattle.mesh_machine.specs.declared.frame.Frame.{Frame}
-use Rattle.mesh_machine.specs.Machine.{Event, Step, Heard_frame, Ticked, HearsPacket, TicksAt}
 use Rattle.mesh_machine.specs.Net.{NetStep, By_delivery, By_tick, By_last_tick, Moves, HasOnlyLastTicks}
-use Rattle.mesh_machine.specs.Renewal.{Renews}
-use Rattle.mesh_machine.specs.Sending.{SendsHellos, Hellos_early, Hellos_due, SendsTcs, Tcs_early, Tcs_silent, Tcs_due}
 use Rattle.mesh_machine.specs.Traffic.{Traffic}
 use Rattle.mesh_machine.proofs.Places.{same_at, set_at, set_there}
 use Rattle.mesh_machine.proofs.Soundness.{step_sound}
-use Rattle.mesh_core.specs.Deferred.{IsKeptOf}
 use Rattle.mesh_radio.specs.declared.scene.Scene.{Scene}
 use Rattle.mesh_radio.specs.Scene.{AreKeptOf, AreSoundStates, net_of}
-use Rattle.mesh_radio.proofs.Keeping.{kept_through, whole_at, rest_at, dues_of, first_of}
+use Rattle.mesh_core.proofs.Kept.{kept_through, step_from}
+use Rattle.mesh_radio.proofs.Keeping.{whole_at, rest_at, dues_of, first_of}
 use Rattle.mesh_atoms.proofs.Lists.{set_here}
-
--- One router
-
-module _ (rest : State) (relays : Relays) (routes : List Route) where
-  -- the same but for its relays and routes
-  abbrev whole : State
-  whole = record rest { relays = relays; routes = routes }
-
-  renews_from : (now : ℕ) (bases : Bases) (new : State) → Renews rest now bases new → Renews whole now bases new
-  renews_from now bases new h = record {
-    settings = h.settings;
-    bases_are = h.bases_are;
-    last = h.last;
-    relays = h.relays;
-    rows = h.rows;
-    ansn = h.ansn;
-    emptied = h.emptied;
-    self = h.self;
-    routes = h.routes;
-  }
-
-  hears_from : (arrival : Arrival) (bytes : List ℕ) (fates : List Fate) (sent : List Frame) (new : State) → HearsPacket rest arrival bytes fates sent new → HearsPacket whole arrival bytes fates sent new
-  hears_from arrival bytes fates sent new h = record {
-    packet = h.packet;
-    spans = h.spans;
-    spelled = h.spelled;
-    own = h.own;
-    is_own = h.is_own;
-    live = h.live;
-    is_live = h.is_live;
-    bases = h.bases;
-    takes = h.takes;
-    renews = renews_from arrival.now h.bases new h.renews;
-    sequence = h.sequence;
-    next_hello = h.next_hello;
-    next_tc = h.next_tc;
-  }
-
-  hellos_from : (new : State) (sent : List Frame) → SendsHellos rest new sent → SendsHellos whole new sent
-  hellos_from new sent (Hellos_early early next) = Hellos_early early next
-  hellos_from new sent (Hellos_due late next are) = Hellos_due late next are
-
-  tcs_from : (new : State) (sent : List Frame) → SendsTcs rest new sent → SendsTcs whole new sent
-  tcs_from new sent (Tcs_early early next sequence) = Tcs_early early next sequence
-  tcs_from new sent (Tcs_silent late next nothing sequence) = Tcs_silent late next nothing sequence
-  tcs_from new sent (Tcs_due late next has parts are validity is sequence sends) = Tcs_due late next has parts are validity is sequence sends
-
-  ticks_from : (now : ℕ) (sent : List Frame) (new : State) → TicksAt rest now sent new → TicksAt whole now sent new
-  ticks_from now sent new h = record {
-    live = h.live;
-    is_live = h.is_live;
-    renews = renews_from now h.live new h.renews;
-    hellos = h.hellos;
-    sends_hellos = hellos_from new h.hellos h.sends_hellos;
-    tcs = h.tcs;
-    sends_tcs = tcs_from new h.tcs h.sends_tcs;
-    sends = h.sends;
-  }
-
--- a step from what is kept of a router is one from the router: what is kept of the state to which the one leads is kept of the other's
-pub step_from : (until : ℕ) (whole rest : State) (event : Event) (sent : List Frame) (mid new : State) → IsKeptOf until whole rest → Step rest event sent mid → IsKeptOf until mid new →
-    (next : State) × Step whole event sent next × IsKeptOf until next new
-step_from until whole rest event sent mid new kept (Heard_frame {arrival} {bytes} {sent = frames} {new = after} (heard.Refused refusal) hears) still =
-    (whole, Heard_frame (heard.Refused refusal) (hears.0, hears.1, refl), kept_through until whole rest new kept (subst (λ (s : State). IsKeptOf until s new) hears.2 still))
-step_from until whole rest event sent mid new kept (Heard_frame {arrival} {bytes} {sent = frames} {new = after} (heard.Taken fates) hears) still =
-    (mid, Heard_frame (heard.Taken fates) (subst (λ (s : State). HearsPacket s arrival bytes fates frames after) (sym kept.same) (hears_from rest whole.relays whole.routes arrival bytes fates frames after hears)), still)
-step_from until whole rest event sent mid new kept (Ticked {now} ticks) still =
-    (mid, Ticked (subst (λ (s : State). TicksAt s now sent mid) (sym kept.same) (ticks_from rest whole.relays whole.routes now sent mid ticks)), still)
 
 -- All routers
 
