@@ -1,4 +1,5 @@
 mod Members
+mod OneAddress
 mod PlainRouters
 mod Qualities
 mod Spoiled

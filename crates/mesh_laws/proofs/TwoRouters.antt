@@ -11,7 +11,6 @@ use Rattle.mesh_atoms.specs.declared.settings.RouterSettings.{RouterSettings}
 use Rattle.mesh_atoms.specs.declared.settings.Scenario.{Scenario}
 use Rattle.mesh_atoms.specs.declared.graphs.Route.{Route}
 use Rattle.mesh_atoms.specs.Base.{host}
-use Rattle.mesh_atoms.specs.Codes.Codes.{metric_value}
 use Rattle.mesh_atoms.specs.State.{State, HasLink, HasTwoHop, HasSymmetric, HasAddressOn}
 use Rattle.mesh_paths.proofs.ShortLists.{only, first_of}
 pub use Rattle.mesh_laws.proofs.TwoRoutersInRange.{addr}
@@ -75,9 +74,6 @@ state x y = record {
 
 abbrev pub states : List State
 states = state 0 1 ∷ state 1 0 ∷ []
-
-pub one_is : metric_value one ≡ 1
-one_is = refl
 
 -- Addresses, and what a state of the two holds
 

@@ -6,17 +6,18 @@ use Rattle.mesh_atoms.specs.declared.addr.Addr4.{Addr4}
 use Rattle.mesh_atoms.specs.declared.addr.NetAddr.{NetAddr}
 use Rattle.mesh_atoms.specs.declared.codes.metric.Metric.{Metric}
 use Rattle.mesh_atoms.specs.declared.hello.LocalIf.{LocalIf}
-use Rattle.mesh_atoms.specs.declared.hello.LocalIf.TheVariants.{This, Other}
+use Rattle.mesh_atoms.specs.declared.hello.LocalIf.TheVariants.{This}
 use Rattle.mesh_atoms.specs.declared.hello.LinkStatus.TheVariants.{Heard}
 use Rattle.mesh_atoms.specs.declared.hello.HelloRow.{HelloRow}
 use Rattle.mesh_atoms.specs.declared.settings.Interface.{Interface}
 use Rattle.mesh_atoms.specs.declared.settings.SenderMetric.{SenderMetric}
 use Rattle.mesh_atoms.specs.declared.settings.RouterSettings.{RouterSettings}
 use Rattle.mesh_atoms.specs.Codes.Codes.{metric_value}
-use Rattle.mesh_atoms.specs.HelloTold.{Told, Tells, HasRowOf, TellsLocal, IsSending, IsListed, IsHandedIn, LooksAt, tells_symmetric}
+use Rattle.mesh_atoms.specs.HelloTold.{Told, Tells, HasRowOf, TellsLocal, IsHandedIn, LooksAt, tells_symmetric}
 use Rattle.mesh_atoms.specs.State.{HasAddress, HasAddressOn}
 use Rattle.mesh_atoms.specs.TakesHello.{IsOwn, Local, Originator, Sender, IsFault, IsHeld, IsFullOfAddresses, FitsTwoHops}
 use Rattle.mesh_laws.specs.WorkedHello.{peer, me, third, one, three, seven, own_row, my_row, third_row, hello, IsReceiver, nothing}
+use Rattle.mesh_laws.proofs.OneAddress.{sending_one, listed_one}
 use Rattle.mesh_paths.proofs.ShortLists.{only, few_of_one}
 use Rattle.mesh_atoms.proofs.Lists.{contains_none as none_of, contains_head as here}
 use Rattle.mesh_atoms.proofs.Options.{none_is_some}
@@ -129,28 +130,9 @@ module _ (settings : RouterSettings) (r : IsReceiver settings) where
 
   pub tells : Tells settings 0 peer hello told
   tells = record {
-    sending = (
-      (λ i j d less within. absurd (omega (arith, less, within))),
-      (λ a. (
-        (λ c. (let e = only peer a c in let P : Addr4 → Type 0 = λ b. IsSending hello peer b in subst P (sym e) (inl (own_row, ((0, omega arith, refl), refl), refl)))),
-        (λ is. elim is [
-          | inl shows ↦ (let P : Addr4 → Type 0 = λ b. Contains (peer ∷ []) b in subst P (sym (shows_local a This shows).0) (here peer []))
-          | inr other ↦ (let P : Addr4 → Type 0 = λ b. Contains (peer ∷ []) b in subst P (sym other.0) (here peer []))
-        ]),
-      )),
-    );
+    sending = sending_one hello peer (own_row, ((0, omega arith, refl), refl), refl) shows_local;
     least = refl;
-    listed = (
-      (λ i j d less within. absurd (omega (arith, less, within))),
-      (λ a. (
-        (λ c. (let e = only peer a c in let P : Addr4 → Type 0 = λ b. IsListed hello peer b in subst P (sym e) (inl (inl (own_row, ((0, omega arith, refl), refl), refl))))),
-        (λ is. elim is [
-          | inl (inl shows) ↦ (let P : Addr4 → Type 0 = λ b. Contains (peer ∷ []) b in subst P (sym (shows_local a This shows).0) (here peer []))
-          | inl (inr other) ↦ (let P : Addr4 → Type 0 = λ b. Contains (peer ∷ []) b in subst P (sym other.0) (here peer []))
-          | inr shows ↦ (let P : Addr4 → Type 0 = λ b. Contains (peer ∷ []) b in subst P (sym (shows_local a Other shows).0) (here peer []))
-        ]),
-      )),
-    );
+    listed = listed_one hello peer (own_row, ((0, omega arith, refl), refl), refl) shows_local;
     originator = inl refl;
     willing = refl;
     validity = refl;

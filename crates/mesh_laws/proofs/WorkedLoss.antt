@@ -6,7 +6,7 @@ use Rattle.mesh_atoms.specs.declared.addr.Addr4.{Addr4}
 use Rattle.mesh_atoms.specs.declared.addr.NetAddr.{NetAddr}
 use Rattle.mesh_atoms.specs.declared.codes.metric.Metric.{Metric}
 use Rattle.mesh_atoms.specs.declared.hello.LocalIf.{LocalIf}
-use Rattle.mesh_atoms.specs.declared.hello.LocalIf.TheVariants.{This, Other}
+use Rattle.mesh_atoms.specs.declared.hello.LocalIf.TheVariants.{This}
 use Rattle.mesh_atoms.specs.declared.hello.LinkStatus.TheVariants.{Heard}
 use Rattle.mesh_atoms.specs.declared.hello.HelloRow.{HelloRow}
 use Rattle.mesh_atoms.specs.declared.tuples.LinkKey.{LinkKey}
@@ -20,12 +20,13 @@ use Rattle.mesh_atoms.specs.declared.settings.SenderMetric.{SenderMetric}
 use Rattle.mesh_atoms.specs.declared.settings.RouterSettings.{RouterSettings}
 use Rattle.mesh_atoms.specs.AfterHello.{AfterHello, renewed, Remains}
 use Rattle.mesh_atoms.specs.Base.{HasDistinctKeys, base_of, addr_eq, link_eq, two_hop_eq}
-use Rattle.mesh_atoms.specs.HelloTold.{Told, Tells, HasRowOf, TellsLocal, IsSending, IsListed, IsHandedIn, LooksAt}
+use Rattle.mesh_atoms.specs.HelloTold.{Told, Tells, HasRowOf, TellsLocal, IsHandedIn, LooksAt}
 use Rattle.mesh_atoms.specs.Live.{HasSymmetricOf, IsByLinks, IsSymmetricAddress, SettlesLost, Stays}
 use Rattle.mesh_atoms.specs.State.{link_at, two_hop_at, neighbour_at, lost_at, is_symmetric, HasAddress, HasAddressOn}
 use Rattle.mesh_atoms.specs.TakesHello.{IsOwn, Local, Originator, Sender, IsFault, IsHeld, IsFullOfAddresses, FitsTwoHops, Takes}
 use Rattle.mesh_atoms.proofs.Lookups.{same_addr}
 use Rattle.mesh_laws.specs.WorkedHello.{peer, me, one, own_row, IsReceiver, link, neighbour, after}
+use Rattle.mesh_laws.proofs.OneAddress.{sending_one, listed_one}
 use Rattle.mesh_paths.proofs.ShortLists.{only, found_one, single_distinct, empty_distinct, few_of_one}
 use Rattle.mesh_atoms.specs.Live.{Gone, Restores}
 use Rattle.mesh_atoms.specs.AfterHello.{Stood}
@@ -139,28 +140,9 @@ module _ (settings : RouterSettings) (r : IsReceiver settings) where
 
   tells_loss : Tells settings 0 peer later_hello told_loss
   tells_loss = record {
-    sending = (
-      (λ i j d less within. absurd (omega (arith, less, within))),
-      (λ a. (
-        (λ c. (let e = only peer a c in let P : Addr4 → Type 0 = λ b. IsSending later_hello peer b in subst P (sym e) (inl (own_row, ((0, omega arith, refl), refl), refl)))),
-        (λ is. elim is [
-          | inl shows ↦ (let P : Addr4 → Type 0 = λ b. Contains (peer ∷ []) b in subst P (sym (shows_local a This shows).0) (here peer []))
-          | inr other ↦ (let P : Addr4 → Type 0 = λ b. Contains (peer ∷ []) b in subst P (sym other.0) (here peer []))
-        ]),
-      )),
-    );
+    sending = sending_one later_hello peer (own_row, ((0, omega arith, refl), refl), refl) shows_local;
     least = refl;
-    listed = (
-      (λ i j d less within. absurd (omega (arith, less, within))),
-      (λ a. (
-        (λ c. (let e = only peer a c in let P : Addr4 → Type 0 = λ b. IsListed later_hello peer b in subst P (sym e) (inl (inl (own_row, ((0, omega arith, refl), refl), refl))))),
-        (λ is. elim is [
-          | inl (inl shows) ↦ (let P : Addr4 → Type 0 = λ b. Contains (peer ∷ []) b in subst P (sym (shows_local a This shows).0) (here peer []))
-          | inl (inr other) ↦ (let P : Addr4 → Type 0 = λ b. Contains (peer ∷ []) b in subst P (sym other.0) (here peer []))
-          | inr shows ↦ (let P : Addr4 → Type 0 = λ b. Contains (peer ∷ []) b in subst P (sym (shows_local a Other shows).0) (here peer []))
-        ]),
-      )),
-    );
+    listed = listed_one later_hello peer (own_row, ((0, omega arith, refl), refl), refl) shows_local;
     originator = inl refl;
     willing = refl;
     validity = refl;
