@@ -67,11 +67,6 @@ pub append_none : {A : Type 0} (xs ys : List A) → xs ++ ys ≡ [] → (xs ≡ 
 append_none [] ys e = (refl, e)
 append_none (x ∷ xs) ys e = let bad : ⊥ = cc in absurd bad
 
--- all links, one after the other
-pub append_nothing : {A : Type 0} (xs : List A) → xs ++ [] ≡ xs
-append_nothing [] = refl
-append_nothing (x ∷ xs) = ap (λ rest. x ∷ rest) (append_nothing xs)
-
 pub first_item : {A : Type 0} (xs : List A) → 1 ≤ length xs → (x : A) × (slice_get xs 0 ≡ Some x)
 first_item [] h = absurd (omega arith)
 first_item (x ∷ xs) h = (x, refl)

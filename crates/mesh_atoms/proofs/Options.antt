@@ -14,11 +14,6 @@ none_is_some e = absurd (cc)
 pub none_not : {A B : Type 0} {o : Option A} {a : A} → o ≡ None → o ≡ Some a → B
 none_not e f = none_is_some (sym e ∙ f)
 
--- what holds of an answer, and what follows from it
-pub on_ok_weaker : {A E : Type 0} {P Q : Type 0} (r : Result A E) → (P → Q) → OnOk r P → OnOk r Q
-on_ok_weaker (Ok x) f p = f p
-on_ok_weaker (Err e) f p = tt
-
 -- what holds whether the result is `Ok` or `Err`
 pub by_result : {A B : Type 0} (P Q C : Type 0) (r : Result A B) → OnOk r P → OnErr r Q → (P → C) → (Q → C) → C
 by_result P Q C (Ok x) p q f g = f p
@@ -63,14 +58,6 @@ ok_not_err e f = absurd (cc)
 pub on_err_of : {A E P : Type 0} (r : Result A E) → P → OnErr r P
 on_err_of (Ok x) p = tt
 on_err_of (Err e) p = p
-
-pub not_true : (b : Bool) → not b ≡ true → b ≡ false
-not_true true h = sym h
-not_true false h = refl
-
-pub not_false : (b : Bool) → not b ≡ false → b ≡ true
-not_false true h = refl
-not_false false h = sym h
 
 -- two answers to one question
 pub same_answer : {P : Type 0} (a b : Bool) → (IsTrue a ↔ P) → (IsTrue b ↔ P) → a ≡ b

@@ -6,15 +6,12 @@ use Rattle.std.specs.Option.{option_eq}
 use Rattle.std.specs.Cmp.{booleans_Decides}
 use Rattle.std.proofs.Math.Bool.{beq}
 use Rattle.std.proofs.lemmas.Bool.{false≢true}
-use Rattle.std.proofs.lemmas.Bool.Decides.{Decides-and, Decides-eqb}
+use Rattle.std.proofs.lemmas.Bool.Decides.{Decides-and, Decides-eqb, Decides-like}
 use Rattle.mesh_atoms.specs.declared.addr.Addr4.{Addr4}
 use Rattle.mesh_atoms.specs.declared.addr.NetAddr.{NetAddr}
 use Rattle.mesh_atoms.specs.declared.codes.metric.Metric.{Metric}
 use Rattle.mesh_atoms.specs.declared.tc.TcRow.{TcRow}
 use Rattle.mesh_atoms.proofs.Nets.{same_net}
-
-pub decides_so : {P Q : Type 0} (b : Bool) → (P → Q) → (Q → P) → Decides b P → Decides b Q
-decides_so b to from d = (λ e. to (d.0 e), λ q. d.1 (from q))
 
 pub options : {X : Type 0} (test : X → X → Bool) → ((x y : X) → Decides (test x y) (x ≡ y)) → (a b : Option X) → Decides (option_eq test a b) (a ≡ b)
 options test same None None = (λ _. refl, λ _. refl)
@@ -23,7 +20,7 @@ options test same (Some x) None = (λ e. absurd (false≢true e), λ e. absurd (
 options test same (Some x) (Some y) = (λ e. ap (λ z. Some z) ((same x y).0 e), λ e. let f : x ≡ y = cc in (same x y).1 f)
 
 pub nets : (a b : NetAddr) → Decides (eqb a.addr.0 b.addr.0 && eqb a.prefix b.prefix) (a ≡ b)
-nets a b = decides_so _ (λ h. same_net a b (ap (λ (n : ℕ). let x : Addr4 = record { 0 = n } in x) h.0) h.1) (λ e. (ap (λ (n : NetAddr). n.addr.0) e, ap (λ (n : NetAddr). n.prefix) e)) (Decides-and _ _ (Decides-eqb a.addr.0 b.addr.0) (Decides-eqb a.prefix b.prefix))
+nets a b = Decides-like _ (λ h. same_net a b (ap (λ (n : ℕ). let x : Addr4 = record { 0 = n } in x) h.0) h.1) (λ e. (ap (λ (n : NetAddr). n.addr.0) e, ap (λ (n : NetAddr). n.prefix) e)) (Decides-and _ _ (Decides-eqb a.addr.0 b.addr.0) (Decides-eqb a.prefix b.prefix))
 
 abbrev metric_of : (code : ℕ) → code < 4096 → Metric
 metric_of code in_range = record { code = code; in_range = in_range }
@@ -32,7 +29,7 @@ pub same_metric : (a b : Metric) → a.code ≡ b.code → a ≡ b
 same_metric a b e = subst (λ (k : ℕ). (h : k < 4096) → a ≡ metric_of k h) e (λ h. ap (λ (x : a.code < 4096). metric_of a.code x) (le_prop a.in_range h)) b.in_range
 
 pub metrics : (a b : Metric) → Decides (eqb a.code b.code) (a ≡ b)
-metrics a b = decides_so _ (same_metric a b) (ap (λ (m : Metric). m.code)) (Decides-eqb a.code b.code)
+metrics a b = Decides-like _ (same_metric a b) (ap (λ (m : Metric). m.code)) (Decides-eqb a.code b.code)
 
 abbrev made : NetAddr → Bool → Bool → Option ℕ → Option Metric → TcRow
 made dest origin routable gateway metric = record { dest = dest; origin = origin; routable = routable; gateway = gateway; metric = metric }
@@ -44,7 +41,7 @@ same_row a b d o r g m =
 
 pub rows : (a b : TcRow) → Decides ((eqb a.dest.addr.0 b.dest.addr.0 && eqb a.dest.prefix b.dest.prefix) && (beq a.origin b.origin && (beq a.routable b.routable
     && (option_eq eqb a.gateway b.gateway && option_eq (λ (m n : Metric). eqb m.code n.code) a.metric b.metric)))) (a ≡ b)
-rows a b = decides_so _ (λ h. same_row a b h.0 h.1.0 h.1.1.0 h.1.1.1.0 h.1.1.1.1)
+rows a b = Decides-like _ (λ h. same_row a b h.0 h.1.0 h.1.1.0 h.1.1.1.0 h.1.1.1.1)
     (λ e. (ap (λ (r : TcRow). r.dest) e, (ap (λ (r : TcRow). r.origin) e, (ap (λ (r : TcRow). r.routable) e, (ap (λ (r : TcRow). r.gateway) e, ap (λ (r : TcRow). r.metric) e)))))
     (Decides-and _ _ (nets a.dest b.dest) (Decides-and _ _ (booleans_Decides a.origin b.origin) (Decides-and _ _ (booleans_Decides a.routable b.routable)
     (Decides-and _ _ (options eqb Decides-eqb a.gateway b.gateway) (options (λ (m n : Metric). eqb m.code n.code) metrics a.metric b.metric)))))

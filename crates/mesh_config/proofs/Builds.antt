@@ -115,9 +115,6 @@ map-then g f (x ∷ xs) = ap (λ (ys : List _). g (f x) ∷ ys) (map-then g f xs
 pub names_same : (xs : List Interface) (ys : List StatedInterface) → map interface_fields xs ≡ map stated_interface_fields ys → map (λ i. i.name) xs ≡ map (λ i. i.name) ys
 names_same xs ys h = sym (map-then (λ (f : InterfaceFields). f.interface_name) interface_fields xs) ∙ (ap (map (λ (f : InterfaceFields). f.interface_name)) h ∙ map-then (λ (f : InterfaceFields). f.interface_name) stated_interface_fields ys)
 
-pub addrs_same : (xs : List Interface) (ys : List StatedInterface) → map interface_fields xs ≡ map stated_interface_fields ys → map (λ i. i.addrs) xs ≡ map (λ i. i.addrs) ys
-addrs_same xs ys h = sym (map-then (λ (f : InterfaceFields). f.addrs) interface_fields xs) ∙ (ap (map (λ (f : InterfaceFields). f.addrs)) h ∙ map-then (λ (f : InterfaceFields). f.addrs) stated_interface_fields ys)
-
 pub flat_same : (xs : List Interface) (ys : List StatedInterface) → map interface_fields xs ≡ map stated_interface_fields ys → flat_map (λ i. i.addrs) xs ≡ flat_map (λ i. i.addrs) ys
 flat_same xs ys h = sym (flat_map-map (λ (f : InterfaceFields). f.addrs) interface_fields xs) ∙ (ap (flat_map (λ (f : InterfaceFields). f.addrs)) h ∙ flat_map-map (λ (f : InterfaceFields). f.addrs) stated_interface_fields ys)
 

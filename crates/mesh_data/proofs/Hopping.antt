@@ -25,14 +25,7 @@ chain_on : (hops : List Hop) (from x : ℕ) (hop : Hop) → AreChained from hops
 chain_on [] from x hop e at = (at ∙ sym e, refl)
 chain_on (h ∷ hs) from x hop (first, more) at = (first, chain_on hs h.to x hop more at)
 
--- a scenario has at most 64 routers
-pub few_routers : (s : Scenario) → length s.routers ≤ 64
-few_routers s = let l : length (map (λ r. r.name) s.routers) ≤ 64 = s.sound_routers.routers.at_most in subst (λ (n : ℕ). n ≤ 64) (length-map s.routers (λ (r : RouterSettings). r.name)) l
-
 module _ (s : Scenario) (states : List State) (a : Addr4) (from : ℕ) where
-  pub starts : from < length s.routers → IsOnTheWay s states a from from [] 0 0
-  starts l = record { chain = refl; each = λ hop has. absurd (none_of hop has); count = refl; sum = refl; small = omega arith; within = l }
-
   pub goes : (x : ℕ) (hops : List Hop) (metric made : ℕ) (hop : Hop) → IsOnTheWay s states a from x hops metric made → IsHop s states a hop → hop.from ≡ x → hop.metric ≤ 16776960 →
       IsOnTheWay s states a from hop.to (hops ++ hop ∷ []) (metric + hop.metric) (made + 1)
   goes x hops metric made hop w is at low =

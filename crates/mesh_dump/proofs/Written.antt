@@ -47,9 +47,6 @@ at_most_one recode number line count text is = omega (arith, is.count_is, by is.
   by (Ok x) = omega arith
   by (Err e) = omega arith
 
-pub no_lines : (recode : Bool) (all : List (List ℕ)) → Listed recode all all 0 0 []
-no_lines recode all = record { done = []; all_is = refl; number_is = refl; is = (refl, refl) }
-
 -- one line more
 pub one_more_line : (recode : Bool) (all rest more : List (List ℕ)) (number refused count : ℕ) (line text last : List ℕ) → rest ≡ line ∷ more
     → Listed recode all rest number refused text → IsListing recode (number + 1) line count last → Listed recode all more (number + 1) (refused + count) (text ++ last)

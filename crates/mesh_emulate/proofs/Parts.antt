@@ -10,7 +10,7 @@ use Rattle.mesh_texts.specs.machine.NetRun.{IsOpeningNet, IsOver}
 use Rattle.mesh_texts.specs.Runs.{WholeRun, IsTrace, IsRunText}
 use Rattle.mesh_emulate.specs.declared.wanted.Departure.{Departure}
 use Rattle.mesh_emulate.specs.declared.wanted.Errand.{Errand}
-use Rattle.mesh_emulate.specs.Left.{LeavesOut, IsNothing, RunWithText, IsTraceText, ToldToEnd, ToldSoFar, IsEndSummary, IsTripTold, IsWithoutText, IsEndTold, IsEndAlone, IsEndFront, IsEndPart, IsProbeTold, IsTripped, IsRunTold, IsRunAlone, IsFirstEventsText, IsRunFront, IsRunPart, IsWholeText, IsTripAlone, IsFrontText, IsPartText}
+use Rattle.mesh_emulate.specs.Left.{LeavesOut, RunWithText, IsTraceText, ToldToEnd, ToldSoFar, IsEndSummary, IsTripTold, IsWithoutText, IsEndTold, IsEndAlone, IsEndFront, IsEndPart, IsProbeTold, IsTripped, IsRunTold, IsRunAlone, IsFirstEventsText, IsRunFront, IsRunPart, IsWholeText, IsTripAlone, IsFrontText, IsPartText}
 use Rattle.mesh_emulate.proofs.Leaving.{leaves_then, stops_as}
 
 -- a run from the opening that is over
@@ -128,10 +128,6 @@ probe_left s e final a b c f g h r (text, (run, same, tripped), stands) le left 
 
 -- The summary, and then the trip
 
-summary_front : (s : Scenario) (send : Option Departure) (net : NetState) (text : List ℕ) → IsEndSummary s net text → IsEndFront s send net text
-summary_front s (Some departure) net text is = inl (refl, is)
-summary_front s None net text is = inr (text, [], is, refl, sym (append-nil text))
-
 -- what is left of the trip, behind the summary
 pub trip_left : (s : Scenario) (send : Option Departure) (net : NetState) (a b c : Option (List ℕ)) (f g h : ℕ) (r : Result (Unit {0}) Stop) →
     (end : List ℕ) × IsEndSummary s net end × Appends a b end → f ≤ g →
@@ -142,16 +138,6 @@ trip_left s send net a b c f g h r (end, is, stands) le left =
     (λ t told. (end, t, is, told, refl))
     (λ t told. inr (end, t, is, told, refl))
     (λ t (some, none). inr (some, subst (IsEndSummary s net) (sym (append-nil end) ∙ ap (λ (l : List ℕ). end ++ l) (sym none)) is))
-    left
-
--- what is left where the summary stops
-pub summary_left : (s : Scenario) (send : Option Departure) (net : NetState) (a b : Option (List ℕ)) (f g : ℕ) (why : Stop) →
-    LeavesOut (IsEndSummary s net) (IsEndSummary s net) IsNothing a b f g (Err why) →
-    LeavesOut (IsEndTold s send net) (IsEndFront s send net) (IsEndPart s send net) a b f g (Err why)
-summary_left s send net a b f g why left =
-    stops_as (IsEndSummary s net) (IsEndSummary s net) IsNothing (IsEndTold s send net) (IsEndFront s send net) (IsEndPart s send net) a b f g why
-    (λ t is. summary_front s send net t is)
-    (λ t none. inl none)
     left
 
 -- before the first event

@@ -1,35 +1,21 @@
 -- What is known before the first event, from its parts.
 use Rattle.std.proofs.Common.{◌≡◌, refl, ◌<◌, ℕ, true, false, List, length, get_or, Option, Some, None, sym, ap, ◌∙◌, subst}
-use Rattle.std.specs.Prelude.{IfSome, codes}
+use Rattle.std.specs.Prelude.{codes}
 use Rattle.std.specs.Cmp.Lexicographic.{bytes_decides}
-use Rattle.std.proofs.lemmas.Option.{slice_get_within, slice_get_read}
+use Rattle.std.proofs.lemmas.Option.{slice_get_read}
 use Rattle.mesh_atoms.specs.declared.settings.RouterSettings.{RouterSettings}
 use Rattle.mesh_atoms.specs.declared.settings.Scenario.{Scenario}
 use Rattle.mesh_atoms.specs.Settings.{name_eq}
 use Rattle.mesh_atoms.proofs.Options.{same_some}
-use Rattle.mesh_config.specs.Settings.{FirstRefusal}
 use Rattle.mesh_emulate.specs.declared.wanted.Departure.{Departure}
-use Rattle.mesh_emulate.specs.declared.wanted.Errand.{Errand}
-use Rattle.mesh_emulate.specs.Emulation.{States, IsRefused, By_settings, By_name}
-use Rattle.mesh_emulate.specs.Wants.{WantedPacket, Wants, HasName, IsNamed, Agree, Departs, IsErrand, IsWithin, IsUnknownName, NamesUnknown, NamesKnown, start_of, FirstUnknown, Of_send, Of_probe}
+use Rattle.mesh_emulate.specs.Emulation.{States, IsRefused, By_name}
+use Rattle.mesh_emulate.specs.Wants.{WantedPacket, Wants, HasName, IsNamed, Agree, Departs, IsUnknownName, NamesUnknown, NamesKnown, start_of, FirstUnknown, Of_send, Of_probe}
 use Rattle.mesh_emulate.proofs.Names.{unknown_as}
 use Rattle.mesh_config.specs.Keys.Faults.{Fault, fault, FailsAt, IfSettingRefused}
 use Rattle.mesh_config.specs.declared.keys.fault.ConfigFault.{ConfigFault}
 use Rattle.mesh_config.specs.declared.keys.fault.ConfigFault.TheVariants as faults
 
 -- What is wanted, by numbers
-
-agreed : {A B : Type 0} (R : A → B → Type 0) (P : B → Type 0) → ((a : A) (b : B) → R a b → P b) → (x : Option A) (y : Option B) → Agree R x y → IfSome y P
-agreed R P holds (Some a) (Some b) is = holds a b is
-agreed R P holds None None is = tt
-agreed R P holds None (Some b) is = absurd is
-agreed R P holds (Some a) None is = absurd is
-
-pub errand_within : (s : Scenario) (wants : Wants) (errand : Errand) → IsErrand s wants errand → IsWithin s errand
-errand_within s wants errand is = record {
-  from = agreed (Departs s) (λ departure. departure.from < length s.routers) (λ packet departure (named, dest). slice_get_within s.routers departure.from named.0 named.1) wants.send errand.send is.departs;
-  origin = agreed (IsNamed s) (λ origin. origin < length s.routers) (λ name origin named. slice_get_within s.routers origin named.0 named.1) wants.probe errand.probe is.origin;
-}
 
 -- where the packet's start is known
 pub start_known : (s : Scenario) (send : Option WantedPacket) (departs : Option Departure) → Agree (Departs s) send departs → NamesKnown s (start_of send)
@@ -69,9 +55,6 @@ send_refused s wants e is = refused_by (NamesUnknown s (start_of wants.send) (co
 
 pub probe_refused : (s : Scenario) (wants : Wants) (e : ConfigFault) → NamesKnown s (start_of wants.send) → IfSettingRefused (NamesUnknown s wants.probe (codes "probe")) e → IfSettingRefused (FirstUnknown s wants) e
 probe_refused s wants e known is = refused_by (NamesUnknown s wants.probe (codes "probe")) (FirstUnknown s wants) (λ number key u. Of_probe known u) e is
-
-pub settings_refused : (input : List ℕ) (wants : Wants) (e : ConfigFault) → IfSettingRefused (FirstRefusal input) e → IfSettingRefused (IsRefused input wants) e
-settings_refused input wants e is = refused_by (FirstRefusal input) (IsRefused input wants) (λ number key r. By_settings r) e is
 
 pub name_refused : (input : List ℕ) (wants : Wants) (s : Scenario) (e : ConfigFault) → States input s → IfSettingRefused (FirstUnknown s wants) e → IfSettingRefused (IsRefused input wants) e
 name_refused input wants s e stated is =

@@ -2,8 +2,7 @@
 use Rattle.std.proofs.Common.{◌≡◌, ℕ, zero, suc, ◌+◌, ◌≤◌, ◌++◌, List, [], ◌∷◌, drop, length, refl, sym, ◌∙◌, ap, subst, add-one}
 use Rattle.std.specs.Prelude.{Contains, Some, slice_get, ◌↔◌}
 use Rattle.std.specs.List.{flat_map}
-use Rattle.std.proofs.lemmas.List.{append_assoc, drop_all}
-use Rattle.mesh_atoms.proofs.Lists.{append_nothing}
+use Rattle.std.proofs.lemmas.List.{append-nil, append_assoc, drop_all}
 use Rattle.mesh_atoms.proofs.Options.{same_some, none_not}
 
 drop_at : {A : Type 0} (xs : List A) (k : ℕ) (x : A) → slice_get xs k ≡ Some x → drop k xs ≡ x ∷ drop (suc k) xs
@@ -24,7 +23,7 @@ put_more f xs k x list new whole at h is = subst (λ l. l ++ flat_map f (drop (k
 
 -- past the last place there is no rest
 pub put_all : {A B : Type 0} (f : A → List B) (xs : List A) (k : ℕ) (list whole : List B) → length xs ≤ k → list ++ flat_map f (drop k xs) ≡ whole → list ≡ whole
-put_all f xs k list whole past h = sym (append_nothing list) ∙ subst (λ rest. list ++ flat_map f rest ≡ whole) (drop_all k xs past) h
+put_all f xs k list whole past h = sym (append-nil list) ∙ subst (λ rest. list ++ flat_map f rest ≡ whole) (drop_all k xs past) h
 
 -- lists put one after another have what they have one by one
 pub same_in_turn : {A : Type 0} (once w x y z l0 l1 l2 l3 : List A) → l0 ≡ w → l1 ≡ l0 ++ x → l2 ≡ l1 ++ y → l3 ≡ l2 ++ z →

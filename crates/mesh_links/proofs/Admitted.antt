@@ -6,7 +6,7 @@ use Rattle.std.proofs.lemmas.Bool.{eqb-true, and_parts}
 use Rattle.std.proofs.lemmas.Map.Entries.{lookup_from_place}
 use Rattle.std.proofs.lemmas.Map.Made.{lookup-map_values}
 use Rattle.std.proofs.lemmas.Option.{slice_get_cases}
-use Rattle.std.proofs.lemmas.List.{take_all, length-drop, nil_from_length}
+use Rattle.std.proofs.lemmas.List.{append-nil, length-drop, nil_from_length, take_all}
 use Rattle.mesh_atoms.specs.declared.addr.Addr4.{Addr4}
 use Rattle.mesh_atoms.specs.declared.admit.Admit.{Admit}
 use Rattle.mesh_atoms.specs.declared.admit.QualityStep.{QualityStep}
@@ -24,7 +24,6 @@ use Rattle.mesh_links.specs.Rulings.{is_steady, ruled}
 use Rattle.mesh_links.specs.declared.admittance.Ruling.{Ruling}
 use Rattle.mesh_links.proofs.Room.{room_changed}
 use Rattle.mesh_links.proofs.Tied.{fewer_changed, fewer_twice}
-use Rattle.mesh_atoms.proofs.Lists.{append_nothing}
 
 -- A link keeps its addresses, and the moment up to which it is symmetric
 
@@ -108,7 +107,7 @@ admits_links rule hold now old new place all so_far key =
     let whole : take place old ≡ old = take_all place old all in
     let rest : drop place old ≡ [] = nil_from_length (drop place old) (let h = length-drop place old in omega (arith, h, all)) in
     let is : new ≡ map (λ e. (e.0, admitted rule hold now e.1)) old = so_far ∙ ap (λ (l : Base LinkKey Link). map (λ e. (e.0, admitted rule hold now e.1)) (take place old) ++ l) rest
-    ∙ append_nothing (map (λ e. (e.0, admitted rule hold now e.1)) (take place old)) ∙ ap (λ (l : Base LinkKey Link). map (λ e. (e.0, admitted rule hold now e.1)) l) whole in
+    ∙ append-nil (map (λ e. (e.0, admitted rule hold now e.1)) (take place old)) ∙ ap (λ (l : Base LinkKey Link). map (λ e. (e.0, admitted rule hold now e.1)) l) whole in
     ap (λ (l : Base LinkKey Link). find link_eq l key) is ∙ lookup-map_values (admitted rule hold now) (link_eq key) old
 
 -- one more link

@@ -22,18 +22,6 @@ since_appends old new sent is = is ∙ ap (λ (frames : List Frame). old ++ fram
 pub since_same : (old new : List Frame) → new ≡ old → new ≡ old ++ sent_since old new
 since_same old new same = since_appends old new [] (same ∙ sym (append-nil old))
 
-pub appends : {A E : Type 0} (Q : A → List Frame → Type 0) (r : Result A E) (old new : List Frame) → IfOk r (λ (x : A). (sent : List Frame) × (new ≡ old ++ sent) × Q x sent) → OnErr r (new ≡ old) → new ≡ old ++ sent_since old new
-appends Q (Ok x) old new ok err = since_appends old new ok.0 ok.1
-appends Q (Err e) old new ok err = since_same old new err
-
-pub appends_on : {A E : Type 0} (Q : List Frame → Type 0) (r : Result A E) (old new : List Frame) → OnOk r ((sent : List Frame) × (new ≡ old ++ sent) × Q sent) → OnErr r (new ≡ old) → new ≡ old ++ sent_since old new
-appends_on Q (Ok x) old new ok err = since_appends old new ok.0 ok.1
-appends_on Q (Err e) old new ok err = since_same old new err
-
--- what is so of what is sent is so of what the outbox has got
-pub since : (Q : List Frame → Type 0) (old new sent : List Frame) → new ≡ old ++ sent → Q sent → Q (sent_since old new)
-since Q old new sent is q = subst Q (sym (since_is old new sent is)) q
-
 -- a frame that is heard
 pub hears_settings : (old : State) (arrival : Arrival) (bytes : List ℕ) (answer : Heard) (sent : List Frame) (new : State) → Hears old arrival bytes answer sent new → new.settings ≡ old.settings
 hears_settings old arrival bytes (heard.Refused refusal) sent new hears = ap (λ (s : State). s.settings) hears.2

@@ -49,12 +49,6 @@ mapped_at f [] i x at = absurd (cc)
 mapped_at f (y ∷ xs) zero x at = let e : y ≡ x = cc in ap (λ z. Some (f z)) e
 mapped_at f (y ∷ xs) (suc i) x at = mapped_at f xs i x at
 
--- what stands there is what was turned
-pub turned_at : {A B : Type 0} (f : A → B) (xs : List A) (i : ℕ) (y : B) → slice_get (map f xs) i ≡ Some y → (x : A) × (slice_get xs i ≡ Some x) × (f x ≡ y)
-turned_at f [] i y at = absurd (cc)
-turned_at f (x ∷ xs) zero y at = (x, refl, cc)
-turned_at f (x ∷ xs) (suc i) y at = turned_at f xs i y at
-
 -- what holds of all that are turned
 pub all_turned : {A B : Type 0} (P : B → Type 0) (f : A → B) (xs : List A) → All P (map f xs) → All (λ x. P (f x)) xs
 all_turned P f [] h = All-nil (λ x. P (f x))

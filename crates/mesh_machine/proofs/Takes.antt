@@ -75,21 +75,3 @@ packet_spelled bytes packet spans is =
     let whole : front ++ is.messages ≡ bytes = ap (λ (b : List ℕ). is.flags ∷ b) (append_assoc is.sequence is.tlvs is.messages) ∙ sym is.whole in
     subst (λ (b : List ℕ). AreSpelled b packet.messages spans) whole
     (each_spelled front packet.messages spans is.messages (subst (λ (n : ℕ). SpellsMessages n packet.messages spans is.messages) (sym size) is.messages_is))
-
--- the message at a place, as the code reads it
-pub spelled_at : (bytes : List ℕ) (messages : List Message) (spans : List Span) (i : ℕ) (m : Message) (d : Span) → AreSpelled bytes (map fields_of_message messages) spans → slice_get messages i ≡ Some m →
-    ((get_or spans i d).start + (get_or spans i d).len ≤ length bytes) × SpellsMessage (fields_of_message m) (octets_at bytes (get_or spans i d))
-spelled_at bytes messages spans i m d are at =
-    let mapped : slice_get (map fields_of_message messages) i ≡ Some (fields_of_message m) = slice_get-map fields_of_message messages i ∙ ap (λ (o : Option Message). option_map fields_of_message o) at in
-    let within : i < length spans = let h = slice_get_within messages i m at in let k = are.count in let l = length-map messages fields_of_message in omega (arith, h, k, l) in
-    are.each i (fields_of_message m) (get_or spans i d) mapped (slice_get-get_or spans i d within)
-
--- the messages up to a place, and the one there
-pub takes_more : (settings : RouterSettings) (own : Addr4) (arrival : Arrival) (bytes : List ℕ) (messages : List Message) (spans : List Span) (i : ℕ) (m : Message) (d : Span) (old mid new : Bases)
-    (sent more : List Frame) (fates : List Fate) (fate : Fate) → slice_get messages i ≡ Some m → i < length spans →
-    TakesMessages settings own arrival bytes old (take i (map fields_of_message messages)) (take i spans) mid sent fates →
-    TakesMessage settings own arrival mid (fields_of_message m) (octets_at bytes (get_or spans i d)) new more fate →
-    TakesMessages settings own arrival bytes old (take (i + 1) (map fields_of_message messages)) (take (i + 1) spans) new (sent ++ more) (fates ++ fate ∷ [])
-takes_more settings own arrival bytes messages spans i m d old mid new sent more fates fate at within takes one =
-    let mapped : slice_get (map fields_of_message messages) i ≡ Some (fields_of_message m) = slice_get-map fields_of_message messages i ∙ ap (λ (o : Option Message). option_map fields_of_message o) at in
-    rw (taken_more (map fields_of_message messages) i (fields_of_message m) mapped, taken_more spans i (get_or spans i d) (slice_get-get_or spans i d within)) (takes_snoc (get_or spans i d) takes one)

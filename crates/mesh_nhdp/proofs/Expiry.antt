@@ -3,7 +3,7 @@ use Rattle.std.proofs.Common.{◌≡◌, ℕ, ◌+◌, ◌<◌, ◌≤◌, ◌�
 use Rattle.std.specs.Prelude.{Some, slice_get}
 use Rattle.std.proofs.lemmas.Option.{slice_get_cases}
 use Rattle.std.specs.List.{IsDistinct}
-use Rattle.std.proofs.lemmas.List.{take_all, length-drop, nil_from_length}
+use Rattle.std.proofs.lemmas.List.{append-nil, length-drop, nil_from_length, take_all}
 use Rattle.mesh_atoms.specs.declared.addr.Addr4.{Addr4}
 use Rattle.mesh_atoms.specs.declared.tuples.LinkKey.{LinkKey}
 use Rattle.mesh_atoms.specs.declared.tuples.Link.{Link}
@@ -28,7 +28,6 @@ use Rattle.mesh_nhdp.proofs.Bases.{base_cases}
 use Rattle.mesh_hello.proofs.Collect.{item_at}
 use Rattle.mesh_nhdp.proofs.Whole.{live_by_calls}
 use Rattle.mesh_nhdp.proofs.LiveSound.{live_sound}
-use Rattle.mesh_atoms.proofs.Lists.{append_nothing}
 use Rattle.mesh_atoms.proofs.Options.{none_not}
 
 -- the rule of the interface at a place
@@ -41,7 +40,7 @@ face_rule settings r i faces face faces_are same lt is =
 -- a slice of the whole of a vector is written back whole
 pub written_back : {A : Type 0} (len : ℕ) (new items : List A) → length new ≡ length items → len ≡ length items → take len (new ++ drop (length new) items) ≡ new
 written_back len new items same all =
-    ap (λ rest. take len (new ++ rest)) (nil_from_length (drop (length new) items) (let h = length-drop (length new) items in omega (arith, h, same))) ∙ (ap (λ xs. take len xs) (append_nothing new) ∙ take_all len new (omega (arith, same, all)))
+    ap (λ rest. take len (new ++ rest)) (nil_from_length (drop (length new) items) (let h = length-drop (length new) items in omega (arith, h, same))) ∙ (ap (λ xs. take len xs) (append-nil new) ∙ take_all len new (omega (arith, same, all)))
 
 -- where there is no interface
 expires_on_none : (rule : Admit) (hold now : ℕ) → ExpiresOn rule hold now [] [] [] []

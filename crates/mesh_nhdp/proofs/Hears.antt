@@ -122,7 +122,3 @@ module _ (settings : RouterSettings) (now i : ℕ) (sender : Addr4) (told : Told
         before_is = before_is;
         losts = F.losts;
       })
-
-  pub hears_sound : (IsFullOfAddresses old told → ⊥) → FitsTwoHops settings i old told hello → SoundNeighbourhood settings now (record { links = links; two_hops = two_hops; neighbours = neighbours; losts = losts })
-  hears_sound fits room = hello_sound settings now i sender hello told old (record { links = links; two_hops = two_hops; neighbours = neighbours; losts = losts }) fault T lasts
-      (let least = settings.times.sound.link_hold_range.least in omega (arith, least)) (let least = settings.times.sound.neighbour_hold_range.least in omega (arith, least)) S hears_is fits room

@@ -9,7 +9,7 @@ use Rattle.mesh_atoms.specs.Settled.{AreStates}
 use Rattle.mesh_atoms.specs.State.{State}
 use Rattle.mesh_machine.specs.packet.Fields.{MessageFields}
 use Rattle.mesh_paths.specs.SettledRoutes.{IsSettledNetwork}
-use Rattle.mesh_probe.proofs.Wave.{Going, Net, Chain, On, IsSelected, IsCovering, IsApart, Spread, frames_on}
+use Rattle.mesh_probe.proofs.Wave.{Going, Net, Chain, On, IsCovering, Spread}
 use Rattle.mesh_probe.proofs.Wave as wave
 use Rattle.mesh_probe.specs.declared.transmission.Transmission.{Transmission}
 use Rattle.mesh_probe.specs.Flood.{hearers_of}

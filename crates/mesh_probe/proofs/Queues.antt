@@ -5,7 +5,6 @@ use Rattle.std.proofs.Math.Seq.{take-suc}
 use Rattle.std.proofs.lemmas.List.{map-append}
 use Rattle.std.proofs.lemmas.Option.{slice_get_within, get_or_from_slice_get}
 use Rattle.mesh_machine.specs.declared.frame.Frame.{Frame}
-use Rattle.mesh_machine.specs.Frames.{on_each}
 use Rattle.mesh_probe.specs.declared.transmission.Transmission.{Transmission}
 use Rattle.mesh_probe.specs.Flood.{sent_by}
 
@@ -16,13 +15,6 @@ take_more xs i x at = ap (λ n. take n xs) (add-one i) ∙ take-suc xs i x (slic
 -- one frame more
 pub one_sent : (w : ℕ) (sent : List Frame) (frame : Frame) → sent_by w sent ++ (record { router = w; frame = frame } ∷ []) ≡ sent_by w (sent ++ (frame ∷ []))
 one_sent w sent frame = sym (map-append (λ (f : Frame). let t : Transmission = record { router = w; frame = f } in t) sent (frame ∷ []))
-
--- on one interface more
-pub one_each : (w i : ℕ) (octets : List ℕ) (frames : List Transmission) → frames ≡ sent_by w (on_each i octets) →
-    frames ++ (record { router = w; frame = record { iface = i; bytes = octets } } ∷ []) ≡ sent_by w (on_each (i + 1) octets)
-one_each w i octets frames is =
-    ap (λ (ts : List Transmission). ts ++ (record { router = w; frame = record { iface = i; bytes = octets } } ∷ [])) is
-    ∙ one_sent w (on_each i octets) (record { iface = i; bytes = octets }) ∙ ap (λ n. sent_by w (on_each n octets)) (sym (add-one i))
 
 -- with the frame at a place, those up to it are put
 pub one_put : (w i : ℕ) (sent : List Frame) (frame : Frame) (before frames : List Transmission) → slice_get sent i ≡ Some frame → frames ≡ before ++ sent_by w (take i sent) →

@@ -74,9 +74,6 @@ pub record Turning (s : Scenario) (now : ℕ) (sender : Addr4) (octets : List �
       AllHear now sender octets (hearers_of s.arcs x i) old new (sent ++ more)
 
 module _ (s : Scenario) (now : ℕ) (sender : Addr4) (octets : List ℕ) (x i : ℕ) (old : List State) where
-  pub begins : CanHear s old now → Turning s now sender octets x i 0 old old []
-  begins can = record { can = can; owned = All-nil (IsOfInterface s); goes = λ new more h. h }
-
   -- the arcs from this place on
   left : (at : ℕ) (arc : RadioArc) → arc ≡ get_or s.arcs at arc → at < length s.arcs → drop at s.arcs ≡ arc ∷ drop (at + 1) s.arcs
   left at arc is less = drop_more s.arcs at arc less ∙ ap (λ (a : RadioArc). a ∷ drop (at + 1) s.arcs) (sym is)

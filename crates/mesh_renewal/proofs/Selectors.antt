@@ -30,9 +30,6 @@ pub one_selector : (o : Addr4) (n : Neighbour) (m : Metric) (old new : List Sele
 one_selector o n m old new known adds = adds_same old new (λ x is. (m, known, is))
     (λ x (k, known', is). let both : Some m ≡ Some k = sym known ∙ known' in let same : m ≡ k = cc in ap (λ (j : Metric). let y : Selector = record { originator = o; addrs = n.addrs; metric = j } in y) same ∙ is) adds
 
-pub no_selector : (o : Addr4) (n : Neighbour) (x : Selector) → None ≡ selector_metric n → IsSelectorBy o n x → ⊥
-no_selector o n x none (m, known, is) = let both : None ≡ Some m = none ∙ known in absurd cc
-
 -- all of them
 are : (s : State) (selectors : List Selector) → Adds (GivenByElement (λ (e : Addr4 × (Neighbour × ℕ)). IsSelectorBy e.0 e.1.0) s.bases.neighbourhood.neighbours) [] selectors → AreSelectors s selectors
 are s selectors adds = record {

@@ -46,10 +46,6 @@ pub after_more : (net : NetAddr) (xs ys : List Entry) (parts : RowParts) → aft
 after_more net [] ys parts = refl
 after_more net (x ∷ xs) ys parts = after_more net xs ys _
 
--- one entry, by whether it is of the network
-pub after_one : (net : NetAddr) (e : Entry) (es : List Entry) (parts : RowParts) (b : Bool) → is_of net e ≡ b → after net (e ∷ es) parts ≡ after net es (cond b (put_said e.said (Some parts)) parts)
-after_one net e es parts b is = ap (λ (x : Bool). after net es (cond x (put_said e.said (Some parts)) parts)) is
-
 -- that an address stands says nothing
 pub after_standing : (net : NetAddr) (addrs : List RawAddr) (parts : RowParts) → after net (standing addrs) parts ≡ parts
 after_standing net [] parts = refl

@@ -283,9 +283,6 @@ row_more S U kind new r more h = record {
 
 -- ---- the same values
 
-flag_same : (P Q : Type 0) (b : Bool) → (P → Q) → (Q → P) → (IsTrue b ↔ P) → IsTrue b ↔ Q
-flag_same P Q b there back h = (λ e. there (h.0 e), λ q. h.1 (back q))
-
 module _ (S U : ℕ → List ℕ → Type 0) (back : (k : ℕ) (x : List ℕ) → U k x → S k x) (keep : (k : ℕ) (x : List ℕ) → S k x → U k x) where
   either : (k f : ℕ) (b : Bool) → (IsTrue b ↔ (S k (f ∷ []) ⊎ S k (3 ∷ []))) → IsTrue b ↔ (U k (f ∷ []) ⊎ U k (3 ∷ []))
   either k f b h = (

@@ -7,7 +7,3 @@ use Rattle.mesh_config.specs.Checks.Checks.{◌>>?◌}
 abbrev pub after_front : {A : Type 0} → List A → ReadValue (List A) → ReadValue (List A)
 after_front front (Err f) = Err f
 after_front front (Ok xs) = Ok (front ++ xs)
-
-pub after_more : {A : Type 0} (front : List A) (x : A) (rest : ReadValue (List A)) → after_front front (rest >>? λ xs. Ok (x ∷ xs)) ≡ after_front (front ++ x ∷ []) rest
-after_more front x (Err f) = refl
-after_more front x (Ok xs) = rw (append_assoc front (x ∷ []) xs)

@@ -13,7 +13,3 @@ items_list-of (d ∷ ds) = ap (λ (xs : List Data). d ∷ xs) (items_list-of ds)
 abbrev pub with_front : {A : Type 0} → List A → Option (List A) → Option (List A)
 with_front front None = None
 with_front front (Some xs) = Some (front ++ xs)
-
-pub front_more : {A : Type 0} (front : List A) (x : A) (rest : Option (List A)) → with_front front (rest >>= λ xs. Some (x ∷ xs)) ≡ with_front (front ++ x ∷ []) rest
-front_more front x None = refl
-front_more front x (Some xs) = rw (append_assoc front (x ∷ []) xs)

@@ -64,7 +64,3 @@ one_frame_more s sent k frame count before here i f at = elim (at_pushed sent fr
       let place : k ≡ i = sym (new.0 ∙ count) in
       subst (λ (n : ℕ). IsHelloFrame s n f) place (subst (λ (x : Frame). IsHelloFrame s k x) new.1 here)
 ]
-
-pub on_ok_of : {A E : Type 0} {P : A → Type 0} {Q : Type 0} (r : Result A E) → ((x : A) → P x → Q) → IfOk r P → OnOk r Q
-on_ok_of (Ok x) to h = to x h
-on_ok_of (Err e) to h = tt

@@ -55,25 +55,10 @@ same_until {V} x y h = let same : x ≡ y = cc in ap (λ (z : V × ℕ). z.1) sa
 gone : {V : Type 0} (now moment : ℕ) (value : V) → moment ≤ now → None ≡ if_live now (Some (value, moment))
 gone now moment value h = rw (le-ltb now moment h) refl
 
--- what holds anyway holds after an error
-pub on_err : {A E P : Type 0} (r : Result A E) → P → OnErr r P
-on_err (Ok x) h = tt
-on_err (Err e) h = h
-
 -- what holds where there is something
 pub on_some : {A P : Type 0} (o : Option A) → IsSome o → OnSome o P → P
 on_some None some h = absurd cc
 on_some (Some x) some h = h
-
--- what follows after a success
-pub ok_then : {A E P Q : Type 0} (r : Result A E) → OnOk r P → (P → Q) → OnOk r Q
-ok_then (Ok x) h f = f h
-ok_then (Err e) h f = tt
-
--- what follows after an error
-pub err_then : {A E P Q : Type 0} (r : Result A E) → OnErr r P → (P → Q) → OnErr r Q
-err_then (Ok x) h f = tt
-err_then (Err e) h f = f h
 
 -- of two settings of one place the later holds
 cond_twice : {A : Type 0} (b : Bool) (x y z : A) → cond b x (cond b y z) ≡ cond b x z

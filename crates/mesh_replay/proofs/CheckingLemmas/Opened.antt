@@ -1,5 +1,5 @@
 -- An event that its line opens.
-use Rattle.std.proofs.Common.{◌≡◌, ◌<◌, ℕ, List, length, arith, [], ◌∷◌, ◌++◌, refl, sym, ◌∙◌, ap, subst, append-nil, Bool, true, false, Some, inl, inr}
+use Rattle.std.proofs.Common.{◌≡◌, ◌<◌, ℕ, List, length, arith, [], ◌∷◌, ◌++◌, refl, sym, ◌∙◌, subst, append-nil, Bool, true, false, Some, inl, inr}
 use Rattle.std.specs.Prelude.{slice_get, slice_set}
 use Rattle.mesh_atoms.specs.declared.addr.Addr4.{Addr4}
 use Rattle.mesh_atoms.specs.declared.codes.metric.Metric.{Metric}
@@ -8,7 +8,6 @@ use Rattle.mesh_atoms.specs.declared.settings.Scenario.{Scenario}
 use Rattle.mesh_atoms.specs.declared.tc.TcRow.{TcRow}
 use Rattle.mesh_atoms.specs.declared.tuples.Relays.{Relays}
 use Rattle.mesh_atoms.specs.Advertised.{GivesAsSelector, AreTcRows}
-use Rattle.mesh_atoms.specs.RelayGraphs.{AreRelays}
 use Rattle.mesh_atoms.specs.State.{State}
 use Rattle.mesh_trace.specs.machine.Net.{NetState}
 use Rattle.mesh_trace.specs.declared.reading.Reader.{Reader}
@@ -16,7 +15,6 @@ use Rattle.mesh_trace.specs.Positions.Alike.{HasAddresses}
 use Rattle.mesh_trace.specs.Positions.Leading.{LineLeads, Reaches}
 use Rattle.mesh_trace.specs.Positions.Standing.{Item, TracePosition, IsDone, with_state, with_traffic}
 use Rattle.mesh_trace.specs.Reading.Lines.{IsLineOf}
-use Rattle.mesh_trace.specs.Reading.Readers.{lines_from}
 use Rattle.mesh_trace.proofs.machine.Places.{same_at, set_at}
 use Rattle.mesh_trace.proofs.machine.topo.AdvertisedLemmas.Advertising.{same_row}
 use Rattle.mesh_trace.proofs.PositionsLemmas.Addresses.{positions_have_addresses}
@@ -25,12 +23,11 @@ use Rattle.mesh_trace.proofs.PositionsLemmas.Walks.{leads_on as walks_on}
 use Rattle.mesh_replay.specs.declared.checking.case.Case.{Case}
 use Rattle.mesh_replay.specs.declared.checking.case.CheckedEvent.{CheckedEvent}
 use Rattle.mesh_replay.specs.declared.checking.case.Progress.{Progress}
-use Rattle.mesh_replay.specs.Checking.Cases.{IsProgress, StandsIn}
+use Rattle.mesh_replay.specs.Checking.Cases.{StandsIn}
 use Rattle.mesh_replay.specs.Checking.Ending.{EndsEvent, KeepsRouters}
 use Rattle.mesh_replay.specs.Checking.Going.{at, FitsOrStops}
 use Rattle.mesh_replay.specs.Checking.Kept.{AreAtRest, IsAtRest, IsSoundRouter, with_relays}
-use Rattle.mesh_replay.specs.Checking.Scenes.{IsReachedNet}
-use Rattle.mesh_replay.specs.Checking.Texts.{IsNextText, TakesText, TookText}
+use Rattle.mesh_replay.specs.Checking.Texts.{TakesText, TookText}
 use Rattle.mesh_replay.proofs.CheckingLemmas.Going.{went_one, stops_here, goes_on, goes_not}
 
 -- lines of this text alone lead on from between events: however the event leaves router x, to the network after that

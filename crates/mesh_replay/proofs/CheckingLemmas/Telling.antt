@@ -1,5 +1,5 @@
 -- Items of an event that are told, one after the other.
-use Rattle.std.proofs.Common.{◌≡◌, ℕ, zero, suc, List, [], ◌∷◌, ◌++◌, refl, sym, ◌∙◌, ap, subst, append_assoc, Bool, true, false, set-set}
+use Rattle.std.proofs.Common.{◌≡◌, ℕ, zero, suc, List, [], ◌∷◌, ◌++◌, refl, sym, ap, subst, append_assoc, Bool, true, false, set-set}
 use Rattle.std.specs.Prelude.{slice_get, slice_set, Some}
 use Rattle.mesh_atoms.specs.State.{State}
 use Rattle.mesh_trace.specs.machine.Net.{NetState}
@@ -11,7 +11,7 @@ use Rattle.mesh_replay.specs.declared.checking.case.Progress.{Progress}
 use Rattle.mesh_trace.specs.declared.reading.Reader.{Reader}
 use Rattle.mesh_trace.specs.Reading.Readers.{IsReaderOf}
 use Rattle.mesh_replay.specs.Checking.Cases.{MayBeIn, IsProgress, LeadsPast, StandsIn, TellsItems}
-use Rattle.mesh_replay.specs.Checking.Going.{at, Went, FitsOrStops}
+use Rattle.mesh_replay.specs.Checking.Going.{at, FitsOrStops}
 use Rattle.mesh_replay.proofs.CheckingLemmas.Going.{went_nowhere, goes_on, goes_there, goes_not}
 use Rattle.mesh_atoms.proofs.Lists.{set_here}
 

@@ -1,6 +1,6 @@
 -- How a text is cut in front of a line.
 use Rattle.std.proofs.Common.{◌≡◌, ℕ, ◌⊎◌, inl, List, [], ◌∷◌, ◌++◌, length, take, drop, refl, sym, ap, ◌∙◌, arith, append_assoc}
-use Rattle.std.proofs.lemmas.List.{append-nil, drop_all, take-append-drop}
+use Rattle.std.proofs.lemmas.List.{drop_all, take-append-drop}
 use Rattle.std.proofs.lemmas.List.Elements.{All-nil, All-push}
 use Rattle.mesh_replay.specs.Command.Parts.{HaveNone, IsCutAt}
 use Rattle.mesh_trace.specs.Reading.Lines.{lines_of}
@@ -39,8 +39,3 @@ cut_there IsKind text at passed next = record {
 pub cut_at_end : (IsKind : List ℕ → Type 0) (text : List ℕ) (at : ℕ) → Passed IsKind text at → length text ≡ at →
     IsCutAt IsKind text (take at text) (drop at text)
 cut_at_end IsKind text at passed end = cut_there IsKind text at passed (inl (drop_all at text (omega (arith, end))))
-
--- a text that is cut at its end has no such line
-pub none_at_end : (IsKind : List ℕ → Type 0) (text front rest : List ℕ) → IsCutAt IsKind text front rest → rest ≡ [] → HaveNone IsKind (lines_of text)
-none_at_end IsKind text front rest cut end =
-    rw (cut.between ∙ (ap (λ (r : List ℕ). cut.lines ++ lines_of r) end ∙ append-nil cut.lines)) cut.none

@@ -2,7 +2,7 @@
 use Rattle.std.proofs.Common.{◌≡◌, ℕ, ◌+◌, List, [], ◌∷◌, ◌++◌, drop, refl, sym, ◌∙◌, ap, subst, append_assoc, append-nil, Bool, true, false}
 use Rattle.std.proofs.lemmas.List.{drop_more}
 use Rattle.std.proofs.lemmas.Option.{get_or_from_slice_get, slice_get_within}
-use Rattle.std.specs.Prelude.{IsTrue, slice_get, slice_set, Some, map}
+use Rattle.std.specs.Prelude.{slice_get, slice_set, Some, map}
 use Rattle.mesh_atoms.specs.declared.settings.RouterSettings.{RouterSettings}
 use Rattle.mesh_atoms.specs.declared.settings.Scenario.{Scenario}
 use Rattle.mesh_atoms.specs.State.{State}
@@ -12,7 +12,6 @@ use Rattle.mesh_trace.specs.machine.declared.frame.Frame.{Frame}
 use Rattle.mesh_trace.specs.machine.Net.{NetState}
 use Rattle.mesh_trace.specs.machine.Traffic.{Traffic as Flights, Sends}
 use Rattle.mesh_trace.specs.Positions.Items.{TellsItem, Tells_frame, Tells_loss, TellsFrame}
-use Rattle.mesh_trace.specs.Positions.Leading.{LineLeads}
 use Rattle.mesh_trace.specs.Positions.Standing.{Item, Lost, Sent, with_state, with_traffic}
 use Rattle.mesh_trace.specs.Reading.Lines.{IsLineOf}
 use Rattle.mesh_trace.specs.Reading.Readers.{lines_from}

@@ -1,8 +1,7 @@
 -- The event of a frame that is heard.
-use Rattle.std.proofs.Common.{◌≡◌, ℕ, ◌<◌, ◌≤◌, List, [], refl, sym, ◌∙◌, ap, subst, Bool, true, false, Some, length, arith, set-set}
+use Rattle.std.proofs.Common.{◌≡◌, ℕ, ◌<◌, ◌≤◌, List, [], sym, ◌∙◌, ap, subst, Bool, true, false, Some, length, arith, set-set}
 use Rattle.std.proofs.lemmas.Option.{slice_get_within}
 use Rattle.std.specs.Prelude.{slice_get, slice_set}
-use Rattle.mesh_atoms.specs.declared.settings.RadioArc.{RadioArc}
 use Rattle.mesh_atoms.specs.declared.settings.RouterSettings.{RouterSettings}
 use Rattle.mesh_atoms.specs.declared.settings.Scenario.{Scenario}
 use Rattle.mesh_atoms.specs.State.{State}
@@ -10,10 +9,7 @@ use Rattle.mesh_trace.specs.machine.declared.arrival.Arrival.{Arrival}
 use Rattle.mesh_trace.specs.machine.Net.{NetState, IsSender}
 use Rattle.mesh_trace.specs.machine.Traffic.{Delivery}
 use Rattle.mesh_trace.specs.declared.reading.Reader.{Reader}
-use Rattle.mesh_trace.specs.Positions.Alike.{HasAddresses}
 use Rattle.mesh_trace.specs.Positions.Due.{HearsBy}
-use Rattle.mesh_trace.specs.Positions.Standing.{Item}
-use Rattle.mesh_trace.proofs.machine.Places.{same_at}
 use Rattle.mesh_texts.specs.Lines.Marks.{face_name}
 use Rattle.mesh_texts.specs.Trace.{heard_line}
 use Rattle.mesh_replay.specs.declared.checking.case.Case.{Case}
@@ -28,7 +24,7 @@ use Rattle.mesh_replay.specs.Checking.Kept.{AreAtRest}
 use Rattle.mesh_replay.specs.Checking.Scenes.{IsNextHearing, IsReachedNet}
 use Rattle.mesh_replay.specs.Checking.Texts.{TakesText}
 use Rattle.mesh_replay.proofs.CheckingLemmas.Opened.{Opens, opened_addresses, opened_not, opened_on, router_within, settings_same}
-use Rattle.mesh_replay.proofs.HeardLemmas.Opening.{ComesNext, its_line, its_arrival, heard_net, heard_opens, reached_scenario}
+use Rattle.mesh_replay.proofs.HeardLemmas.Opening.{its_line, heard_net, heard_opens, reached_scenario}
 
 -- it comes to an interface of the event's router
 pub comes_by : {s : Scenario} {d : Delivery} {coming : Coming} → LandsFrame s d coming → IsComing coming

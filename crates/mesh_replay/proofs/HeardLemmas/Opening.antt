@@ -16,7 +16,7 @@ use Rattle.mesh_trace.specs.Positions.Due.{HearsBy}
 use Rattle.mesh_trace.specs.Positions.Events.{OpensHearing, OpensEvent, By_delivery, By_tick, By_last_tick}
 use Rattle.mesh_trace.specs.Positions.Items.{TellsItem, Tells_flooding, Tells_routing, Tells_hello, Tells_tc, Tells_frame, Tells_loss}
 use Rattle.mesh_trace.specs.Positions.Leading.{LineLeads, To_event, To_item, LeadsBy, Reaches}
-use Rattle.mesh_trace.specs.Positions.Standing.{Item, TracePosition, IsDone, with_state, with_traffic}
+use Rattle.mesh_trace.specs.Positions.Standing.{Item, TracePosition, with_state, with_traffic}
 use Rattle.mesh_trace.specs.Reading.Lines.{IsLineOf}
 use Rattle.mesh_trace.proofs.PositionsLemmas.EventsOnce.{not_tick, not_last, behind_all as behind, sender_once}
 use Rattle.mesh_replay.specs.Checking.Going.{at}

@@ -1,6 +1,5 @@
 -- The lines of the flooding relays, one after the other, and that of the routing relays.
-use Rattle.std.proofs.Common.{◌≡◌, ℕ, ◌+◌, ◌<◌, List, [], ◌∷◌, ◌++◌, length, map, drop, true, false, Option, Some, None, refl, sym, ◌∙◌, ap, subst, arith}
-use Rattle.std.specs.Prelude.{slice_get}
+use Rattle.std.proofs.Common.{◌≡◌, ℕ, ◌+◌, ◌<◌, List, [], ◌∷◌, ◌++◌, length, map, true, Option, Some, None, refl, sym, ◌∙◌, ap, subst, arith}
 use Rattle.std.specs.List.{enumerate_from}
 use Rattle.std.proofs.lemmas.List.{drop_all, drop_more}
 use Rattle.mesh_atoms.specs.declared.addr.Addr4.{Addr4}
@@ -11,7 +10,7 @@ use Rattle.mesh_atoms.specs.State.{State}
 use Rattle.mesh_atoms.proofs.Lists.{item_at as stands, length_pushed as longer}
 use Rattle.mesh_trace.specs.declared.reading.Reader.{Reader}
 use Rattle.mesh_trace.specs.Positions.Due.{none_told}
-use Rattle.mesh_trace.specs.Positions.Standing.{Item, Flooding, Routing, relay_items}
+use Rattle.mesh_trace.specs.Positions.Standing.{Flooding, Routing, relay_items}
 use Rattle.mesh_trace.proofs.machine.Places.{each_more}
 use Rattle.mesh_trace.proofs.SpellingLemmas.Pairs.{is_nothing}
 use Rattle.mesh_replay.specs.declared.checking.case.Case.{Case}

@@ -1,13 +1,13 @@
 -- Addresses are read back from their texts.
-use Rattle.std.proofs.Common.{◌≡◌, ℕ, zero, suc, ◌+◌, ◌-◌, ◌<◌, ◌≤◌, ◌^◌, ◌/◌, ◌%◌, ◌*◌, inl, inr, true, false, Bool, eqb, List, [], ◌∷◌, ◌++◌, length, length-append, take, drop, refl, sym, ap, ◌∙◌, subst, arith, append_assoc, codes, decimal, Some, None, Option, position}
-use Rattle.std.specs.Prelude.{◌==◌, ◌&&◌, cond, nat_eq, nat_lt, slice_range, slice_index}
+use Rattle.std.proofs.Common.{◌≡◌, ℕ, zero, suc, ◌+◌, ◌-◌, ◌<◌, ◌^◌, ◌/◌, ◌%◌, ◌*◌, inl, inr, true, false, Bool, eqb, List, [], ◌∷◌, ◌++◌, length, length-append, take, drop, refl, sym, ap, ◌∙◌, subst, arith, append_assoc, codes, decimal, Some, None, Option}
+use Rattle.std.specs.Prelude.{◌==◌, ◌&&◌, nat_lt, slice_range, slice_index}
 use Rattle.std.specs.Fmt.{digits}
 use Rattle.std.specs.List.{position_from}
 use Rattle.std.proofs.lemmas.Bool.{cases_Bool, eqb-true, ne_eqb, lt-ltb, eq-eqb, ltb-true, ltb-false, and_parts as both}
 use Rattle.std.proofs.lemmas.Iterator.Adapters.{position_from-zero}
 use Rattle.std.proofs.lemmas.List.{append-nil, take_at, drop_at, take_all}
 use Rattle.mesh_atoms.specs.declared.addr.Addr4.{Addr4}
-use Rattle.mesh_atoms.specs.Literals.{number_of, cut, cut_at, dotted_of, address_of}
+use Rattle.mesh_atoms.specs.Literals.{number_of, cut, dotted_of, address_of}
 use Rattle.mesh_texts.specs.Lines.Marks.{dotted, spaced}
 use Rattle.mesh_texts.proofs.Cuts.{lacks, lacks_rest, not_here}
 use Rattle.mesh_texts.proofs.Marked.{decimal_lacks, dotted_lacks}

@@ -25,7 +25,7 @@ use Rattle.mesh_trace.specs.Positions.Standing.{Item, Sent, relay_items}
 use Rattle.mesh_replay.specs.declared.checking.router.Before.{Before}
 use Rattle.mesh_replay.specs.declared.checking.router.EventLines.{EventLines}
 use Rattle.mesh_replay.specs.Checking.Events.{AreRelaysWith, AreRowsWith, BeginsEvent, ChangesBases, RenewsRouter, TakesInto}
-use Rattle.mesh_replay.specs.Checking.Kept.{AreFewRows, AreWithinRows, HasLines, IsAtRest, IsSoundRouter, event_items, hello_items, tc_items, with_relays}
+use Rattle.mesh_replay.specs.Checking.Kept.{AreFewRows, HasLines, IsAtRest, IsSoundRouter, event_items, hello_items, tc_items, with_relays}
 use Rattle.mesh_replay.proofs.HeardLemmas.Faces.{messages_within}
 use Rattle.mesh_replay.proofs.RouterLemmas.Quiet.{relays_quiet, rows_quiet}
 

@@ -1,5 +1,5 @@
 -- Events that leave the bases as they were but for moments: rows and relays stay.
-use Rattle.std.proofs.Common.{◌≡◌, ◌∙◌, ℕ, length, Bool, true, refl, sym, ap, subst}
+use Rattle.std.proofs.Common.{◌≡◌, ◌∙◌, ℕ, length, Bool, true, sym, ap, subst}
 use Rattle.mesh_atoms.specs.declared.settings.RouterSettings.{RouterSettings}
 use Rattle.mesh_atoms.specs.State.{Bases, State}
 use Rattle.mesh_nbrs.specs.Same.{SameNear}

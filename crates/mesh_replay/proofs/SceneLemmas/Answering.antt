@@ -15,7 +15,7 @@ use Rattle.mesh_replay.specs.declared.checking.scene.Outcome.TheVariants.{Fits, 
 use Rattle.mesh_replay.specs.Checking.Answers.{ReplayAnswers}
 use Rattle.mesh_replay.specs.Checking.Going.{at, Went}
 use Rattle.mesh_replay.specs.Checking.Reached.{HasRead}
-use Rattle.mesh_replay.specs.Checking.Scenes.{Comes, IsReachedNet}
+use Rattle.mesh_replay.specs.Checking.Scenes.{Comes}
 use Rattle.mesh_trace.specs.declared.reading.Reader.{Reader}
 use Rattle.mesh_trace.specs.Positions.Leading.{Reaches, Fits as FitsBehind, IsWholeTrace, IsUnfit, At_line, Behind_all}
 use Rattle.mesh_trace.specs.Positions.Standing.{TracePosition}
@@ -23,10 +23,6 @@ use Rattle.mesh_trace.specs.Reading.Lines.{lines_of, begun}
 use Rattle.mesh_trace.specs.Reading.Readers.{lines_from}
 use Rattle.mesh_trace.proofs.PositionsLemmas.Fixed.{one_decides_fit, one_decides_end, unfit_is_not_whole, one_unfit, nothing_follows}
 use Rattle.mesh_trace.proofs.PositionsLemmas.Walks.{leads_on}
-
--- the lines lead to the network between events
-pub is_reached : (case : Case) (reader : Reader) (net : NetState) → HasRead case reader net → IsReachedNet case net
-is_reached case reader net h = (h.lines, h.router, h.reaches)
 
 -- lines that were read behind others
 record HasReadTo (case : Case) (reader : Reader) (p : TracePosition) : Type 0 where

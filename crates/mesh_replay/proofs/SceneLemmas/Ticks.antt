@@ -2,11 +2,10 @@
 use Rattle.std.proofs.Common.{◌≡◌, ℕ, ◌<◌, ◌≤◌, List, [], refl, sym, ◌∙◌, subst, length, get_or, All, arith, Bool, true, false}
 use Rattle.std.specs.Prelude.{min, IsTrue}
 use Rattle.std.proofs.lemmas.List.Elements.{All-weaker}
-use Rattle.std.proofs.lemmas.Option.{slice_get_within, slice_get-get_or}
+use Rattle.std.proofs.lemmas.Option.{slice_get-get_or}
 use Rattle.mesh_atoms.specs.State.{State}
 use Rattle.mesh_trace.specs.machine.Machine.{due}
 use Rattle.mesh_trace.specs.machine.Net.{NetState, IsFirstDue, HasOnlyLastTicks}
-use Rattle.mesh_trace.specs.machine.NetRun.{IsOver}
 use Rattle.mesh_trace.specs.machine.Traffic as net
 use Rattle.mesh_trace.proofs.machine.Sent.{first_and_others}
 use Rattle.mesh_replay.specs.declared.checking.case.Case.{Case}
@@ -20,7 +19,7 @@ use Rattle.mesh_replay.specs.Checking.Cases.{IsCase, IsProgress}
 use Rattle.mesh_replay.specs.Checking.Going.{at, FitsOrStops}
 use Rattle.mesh_replay.specs.Checking.Kept.{AreAtRest}
 use Rattle.mesh_replay.specs.Checking.Scenes.{Comes, IsSoundScene, IsNextHearing, IsTickNext, Is_due, Is_last, net_of}
-use Rattle.mesh_replay.specs.Checking.Ticking.{HasNoTickLeft, IsTrafficQuiet, IsFoundTick, Due_first, At_end, outcome_of}
+use Rattle.mesh_replay.specs.Checking.Ticking.{IsTrafficQuiet, IsFoundTick, Due_first, At_end, outcome_of}
 use Rattle.mesh_replay.specs.Traffic.Traffic.{SeededTraffic}
 
 -- what holds from the first due moment on holds of each
@@ -73,26 +72,10 @@ module _ (case : Case) (routers : List State) (due : FirstTick) (last_ticks : �
       let count = sound.kept.count in
       rw is (Is_last (only_last quiet late) (omega (arith, some, count)) refl refl refl)
 
-  -- it is of a router of the scenario, no later than the end
-  pub tick_within : (next : NextTick) → IsFoundTick case.scenario.now due last_ticks next → next.router < length case.scenario.now.routers
-  tick_within next (Due_first in_time is) = let below = slice_get_within routers due.router sound.first.state sound.first.stands in let count = sound.kept.count in rw is (omega (arith, below, count))
-  tick_within next (At_end late some is) = rw is some
-
-  pub tick_in_time : (next : NextTick) → IsFoundTick case.scenario.now due last_ticks next → next.moment ≤ case.scenario.now.end
-  tick_in_time next (Due_first in_time is) = rw is in_time
-  tick_in_time next (At_end late some is) = rw is (omega arith)
-
   -- so many had their last tick then
   pub still_few : (next : NextTick) → IsFoundTick case.scenario.now due last_ticks next → next.last_ticks ≤ length case.scenario.now.routers
   still_few next (Due_first in_time is) = let few = sound.few in let count = sound.kept.count in rw is (omega (arith, few, count))
   still_few next (At_end late some is) = rw is (omega (arith, some))
-
-  -- no tick is left, and no frame
-  pub is_over : IsTrafficQuiet case.scenario.now due progress.traffic.traffic → HasNoTickLeft case.scenario.now due last_ticks → IsOver (net_of case routers last_ticks progress)
-  is_over quiet (late, all) = record {
-    only = only_last quiet late;
-    last_ticks = let few = sound.few in let count = sound.kept.count in omega (arith, few, count, all);
-  }
 
 -- it is an event whose lines fit
 fits_so : (fits : Bool) (outcome : Outcome) → outcome ≡ outcome_of fits → outcome ≡ Fits → IsTrue fits

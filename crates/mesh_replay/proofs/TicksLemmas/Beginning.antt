@@ -1,5 +1,5 @@
 -- The line of the tick that is next.
-use Rattle.std.proofs.Common.{◌≡◌, ℕ, ◌+◌, ◌<◌, List, [], refl, sym, ◌∙◌, ap, subst, length, arith, Some, Bool, true, false, set-set}
+use Rattle.std.proofs.Common.{◌≡◌, ℕ, List, [], refl, sym, ◌∙◌, ap, subst, arith, Some, Bool, true, false, set-set}
 use Rattle.std.specs.Prelude.{slice_get, slice_set}
 use Rattle.mesh_atoms.specs.declared.settings.RouterSettings.{RouterSettings}
 use Rattle.mesh_atoms.specs.State.{State}
@@ -9,7 +9,7 @@ use Rattle.mesh_trace.specs.declared.reading.Reader.{Reader}
 use Rattle.mesh_trace.specs.Positions.Due.{TicksBy}
 use Rattle.mesh_trace.specs.Positions.Events.{OpensTick, OpensEvent, By_delivery, By_tick, By_last_tick}
 use Rattle.mesh_trace.specs.Positions.Leading.{LineLeads, To_event, To_item}
-use Rattle.mesh_trace.specs.Positions.Standing.{Item, TracePosition, with_state}
+use Rattle.mesh_trace.specs.Positions.Standing.{TracePosition, with_state}
 use Rattle.mesh_trace.specs.Reading.Lines.{IsLineOf}
 use Rattle.mesh_trace.proofs.machine.Places.{same_at}
 use Rattle.mesh_trace.proofs.PositionsLemmas.EventsOnce.{due_once, not_tick, not_last, tick_not_last}

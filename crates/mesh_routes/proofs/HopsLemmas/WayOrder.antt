@@ -63,11 +63,6 @@ upto_no_worse a b same e = elim (number_upto a.originator.0 b.originator.0 _ e) 
   ]
 ]
 
-upto_then : (o p : Ordering) → (o ≡ Less) ⊎ ((o ≡ Equal) × (is_gt p ≡ false)) → is_gt (ordering_then o p) ≡ false
-upto_then Less p h = refl
-upto_then Equal p h = elim h [ inl e ↦ absurd (cc) | inr (_, f) ↦ f ]
-upto_then Greater p h = elim h [ inl e ↦ absurd (cc) | inr (e, _) ↦ absurd (cc) ]
-
 number_then : (a b : ℕ) (o p : Ordering) → o ≡ nat_cmp a b → a ≤ b → is_gt p ≡ false → is_gt (ordering_then o p) ≡ false
 number_then a b Less p e l f = refl
 number_then a b Equal p e l f = f

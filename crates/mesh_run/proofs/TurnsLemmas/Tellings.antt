@@ -54,10 +54,6 @@ hands_more fs gs a b c t u v h k = record {
   counts = counted_more t u v h.reports k.reports h.counts k.counts;
 }
 
--- no frames
-pub hands_nothing : (a : Option (List Report)) (t : Tally) → Hands [] a a t t
-hands_nothing a t = record { reports = []; tells = tells_nothing a; are_handed = refl; counts = counted_nothing t }
-
 -- what a router sends goes out by its own interfaces
 pub on_its_own : (settings : RouterSettings) (attached : ℕ) (frames : List Frame) → attached ≡ length settings.interfaces → All (IsSendable settings) frames → All (λ f. f.iface < attached) frames
 on_its_own settings attached frames are sendable = λ k d less. rw are (sendable k d less).iface

@@ -22,9 +22,6 @@ use Rattle.mesh_atoms.proofs.Lists.{contains_none, contains_at, place_of as plac
 use Rattle.mesh_paths.proofs.Rows.{no as never}
 use Rattle.mesh_atoms.proofs.Options.{same_some}
 
-pub on_none : (settings : RouterSettings) (i : ℕ) → slice_get settings.interfaces i ≡ None → (a : Addr4) → Contains [] a ↔ HasAddressOn settings i a
-on_none settings i at a = (λ w. absurd (contains_none a w), λ h. absurd (none-some h.0 (sym at ∙ h.1)))
-
 pub least_in : (settings : RouterSettings) (i : ℕ) (list : List Addr4) (o : Option Addr4) → ((a : Addr4) → Contains list a ↔ HasAddressOn settings i a) →
     IsLeastMissing (λ a. Contains list a) [] o → IsValue (IsLeastAddress settings i) o
 least_in settings i list None on least = λ a h. contains_none a (least a ((on a).1 h.0))

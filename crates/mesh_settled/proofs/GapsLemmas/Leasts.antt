@@ -131,9 +131,6 @@ least_one l key (Some v) test = (refl, test, λ k same first. absurd (before_sel
 abbrev pub Below : (ℕ → GapKey → Type 0) → ℕ → GapKey → Type 0
 Below P n key = (m : ℕ) × (m < n) × P m key
 
-pub least_none : (l : Look) (P : ℕ → GapKey → Type 0) → IsLeastGap l (Below P 0) None
-least_none l P = λ key w. absurd (omega (arith, w.1))
-
 pub least_step : (l : Look) (P : ℕ → GapKey → Type 0) (n : ℕ) (f g : Option Found) → IsLeastGap l (Below P n) f → IsLeastGap l (P n) g → IsLeastGap l (Below P (n + 1)) (lesser f g)
 least_step l P n f g p q =
     least_as l (λ key. Below P n key ⊎ P n key) (Below P (n + 1))

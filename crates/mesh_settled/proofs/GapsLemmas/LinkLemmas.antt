@@ -138,9 +138,6 @@ module _ (s : Scenario) (graph : RadioGraph) (states : List State) (now x : ℕ)
     pub no_joint : ((joint : Joint) → IsJointWith s states x i key.addr joint → ⊥) → IsSide (IsPresentLink l i key) None
     no_joint none = λ gs w. none (record { to = w.0; iface = w.1; there = w.3; back = w.4 }) (w.7, (w.2, w.6, w.8.keyed))
 
-    pub no_end : (joint : Joint) → IsJointWith s states x i key.addr joint → slice_get states joint.to ≡ None → IsSide (IsPresentLink l i key) None
-    no_end joint with none = absurd (no_state none with.1.0 with.1.1)
-
 some_held : (o : Option (Bor Link)) → is_some (held_fields o) ≡ is_some o
 some_held None = refl
 some_held (Some b) = refl

@@ -77,9 +77,6 @@ is_own r a b test = (λ e. (all_are r a).1 (test.0 e), λ h. test.1 ((all_are r 
 abbrev pub HasBefore : RouterSettings → ℕ → Addr4 → Type 0
 HasBefore r n a = (k : ℕ) × (k < n) × HasAddressOn r k a
 
-pub none_before : (r : RouterSettings) (list : List Addr4) → IsLeastMissing (HasBefore r 0) list None
-none_before r list = λ a w. absurd (omega (arith, w.1))
-
 pub face_step : (r : RouterSettings) (list addrs : List Addr4) (i : ℕ) (best next : Option Addr4) → ((a : Addr4) → Contains addrs a ↔ HasAddressOn r i a) → IsLeastMissing (HasBefore r i) list best →
     IsLeastMissing (λ a. Contains addrs a) list next → IsLeastMissing (HasBefore r (i + 1)) list (least_of best next)
 face_step r list addrs i best next on p q =

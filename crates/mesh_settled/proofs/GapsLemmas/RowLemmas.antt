@@ -31,10 +31,6 @@ use Rattle.mesh_paths.proofs.Rows.{no as never}
 net_self : (net : NetAddr) → net_eq net net ≡ true
 net_self net = and_from (nat_eq net.addr.0 net.addr.0) (nat_eq net.prefix net.prefix) (eq-eqb net.addr.0 net.addr.0 refl) (eq-eqb net.prefix net.prefix refl)
 
-fits_flag : (b : Bool) (net : NetAddr) → b ≡ true → (b && net_eq net net) ≡ true
-fits_flag true net e = net_self net
-fits_flag false net e = e
-
 pub dest_is : (topic : TopologyKind) (net : NetAddr) (row : TcRow) → is_row_of topic net row ≡ true → row.dest ≡ dest_of topic net
 dest_is Routers net row e = same_net row.dest (host net.addr) (both row.origin _ e).1
 dest_is Addresses net row e = same_net row.dest (host net.addr) (both row.routable _ e).1

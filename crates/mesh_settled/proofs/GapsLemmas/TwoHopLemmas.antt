@@ -136,10 +136,6 @@ held_here l p i link place key e f at same least =
     (λ k is. (key.addr, e, at ∙ ap (λ (t : TwoHopKey). Some (t, e)) key_is, is))
     (λ k w. w.3 ∙ ap (λ (x : TwoHopKey × (TwoHop × ℕ)). key_by i link x.0.addr) (same_some w.2 at)) f least
 
-pub held_other : (l : Look) (p : State) (i : ℕ) (link : Addr4) (place : ℕ) (key : TwoHopKey) (e : TwoHop × ℕ) →
-    slice_get (base_of p.bases.neighbourhood.two_hops i) place ≡ Some (key, e) → (key.link.addr.0 ≡ link.0 → ⊥) → IsLeastGap l (IsTwoHopAt p i link place) None
-held_other l p i link place key e at other = λ k w. absurd (other (ap (λ (x : TwoHopKey × (TwoHop × ℕ)). x.0.link.addr.0) (same_some at w.2)))
-
 module _ (s : Scenario) (graph : RadioGraph) (states : List State) (now x : ℕ) (p : State) (net : IsNetwork s graph states now) (i y j : ℕ) (q : State) (link : Addr4) (end : IsJoinedPeer s states x i y j q link) where
   abbrev seen : Look
   seen = look s states now x p

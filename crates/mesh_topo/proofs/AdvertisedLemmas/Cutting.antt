@@ -22,15 +22,6 @@ pub record AreFull (rows most first : ℕ) (spans : List PartSpan) : Type 0 wher
   pub each : (i : ℕ) (span : PartSpan) → slice_get spans i ≡ Some span → (span.first ≡ i * most) × (span.len ≡ most)
   pub joined : (list : List TcRow) → length list ≡ rows → flat_map (part_of list) spans ≡ take first list
 
-pub none_yet : (rows most : ℕ) → AreFull rows most 0 []
-none_yet rows most = record {
-  reached = omega arith;
-  within = omega arith;
-  more = λ some. absurd (omega (arith, some));
-  each = λ i span at. cc;
-  joined = λ list long. refl;
-}
-
 -- ---- lists
 
 take_on : {A : Type 0} (a n : ℕ) (xs : List A) → a ≤ length xs → take (a + n) xs ≡ take a xs ++ take n (drop a xs)

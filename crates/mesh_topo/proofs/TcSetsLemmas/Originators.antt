@@ -1,4 +1,5 @@
 -- A walk over the keys of an originator, for those that are outdated.
+use Rattle.std.proofs.lemmas.Bool.{not-true}
 use Rattle.std.proofs.Common.{◌≡◌, ℕ, ◌≤◌, Bool, true, false, cond, not, nat_eq, ◌&&◌, ◌||◌, List, [], ◌∷◌, ◌++◌, refl, sym, ap, subst, ◌∙◌, arith, is_some, Option, Some, None, eq-eqb}
 use Rattle.std.specs.List.{list_any, filter, AllByRecursion}
 use Rattle.std.specs.List.Sorted.{IsStrictlySortedBy}
@@ -14,7 +15,6 @@ use Rattle.mesh_atoms.specs.Base.{Base, find, addr_eq}
 use Rattle.mesh_topo.specs.TcSets.Sets.{has_other_number, is_outdated}
 use Rattle.mesh_atoms.proofs.Lists.{any_filter}
 use Rattle.mesh_atoms.proofs.Lookups.{same_addr}
-use Rattle.mesh_atoms.proofs.Options.{not_true}
 
 any_last : {K : Type 0} (p : K → Bool) (xs : List K) (k : K) → list_any p (xs ++ k ∷ []) ≡ (list_any p xs || p k)
 any_last p [] k = by_test (p k) where
@@ -80,9 +80,6 @@ module _ {K : Type 0} {eq : K → K → Bool} (laws : IsEquivalence eq) (exact :
   pub walk_passes : (found all rest : List K) (k : K) → all ≡ k ∷ rest → out k ≡ false → Walks found all → Walks found rest
   walk_passes found all rest k steps is walks q =
       passed_more (out q) (list_any (eq q) found) (eq q k) (list_any (eq q) rest) (λ same. ap out (exact q k same) ∙ is) (walks q ∙ ap (λ (l : List K). list_any (eq q) found || (out q && list_any (eq q) l)) steps)
-
-  pub walk_ends : (found all : List K) → all ≡ [] → Walks found all → (q : K) → list_any (eq q) found ≡ out q
-  walk_ends found all none walks q = none_more (out q) (list_any (eq q) found) (list_any (eq q) all) (λ is there. let clash : true ≡ false = sym there ∙ ap (list_any (eq q)) none in absurd cc) (walks q)
 
   pub walk_stops : (cmp : K → K → Ordering) (origin : K → Addr4) (originator : Addr4) → ((a b : K) → is_gt (cmp a b) ≡ false → (origin a).0 ≤ (origin b).0) → ((q : K) → out q ≡ true → origin q ≡ originator)
       → (found all rest : List K) (k : K) → all ≡ k ∷ rest → AllByRecursion (λ x. originator.0 ≤ (origin x).0) all → (addr_eq (origin k) originator ≡ false) → IsStrictlySortedBy cmp all → Walks found all → (q : K) → list_any (eq q) found ≡ out q
@@ -155,7 +152,7 @@ module _ {K V : Type 0} (eq : K → K → Bool) (originator : Addr4) (ansn : ℕ
     by_test false h = absurd cc
 
   pub of_another : (here : Addr4) (ne : Bool) → ne ≡ not (nat_eq here.0 originator.0) → here ≡ from q → ne ≡ true → addr_eq (from q) originator ≡ false
-  of_another here ne is of apart = not_true (addr_eq (from q) originator) (sym (is ∙ ap (λ (a : Addr4). not (nat_eq a.0 originator.0)) of) ∙ apart)
+  of_another here ne is of apart = not-true (addr_eq (from q) originator) (sym (is ∙ ap (λ (a : Addr4). not (nat_eq a.0 originator.0)) of) ∙ apart)
 
 -- a key of an ordered set, by the keys' own test
 pub any_key : {K : Type 0} (eq : K → K → Bool) (cmp : K → K → Ordering) (agree : (x y : K) → eq x y ≡ is_eq (cmp x y)) (keys : BTreeSet K) (q : K) → contains cmp keys q ≡ list_any (eq q) keys.keys

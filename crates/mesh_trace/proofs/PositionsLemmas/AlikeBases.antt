@@ -2,7 +2,6 @@
 use Rattle.std.proofs.Common.{◌≡◌, ◌↔◌, ℕ, ◌≤◌, ◌+◌, ◌&&◌, refl, sym, ◌∙◌, ap, subst, arith, List, Option, Some, None}
 use Rattle.std.specs.Prelude.{Bool, true, false, cond, IsTrue, Contains}
 use Rattle.mesh_atoms.specs.declared.addr.Addr4.{Addr4}
-use Rattle.mesh_atoms.specs.declared.codes.metric.Metric.{Metric}
 use Rattle.mesh_atoms.specs.declared.settings.RouterSettings.{RouterSettings}
 use Rattle.mesh_atoms.specs.declared.tuples.LinkKey.{LinkKey}
 use Rattle.mesh_atoms.specs.declared.tuples.Link.{Link}
@@ -13,7 +12,6 @@ use Rattle.mesh_atoms.specs.Base.{Base, Expires, Same, if_live, base_of, addr_eq
 use Rattle.mesh_atoms.specs.Live.{HasLinkOf, HasSymmetricOf, KeepsNeighbour, Restores, IsSymmetricAddress, SettlesLost, Back, Gone, Stays, LiveNeighbourhood, LiveTopology, LiveNoted, Live, trim, is_symmetric_at, is_symmetric_entry}
 use Rattle.mesh_atoms.specs.Quality.{admit_on}
 use Rattle.mesh_atoms.specs.State.{Neighbourhood, TopologyBase, NotedMessages, Bases, link_at, two_hop_at, neighbour_at, lost_at}
-use Rattle.mesh_atoms.specs.Words.{IsLeastMetric}
 use Rattle.mesh_atoms.proofs.Equal.{least_only, same_neighbour}
 use Rattle.mesh_trace.specs.Positions.Alike.{AlikeNear, AlikeTopology, AlikeNoted, AlikeBases}
 
@@ -110,10 +108,6 @@ bases_on a b c h k = record {
 }
 
 -- ---- what is the only one
-
-pub least_by : (P Q : Metric → Type 0) (x : Option Metric) → ((m : Metric) → P m → Q m) → ((m : Metric) → Q m → P m) → IsLeastMetric P x → IsLeastMetric Q x
-least_by P Q None to back h = λ m q. h m (back m q)
-least_by P Q (Some m) to back h = (to m h.0, λ n q. h.1 n (back n q))
 
 pub flag_only : (x y : Bool) (P Q : Type 0) → (IsTrue x ↔ P) → (IsTrue y ↔ Q) → (P → Q) → (Q → P) → x ≡ y
 flag_only true true P Q h k to back = refl

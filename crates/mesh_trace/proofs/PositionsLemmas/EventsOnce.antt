@@ -263,9 +263,6 @@ hears_once s arrival bytes a b one other sound (Taken {sent} h) (Taken {sent = m
 
 -- ---- the line
 
-placed : (m n : NetState) (x : ℕ) (one other : List Item) → AlikeNets m n → other ≡ one → Alike (record { net = m; router = x; left = one }) (record { net = n; router = x; left = other })
-placed m n x one other h left = record { scenario = h.scenario; count = h.count; routers = h.routers; traffic = h.traffic; last_ticks = h.last_ticks; router = refl; left = left }
-
 pub nets_itself : (n : NetState) → AlikeNets n n
 nets_itself n = record {
   scenario = refl;

@@ -39,17 +39,6 @@ alike_on p q r h k = record {
   left = k.left ∙ h.left;
 }
 
-alike_back : (p q : TracePosition) → Alike p q → Alike q p
-alike_back p q h = record {
-  scenario = sym h.scenario;
-  count = sym h.count;
-  routers = λ x s t at at'. states_back t s (h.routers x t s at' at);
-  traffic = sym h.traffic;
-  last_ticks = sym h.last_ticks;
-  router = sym h.router;
-  left = sym h.left;
-}
-
 -- ---- items
 
 -- an item that is told at the one is told at the other

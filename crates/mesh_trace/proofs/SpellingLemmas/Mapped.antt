@@ -17,9 +17,6 @@ module _ {X : Type 0} (P : ℕ → X → Type 0) (xs : List X) where
   abbrev pub HoldsBefore : ℕ → Type 0
   HoldsBefore i = (j : ℕ) (x : X) → j < i → slice_get xs j ≡ Some x → P j x
 
-  pub before_first : HoldsBefore 0
-  before_first j x lt is = absurd (omega (arith, lt))
-
   pub before_more : (i : ℕ) (x : X) → slice_get xs i ≡ Some x → P i x → HoldsBefore i → HoldsBefore (i + 1)
   before_more i x here holds before j y lt is = elim (lt_or_eq j i (omega (arith, lt))) [
     | inl less ↦ before j y less is

@@ -39,9 +39,6 @@ pub record Left (width : ℕ) (blocks : List BlockFields) (frame : List ℕ) (st
   pub same : SpellsItems (SpellsBriefly width) (drop i blocks) (slice_range frame at end) ↔ SpellsItems (SpellsBriefly width) blocks (slice_range frame start end)
 
 module _ (width : ℕ) (blocks : List BlockFields) (frame : List ℕ) (start end at i : ℕ) (fits : end ≤ length frame) where
-  pub left_first : SpellsItems (SpellsPair width) blocks (slice_range frame start end) → Left width blocks frame start end start 0
-  left_first spelled = record { rest = spelled; same = (λ h. h, λ h. h) }
-
   module _ (b : BlockFields) (here : drop i blocks ≡ b ∷ drop (i + 1) blocks) (is : b.width ≡ width) (left : Left width blocks frame start end at i) where
     first : SpellsItems (SpellsPair width) (b ∷ drop (i + 1) blocks) (slice_range frame at end)
     first = subst (λ (bs : List BlockFields). SpellsItems (SpellsPair width) bs (slice_range frame at end)) here left.rest
@@ -78,10 +75,6 @@ module _ (width : ℕ) (blocks : List BlockFields) (frame : List ℕ) (start end
     left_never none all =
         let (text, rest, brief, others, e) = briefly all in
         none text rest (subst (λ (w : ℕ). SpellsBriefly w b text) (sym is) brief) e
-
-  pub left_last : drop i blocks ≡ [] → Left width blocks frame start end at i → SpellsItems (SpellsBriefly width) blocks (slice_range frame start end)
-  left_last none left =
-      left.same.0 (subst (λ (bs : List BlockFields). SpellsItems (SpellsBriefly width) bs (slice_range frame at end)) (sym none) (subst (λ (bs : List BlockFields). SpellsItems (SpellsPair width) bs (slice_range frame at end)) none left.rest))
 
 -- ---- the blocks of a message
 

@@ -5,7 +5,7 @@ use Rattle.std.specs.Option.{option_eq}
 use Rattle.std.specs.Cmp.{booleans_Decides}
 use Rattle.std.proofs.Math.Bool.{beq}
 use Rattle.std.proofs.lemmas.Bool.{false≢true}
-use Rattle.std.proofs.lemmas.Bool.Decides.{Decides-and}
+use Rattle.std.proofs.lemmas.Bool.Decides.{Decides-and, Decides-like}
 use Rattle.mesh_atoms.specs.declared.addr.NetAddr.{NetAddr}
 use Rattle.mesh_atoms.specs.declared.codes.metric.Metric.{Metric}
 use Rattle.mesh_atoms.specs.declared.hello.HelloRow.{HelloRow}
@@ -17,7 +17,7 @@ use Rattle.mesh_atoms.specs.declared.hello.Metrics.{Metrics}
 use Rattle.mesh_atoms.specs.declared.hello.Mpr.{Mpr}
 use Rattle.mesh_atoms.specs.declared.hello.OtherStatus.{OtherStatus}
 use Rattle.mesh_atoms.specs.declared.hello.OtherStatus.TheVariants as other
-use Rattle.mesh_atoms.proofs.Rows.{decides_so, options, nets, metrics}
+use Rattle.mesh_atoms.proofs.Rows.{options, nets, metrics}
 use Rattle.mesh_wire.proofs.OneHello.{same_metrics, same_mpr}
 
 -- what tells variants apart
@@ -75,18 +75,18 @@ metrics_test a b = option_eq (λ (m n : Metric). eqb m.code n.code) a.link_in b.
     && (option_eq (λ (m n : Metric). eqb m.code n.code) a.near_in b.near_in && option_eq (λ (m n : Metric). eqb m.code n.code) a.near_out b.near_out))
 
 all_metrics : (a b : Metrics) → Decides (metrics_test a b) (a ≡ b)
-all_metrics a b = decides_so _ (λ h. same_metrics a b h.0 h.1.0 h.1.1.0 h.1.1.1)
+all_metrics a b = Decides-like _ (λ h. same_metrics a b h.0 h.1.0 h.1.1.0 h.1.1.1)
     (λ e. (ap (λ (m : Metrics). m.link_in) e, (ap (λ (m : Metrics). m.link_out) e, (ap (λ (m : Metrics). m.near_in) e, ap (λ (m : Metrics). m.near_out) e))))
     (Decides-and _ _ (options _ metrics a.link_in b.link_in) (Decides-and _ _ (options _ metrics a.link_out b.link_out) (Decides-and _ _ (options _ metrics a.near_in b.near_in) (options _ metrics a.near_out b.near_out))))
 
 mprs : (a b : Mpr) → Decides (beq a.flooding b.flooding && beq a.routing b.routing) (a ≡ b)
-mprs a b = decides_so _ (λ h. same_mpr a b h.0 h.1) (λ e. (ap (λ (m : Mpr). m.flooding) e, ap (λ (m : Mpr). m.routing) e)) (Decides-and _ _ (booleans_Decides a.flooding b.flooding) (booleans_Decides a.routing b.routing))
+mprs a b = Decides-like _ (λ h. same_mpr a b h.0 h.1) (λ e. (ap (λ (m : Mpr). m.flooding) e, ap (λ (m : Mpr). m.routing) e)) (Decides-and _ _ (booleans_Decides a.flooding b.flooding) (booleans_Decides a.routing b.routing))
 
 module _ (local_test : LocalIf → LocalIf → Bool) (link_test : LinkStatus → LinkStatus → Bool) (other_test : OtherStatus → OtherStatus → Bool) where
   rows : ((a b : LocalIf) → Decides (local_test a b) (a ≡ b)) → ((a b : LinkStatus) → Decides (link_test a b) (a ≡ b)) → ((a b : OtherStatus) → Decides (other_test a b) (a ≡ b)) → (a b : HelloRow) →
       Decides ((eqb a.addr.addr.0 b.addr.addr.0 && eqb a.addr.prefix b.addr.prefix) && (option_eq local_test a.local b.local && (option_eq link_test a.link b.link
       && (option_eq other_test a.other b.other && (metrics_test a.metrics b.metrics && (beq a.mpr.flooding b.mpr.flooding && beq a.mpr.routing b.mpr.routing)))))) (a ≡ b)
-  rows of_local of_link of_other a b = decides_so _ (λ h. same_row a b h.0 h.1.0 h.1.1.0 h.1.1.1.0 h.1.1.1.1.0 h.1.1.1.1.1)
+  rows of_local of_link of_other a b = Decides-like _ (λ h. same_row a b h.0 h.1.0 h.1.1.0 h.1.1.1.0 h.1.1.1.1.0 h.1.1.1.1.1)
       (λ e. (ap (λ (r : HelloRow). r.addr) e, (ap (λ (r : HelloRow). r.local) e, (ap (λ (r : HelloRow). r.link) e, (ap (λ (r : HelloRow). r.other) e, (ap (λ (r : HelloRow). r.metrics) e, ap (λ (r : HelloRow). r.mpr) e))))))
       (Decides-and _ _ (nets a.addr b.addr) (Decides-and _ _ (options local_test of_local a.local b.local) (Decides-and _ _ (options link_test of_link a.link b.link)
       (Decides-and _ _ (options other_test of_other a.other b.other) (Decides-and _ _ (all_metrics a.metrics b.metrics) (mprs a.mpr b.mpr))))))

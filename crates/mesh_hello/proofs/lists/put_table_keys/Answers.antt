@@ -1,10 +1,11 @@
+use Rattle.std.proofs.lemmas.List.{append-nil}
 use Rattle.std.proofs.Common.{ap, sym, ◌∙◌, ◌++◌, arith}
 use Rattle.mesh_hello.proofs.Collect.{keys_all, keys_put}
 use Rattle.mesh_hello.proofs.lists.put_table_keys.Goals as goal
-use Rattle.mesh_atoms.proofs.Lists.{append_nothing, none_within}
+use Rattle.mesh_atoms.proofs.Lists.{none_within}
 
 pub loop-place-init : goal.loop-place-init
-loop-place-init g c = sym (append_nothing c.args.keys.now.items)
+loop-place-init g c = sym (append-nil c.args.keys.now.items)
 
 pub loop-place-preserved : goal.loop-place-preserved
 loop-place-preserved g c =

@@ -1,3 +1,4 @@
+use Rattle.std.proofs.lemmas.Result.{on_ok_weaker}
 use Rattle.std.proofs.Common.{◌↔◌, List, Contains, subst}
 use Rattle.mesh_atoms.specs.declared.addr.Addr4.{Addr4}
 use Rattle.mesh_atoms.specs.declared.tuples.Neighbour.{Neighbour}
@@ -8,10 +9,9 @@ use Rattle.mesh_nbrs.specs.Neighbours.{RestoresBy}
 use Rattle.mesh_nhdp.specs.declared.near_addresses.WantedNeighbours.TheVariants.{Symmetric}
 use Rattle.mesh_nhdp.specs.Wanted.{IsWantedAddress}
 use Rattle.mesh_nhdp.proofs.follow.follow_links.Goals as goal
-use Rattle.mesh_atoms.proofs.Options.{on_ok_weaker as on_ok}
 
 pub returns : goal.returns
-returns g c = on_ok c.settle_lost.result (λ settles. record {
+returns g c = on_ok_weaker c.settle_lost.result (λ settles. record {
   distinct = c.expire.ensures.distinct;
   distinct_losts = c.settle_lost.ensures.distinct;
   notes = c.in_ok-notes.notes.items;

@@ -1,3 +1,4 @@
+use Rattle.std.proofs.lemmas.Result.{on_ok_weaker}
 use Rattle.std.proofs.Common.{◌≡◌, ◌∙◌, ◌+◌, arith, subst, ◌↔◌, ℕ, List, IsTrue, Some}
 use Rattle.std.specs.Prelude.{Bool}
 use Rattle.mesh_atoms.specs.declared.addr.Addr4.{Addr4}
@@ -6,7 +7,7 @@ use Rattle.mesh_atoms.specs.Base.{base_of, find, link_eq}
 use Rattle.mesh_nhdp.specs.Hearings.{UpdatesTwoHops}
 use Rattle.mesh_nhdp.proofs.RowsRepeat.{repeated_before}
 use Rattle.mesh_nhdp.proofs.hearing.hear_interfaces.Goals as goal
-use Rattle.mesh_atoms.proofs.Options.{on_ok_weaker as on_ok, if_ok_weaker as if_ok}
+use Rattle.mesh_atoms.proofs.Options.{if_ok_weaker as if_ok}
 
 pub has_link-stood-requires : goal.has_link-stood-requires
 has_link-stood-requires g c = c.requires.iface
@@ -34,7 +35,7 @@ returns-clause-links g c = c.change_all.ensures.links
 
 pub returns-clause-hears : goal.returns-clause-hears
 returns-clause-hears g c =
-    on_ok c.update_two_hops_on.result (λ U. record {
+    on_ok_weaker c.update_two_hops_on.result (λ U. record {
       mids = c.change_all.new.two_hops;
       same_mids = c.in_ok-change_all.ensures.two_hops;
       same = c.update_two_hops_on.ensures.length;

@@ -1,3 +1,4 @@
+use Rattle.std.proofs.lemmas.Result.{on_ok_weaker}
 use Rattle.std.proofs.Common.{List, refl, subst, arith}
 use Rattle.mesh_atoms.specs.declared.addr.Addr4.{Addr4}
 use Rattle.mesh_atoms.specs.Base.{base_of}
@@ -7,7 +8,7 @@ use Rattle.mesh_nhdp.specs.Repeats.{RepeatsRows}
 use Rattle.mesh_nhdp.proofs.Expiry.{face_rule}
 use Rattle.mesh_nhdp.proofs.Receipt.{links_heard}
 use Rattle.mesh_nhdp.proofs.hearing.hear_links.Goals as goal
-use Rattle.mesh_atoms.proofs.Options.{on_ok_weaker as on_ok, if_ok_weaker as if_ok}
+use Rattle.mesh_atoms.proofs.Options.{if_ok_weaker as if_ok}
 
 pub hear_interfaces-requires-clause-ready : goal.hear_interfaces-requires-clause-ready
 hear_interfaces-requires-clause-ready g c = c.requires.ready
@@ -23,7 +24,7 @@ hear_interfaces-requires-clause-same g c = omega (arith, c.requires.links, c.req
 
 pub returns-clause-hears : goal.returns-clause-hears
 returns-clause-hears g c =
-    on_ok c.hear_interfaces.result
+    on_ok_weaker c.hear_interfaces.result
     (λ H. links_heard c.index-as_slice-receipt.result.admit (rule_of c.args.settings.now c.args.receipt.now.iface) (told_of c.args.receipt.now.telling.now) c.args.theirs.now c.as_slice-listed.result.now c.args.receipt.now.own.now c.in_ok-keys.keys.items c.deref.result.now
     c.args.settings.now.times.link_hold c.args.receipt.now.moment c.args.receipt.now.iface c.args.receipt.now.hello.now c.args.links.now c.hear_interfaces.new.links c.args.two_hops.now c.hear_interfaces.new.two_hops
     (face_rule c.args.settings.now c.args.settings.now c.args.receipt.now.iface c.as_slice.result.now c.index-as_slice-receipt.result c.as_slice.ensures refl c.requires.iface c.index-as_slice-receipt.is) c.as_slice-listed.ensures c.deref.ensures.value

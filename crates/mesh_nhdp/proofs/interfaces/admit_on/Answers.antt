@@ -1,3 +1,4 @@
+use Rattle.std.proofs.lemmas.Result.{on_ok_weaker}
 use Rattle.std.proofs.Common.{length, ap, subst, ◌∙◌}
 use Rattle.std.proofs.lemmas.Bool.{false≢true, lt-ltb}
 use Rattle.std.proofs.lemmas.Option.{slice_get_within}
@@ -6,7 +7,7 @@ use Rattle.mesh_atoms.specs.declared.settings.Interface.{Interface}
 use Rattle.mesh_hello.proofs.Collect.{item_at}
 use Rattle.mesh_links.specs.Links.{AdmitsLinks}
 use Rattle.mesh_nhdp.proofs.interfaces.admit_on.Goals as goal
-use Rattle.mesh_atoms.proofs.Options.{same_some, on_ok_weaker as on_ok}
+use Rattle.mesh_atoms.proofs.Options.{same_some}
 
 pub admit-requires-clause-now : goal.admit-requires-clause-now
 admit-requires-clause-now g c = c.requires.now
@@ -17,7 +18,7 @@ admit-requires-clause-hold g c = c.requires.hold
 pub returns-in-Some : goal.returns-in-Some
 returns-in-Some g c =
     let lookup = c.in-Some.ensures.lookup in
-    on_ok c.admit.result (λ admits face at.
+    on_ok_weaker c.admit.result (λ admits face at.
     subst (λ (rule : Admit). AdmitsLinks rule c.args.hold c.args.now c.args.links.now c.admit.new.self)
     (ap (λ (f : Interface). f.admit) (same_some (item_at c.args.faces.now c.args.iface c.in-Some.face.now lookup.3.0 lookup.1) at)) admits) c.admit.ensures.ok
 

@@ -1,3 +1,4 @@
+use Rattle.std.proofs.lemmas.Bool.{not-false}
 use Rattle.std.proofs.Common.{◌<◌, refl, sym, subst}
 use Rattle.mesh_atoms.specs.TakesHello.{Taken, Broken_at, Breaks, Takes}
 use Rattle.mesh_hello.specs.Told.Telling.{told_of}
@@ -7,7 +8,6 @@ use Rattle.mesh_nhdp.specs.NhdpState.{near_with}
 use Rattle.mesh_nhdp.proofs.Judges.{own_at, overfull, taken_sound}
 use Rattle.mesh_nhdp.proofs.RowsRepeat.{both_true}
 use Rattle.mesh_nhdp.proofs.RepeatsLaw.{repeats_same, unchanged_same}
-use Rattle.mesh_atoms.proofs.Options.{not_false}
 use Rattle.mesh_nhdp.proofs.take.take_in.Goals as goal
 
 pub judge-requires-clause-iface : goal.judge-requires-clause-iface
@@ -92,6 +92,6 @@ returns-in_ok-rows-in-Fits-clause-same g c = λ unchanged.
     let after = near_with c.hear.new.links c.hear.new.two_hops c.hear.new.neighbours c.hear.new.losts in
     let judged = (subst (λ (j : HelloCheck). Judges c.args.settings.now c.args.arrival.now.iface c.args.arrival.now.sender c.args.arrival.now.hello.now near j) c.in-Fits.is (c.in_ok-number.ensures c.args.links.now)) in
     let own_is = own_at c.args.settings.now c.args.settings.now c.in-Fits.own c.as_slice.result.now refl c.as_slice.ensures judged.4 in
-    let both = both_true c.is_repeated-repeated.result c.in_ok-rows-in-Fits.rows (not_false _ unchanged) in
+    let both = both_true c.is_repeated-repeated.result c.in_ok-rows-in-Fits.rows (not-false _ unchanged) in
     repeats_same c.args.settings.now c.args.arrival.now.moment c.args.arrival.now.iface (told_of c.in-Fits.telling) c.args.arrival.now.hello.now c.as_slice.result.now own_is near after
     (subst (λ n. 0 < n) (sym judged.1.validity) c.requires.lasts) c.requires.sound c.in_ok-rows-in-Fits.ensures.after (c.is_repeated-repeated.ensures both.0 c.args.two_hops.now c.args.losts.now) (c.in_ok-rows-in-Fits.ensures.repeats both.1)

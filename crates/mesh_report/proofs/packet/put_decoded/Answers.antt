@@ -1,3 +1,4 @@
+use Rattle.std.proofs.lemmas.Result.{on_ok_weaker}
 use Rattle.std.proofs.Common.{◌≡◌, ◌++◌, List, ℕ, map, refl}
 use Rattle.std.proofs.lemmas.List.Folds.{flat_map-map}
 use Rattle.std.specs.List.{flat_map}
@@ -8,11 +9,10 @@ use Rattle.mesh_packet.specs.Least.{Wrote}
 use Rattle.mesh_report.specs.Lines.{packet_line, tlv_line}
 use Rattle.mesh_report.specs.Packets.{IsMessagesText}
 use Rattle.mesh_report.proofs.packet.put_decoded.Goals as goal
-use Rattle.mesh_atoms.proofs.Options.{on_ok_weaker as on_ok}
 use Rattle.mesh_atoms.proofs.Lists.{three_appended}
 
 pub returns-clause-ok : goal.returns-clause-ok
-returns-clause-ok c = on_ok c.put_messages.result (λ wrote.
+returns-clause-ok c = on_ok_weaker c.put_messages.result (λ wrote.
     let packet = c.args.decoded.now.packet in
     let old : List ℕ = c.args.out.now ++ c.args.room.now.line in
     let first : List ℕ = packet_line c.args.number (fields_of_packet packet) in

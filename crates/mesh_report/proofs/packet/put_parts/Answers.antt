@@ -1,3 +1,4 @@
+use Rattle.std.proofs.lemmas.Result.{on_ok_weaker}
 use Rattle.std.proofs.Common.{◌≡◌, ◌++◌, List, ℕ, map}
 use Rattle.std.proofs.lemmas.List.Folds.{flat_map-map}
 use Rattle.std.specs.List.{flat_map}
@@ -7,7 +8,6 @@ use Rattle.mesh_packet.specs.Fields.{fields_of_message, fields_of_block}
 use Rattle.mesh_report.specs.Lines.{message_line, tlv_line}
 use Rattle.mesh_report.specs.Packets.{block_text, message_text}
 use Rattle.mesh_report.proofs.packet.put_parts.Goals as goal
-use Rattle.mesh_atoms.proofs.Options.{on_ok_weaker as on_ok}
 use Rattle.mesh_atoms.proofs.Lists.{three_appended}
 
 pub returns-in_err-put_message_line-clause-kept : goal.returns-in_err-put_message_line-clause-kept
@@ -27,6 +27,6 @@ returns c =
     let standing : List ℕ = c.put_each.new.out ++ c.put_each.new.line in
     let put_tlvs : standing ≡ (c.put_message_line.new.out ++ c.put_message_line.new.line) ++ tlvs = rw (← c.as_slice.ensures, flat_map-map tlv_line fields c.as_slice.result.now) c.in_ok-put_each.ensures.ok in
     record {
-      ok = on_ok c.put_each-2.result (λ wrote. three_appended old first tlvs blocks c.in_ok-put_message_line.ensures.ok put_tlvs (rw (← c.as_slice-2.ensures, flat_map-map block_text fields_of_block c.as_slice-2.result.now) wrote)) c.put_each-2.ensures.ok;
+      ok = on_ok_weaker c.put_each-2.result (λ wrote. three_appended old first tlvs blocks c.in_ok-put_message_line.ensures.ok put_tlvs (rw (← c.as_slice-2.ensures, flat_map-map block_text fields_of_block c.as_slice-2.result.now) wrote)) c.put_each-2.ensures.ok;
       kept = grows_on c.put_message_line.ensures.kept (grows_on c.put_each.ensures.kept c.put_each-2.ensures.kept);
     }

@@ -1,15 +1,15 @@
+use Rattle.std.proofs.lemmas.Result.{on_ok_weaker}
 use Rattle.std.proofs.Common.{[], refl, sym}
 use Rattle.std.proofs.lemmas.List.{append-nil}
 use Rattle.mesh_report.specs.Lines.{refused_line}
 use Rattle.mesh_report.proofs.Joined.{behind}
 use Rattle.mesh_report.proofs.packet.put_read.Goals as goal
-use Rattle.mesh_atoms.proofs.Options.{on_ok_weaker as on_ok}
 
 pub returns-then-recode-clause-ok : goal.returns-then-recode-clause-ok
 returns-then-recode-clause-ok c = rw (c.if-recode.true, c.in-Read.is) c.put_recoded.ensures.ok
 
 pub returns-else-recode-clause-ok : goal.returns-else-recode-clause-ok
-returns-else-recode-clause-ok c = on_ok c.put_decoded.result (λ (text, put, is). (text, put, rw (c.if-recode.false, c.in-Read.is) (text, [], is, refl, sym (append-nil text)))) c.put_decoded.ensures.ok
+returns-else-recode-clause-ok c = on_ok_weaker c.put_decoded.result (λ (text, put, is). (text, put, rw (c.if-recode.false, c.in-Read.is) (text, [], is, refl, sym (append-nil text)))) c.put_decoded.ensures.ok
 
 pub returns-in-Refused-clause-ok : goal.returns-in-Refused-clause-ok
 returns-in-Refused-clause-ok c =

@@ -1,11 +1,11 @@
+use Rattle.std.proofs.lemmas.Result.{on_ok_weaker}
 use Rattle.std.proofs.Common.{◌++◌, refl}
 use Rattle.mesh_tlv.proofs.Grows.{grows_on}
 use Rattle.mesh_report.proofs.packet.put_recoded.Goals as goal
-use Rattle.mesh_atoms.proofs.Options.{on_ok_weaker as on_ok}
 use Rattle.mesh_atoms.proofs.Lists.{two_appended as two}
 
 pub returns-clause-ok : goal.returns-clause-ok
-returns-clause-ok c = on_ok c.put_recode.result (λ (last, put, is).
+returns-clause-ok c = on_ok_weaker c.put_recode.result (λ (last, put, is).
     let listing = c.in_ok-put_decoded.ensures.ok in
     (listing.0 ++ last, two (c.args.out.now ++ c.args.room.now.line) listing.0 last listing.1 put, (listing.0, last, listing.2, is, refl))) c.put_recode.ensures.ok
 

@@ -1,12 +1,12 @@
+use Rattle.std.proofs.lemmas.Result.{on_ok_weaker}
 use Rattle.std.proofs.Common.{arith}
 use Rattle.mesh_wire.specs.Summaries.{hello_summary_of, tc_summary_of}
 use Rattle.mesh_report.specs.Readings.{hello_summary_line, tc_summary_line}
 use Rattle.mesh_report.proofs.Readings.{told_reads}
 use Rattle.mesh_report.proofs.reading.put_reading.Goals as goal
-use Rattle.mesh_atoms.proofs.Options.{on_ok_weaker as on_ok}
 
 pub returns-in-0-clause-text : goal.returns-in-0-clause-text
-returns-in-0-clause-text c = on_ok c.put_read.result (λ wrote. (
+returns-in-0-clause-text c = on_ok_weaker c.put_read.result (λ wrote. (
   wrote.0,
   wrote.1,
   record {
@@ -17,7 +17,7 @@ returns-in-0-clause-text c = on_ok c.put_read.result (λ wrote. (
 )) c.put_read.ensures.text
 
 pub returns-in-1-clause-text : goal.returns-in-1-clause-text
-returns-in-1-clause-text c = on_ok c.put_read-in-1.result (λ wrote. (
+returns-in-1-clause-text c = on_ok_weaker c.put_read-in-1.result (λ wrote. (
   wrote.0,
   wrote.1,
   record {

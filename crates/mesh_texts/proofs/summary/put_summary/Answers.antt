@@ -1,8 +1,8 @@
+use Rattle.std.proofs.lemmas.Result.{on_ok_weaker}
 use Rattle.std.proofs.Common.{◌++◌, refl}
 use Rattle.mesh_settled.proofs.machine.tlv.Grows.{grows_on}
 use Rattle.mesh_texts.specs.Network.{counts_line, settled_text}
 use Rattle.mesh_texts.proofs.summary.put_summary.Goals as goal
-use Rattle.mesh_atoms.proofs.Options.{on_ok_weaker as on_ok}
 use Rattle.mesh_atoms.proofs.Lists.{three_appended}
 
 pub put_sections-requires : goal.put_sections-requires
@@ -23,7 +23,7 @@ returns-clause-ok g c =
     let first = counts_line s c.args.counts in
     let last = settled_text s c.args.gap in
     let sections = c.in_ok-put_sections.ensures.ok in
-    on_ok c.put_settled.result (λ put. (
+    on_ok_weaker c.put_settled.result (λ put. (
       first ++ sections.0 ++ last,
       three_appended c.args.out.now first sections.0 last c.in_ok-put_counts_line.ensures.ok sections.1 put,
       record { sections = sections.0; are_sections = sections.2; whole = refl },

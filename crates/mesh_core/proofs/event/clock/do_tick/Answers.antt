@@ -1,3 +1,4 @@
+use Rattle.std.proofs.lemmas.Result.{on_ok_weaker}
 use Rattle.std.proofs.Common.{◌≡◌, ◌++◌, length, arith, refl, sym, ap, subst, List, ◌∙◌}
 use Rattle.std.proofs.lemmas.List.{append_assoc}
 use Rattle.mesh_atoms.specs.declared.tc.TcRow.{TcRow}
@@ -11,7 +12,6 @@ use Rattle.mesh_core.proofs.EventLemmas.Derivations.{before_event, derived_after
 use Rattle.mesh_core.proofs.EventLemmas.Wholes.{bases_but}
 use Rattle.mesh_core.proofs.HeldLemmas.Taken.{live_held}
 use Rattle.mesh_core.proofs.event.clock.do_tick.Goals as goal
-use Rattle.mesh_atoms.proofs.Options.{on_ok_weaker}
 
 pub expire-requires-clause-sound : goal.expire-requires-clause-sound
 expire-requires-clause-sound g c = bases_but (state_of c.args.router.now.holding c.args.router.now.derived) c.requires.sound

@@ -1,5 +1,5 @@
+use Rattle.std.proofs.lemmas.Result.{on_ok_weaker}
 use Rattle.std.proofs.Common.{◌++◌, List, ap, ◌∙◌}
-use Rattle.mesh_atoms.proofs.Options.{on_ok_weaker}
 use Rattle.mesh_core.specs.Event.Holding.{state_of}
 use Rattle.mesh_machine.specs.declared.frame.Frame.{Frame}
 use Rattle.mesh_core.proofs.EventLemmas.Ticking.{ticks_to}

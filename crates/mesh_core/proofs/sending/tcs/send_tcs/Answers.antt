@@ -1,3 +1,4 @@
+use Rattle.std.proofs.lemmas.Result.{on_ok_weaker}
 use Rattle.std.proofs.Common.{◌≡◌, ℕ, ◌+◌, ◌%◌, List, length, [], true, inl, inr, sym, ap, subst, arith, ◌∙◌}
 use Rattle.std.specs.Prelude.{nat_eq}
 use Rattle.std.proofs.lemmas.List.{append-nil}
@@ -9,7 +10,6 @@ use Rattle.mesh_core.specs.Sending.Sent.{HasRowsOf}
 use Rattle.mesh_machine.specs.Sending.{SendsParts, Tcs_early, Tcs_silent, Tcs_due}
 use Rattle.mesh_core.proofs.SendingLemmas.PartRows.{has_before}
 use Rattle.mesh_core.proofs.sending.tcs.send_tcs.Goals as goal
-use Rattle.mesh_atoms.proofs.Options.{on_ok_weaker}
 
 pub returns-then-now-derived-clause-sent : goal.returns-then-now-derived-clause-sent
 returns-then-now-derived-clause-sent c = (

@@ -1,3 +1,4 @@
+use Rattle.mesh_atoms.proofs.Options.{on_err_of}
 use Rattle.std.proofs.Common.{Some, sym, ap, subst, arith, length, ◌≡◌, ◌+◌, ◌∙◌}
 use Rattle.std.specs.Prelude.{OnOk, OnErr}
 use Rattle.std.proofs.lemmas.Map.{length-set_value}
@@ -5,7 +6,7 @@ use Rattle.std.proofs.lemmas.Map.Steps.{set_value_same}
 use Rattle.mesh_atoms.specs.Base.{SetsOnly}
 use Rattle.mesh_expire.specs.Index.Moments.{until_of, SetsMoment}
 use Rattle.mesh_expire.proofs.Laws.{sets-changed_at}
-use Rattle.mesh_expire.proofs.IndexLemmas.Moments.{on_err, written, told, tells_set}
+use Rattle.mesh_expire.proofs.IndexLemmas.Moments.{written, told, tells_set}
 use Rattle.mesh_expire.proofs.index.index_table.put_in.Goals as goal
 
 pub add_in-requires-clause-absent : goal.add_in-requires-clause-absent
@@ -32,7 +33,7 @@ move_moment-requires g c =
 
 pub returns-in_err-move_moment-clause-err : goal.returns-in_err-move_moment-clause-err
 returns-in_err-move_moment-clause-err g c =
-    on_err c.from_residual.result ((c.get_mut.follows.holds c.in-Some.entry.now).0 ∙ set_value_same (g.K.PartialEq.eq c.args.key) c.args.map.now.entries c.in-Some.entry.now (sym c.in-Some.ensures.value))
+    on_err_of c.from_residual.result ((c.get_mut.follows.holds c.in-Some.entry.now).0 ∙ set_value_same (g.K.PartialEq.eq c.args.key) c.args.map.now.entries c.in-Some.entry.now (sym c.in-Some.ensures.value))
 
 pub returns-in_err-move_moment-clause-tells : goal.returns-in_err-move_moment-clause-tells
 returns-in_err-move_moment-clause-tells g c moment key =

@@ -1,7 +1,8 @@
 use Rattle.std.proofs.Common.{Some, ap, subst, ◌∙◌}
 use Rattle.std.proofs.lemmas.Bool.{ne_eqb}
+use Rattle.std.proofs.lemmas.Result.{on_ok_weaker}
 use Rattle.mesh_expire.specs.Index.Moments.{SetsMoment}
-use Rattle.mesh_expire.proofs.IndexLemmas.Moments.{comes_in, moves_in, ok_then}
+use Rattle.mesh_expire.proofs.IndexLemmas.Moments.{comes_in, moves_in}
 use Rattle.mesh_expire.proofs.index.moments.move_moment.Goals as goal
 
 pub returns-then-moment-until-clause-ok : goal.returns-then-moment-until-clause-ok
@@ -17,4 +18,4 @@ returns-clause-ok g c =
 pub returns-in_default-clause-ok : goal.returns-in_default-clause-ok
 returns-in_default-clause-ok g c =
     let was = subst (SetsMoment g.K.PartialEq.eq c.args.moments.now c.args.moments.now c.args.key) c.in_default.is c.requires in
-    ok_then c.put_key.result c.put_key.ensures.ok (λ h. comes_in g.K.PartialEq.eq c.args.moments.now c.put_key.new.moments c.args.key c.args.until was h)
+    on_ok_weaker c.put_key.result (λ h. comes_in g.K.PartialEq.eq c.args.moments.now c.put_key.new.moments c.args.key c.args.until was h) c.put_key.ensures.ok

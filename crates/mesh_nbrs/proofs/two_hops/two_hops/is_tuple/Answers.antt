@@ -1,9 +1,9 @@
 use Rattle.std.proofs.Common.{◌≡◌, Bool, ◌&&◌, Option, Some, eqb, ap, ◌∙◌, Decides}
 use Rattle.std.specs.Option.{option_eq}
-use Rattle.std.proofs.lemmas.Bool.Decides.{Decides-and}
+use Rattle.std.proofs.lemmas.Bool.Decides.{Decides-and, Decides-like}
 use Rattle.mesh_atoms.specs.declared.codes.metric.Metric.{Metric}
 use Rattle.mesh_atoms.specs.declared.tuples.TwoHop.{TwoHop}
-use Rattle.mesh_atoms.proofs.Rows.{decides_so, metrics, options}
+use Rattle.mesh_atoms.proofs.Rows.{metrics, options}
 use Rattle.mesh_nbrs.proofs.two_hops.two_hops.is_tuple.Goals as goal
 
 abbrev same_known : Option Metric → Option Metric → Bool
@@ -19,7 +19,7 @@ known : (a b : Option Metric) → Decides (same_known a b) (a ≡ b)
 known = options (λ (m n : Metric). eqb m.code n.code) metrics
 
 tuples : (a b : TwoHop) → Decides (same_tuple a b) (a ≡ b)
-tuples a b = decides_so (same_tuple a b) (λ h. ap (λ m. tuple_of m a.metric_out) h.0 ∙ ap (tuple_of b.metric_in) h.1) (λ e. (ap (λ (t : TwoHop). t.metric_in) e, ap (λ (t : TwoHop). t.metric_out) e))
+tuples a b = Decides-like (same_tuple a b) (λ h. ap (λ m. tuple_of m a.metric_out) h.0 ∙ ap (tuple_of b.metric_in) h.1) (λ e. (ap (λ (t : TwoHop). t.metric_in) e, ap (λ (t : TwoHop). t.metric_out) e))
     (Decides-and _ _ (known a.metric_in b.metric_in) (known a.metric_out b.metric_out))
 
 pub returns : goal.returns

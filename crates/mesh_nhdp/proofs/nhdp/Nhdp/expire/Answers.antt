@@ -1,10 +1,10 @@
+use Rattle.std.proofs.lemmas.Result.{on_ok_weaker}
 use Rattle.std.proofs.Common.{ap, arith}
 use Rattle.mesh_atoms.specs.Live.{LiveNeighbourhood}
 use Rattle.mesh_atoms.specs.Sound.{SoundNeighbourhood}
 use Rattle.mesh_nhdp.specs.NhdpState.{NhdpState}
 use Rattle.mesh_nhdp.proofs.Held.{both_on, given, back, carried}
 use Rattle.mesh_nhdp.proofs.nhdp.Nhdp.expire.Goals as goal
-use Rattle.mesh_atoms.proofs.Options.{on_ok_weaker as on_ok}
 
 pub expire_all-requires-clause-now : goal.expire_all-requires-clause-now
 expire_all-requires-clause-now g c = c.requires.now
@@ -23,7 +23,7 @@ pub returns-clause-sound : goal.returns-clause-sound
 returns-clause-sound g c =
     let (moment, sound) = c.requires.sound in
     let begins = given (λ s n. SoundNeighbourhood s moment n) c.args.self.now _ c.deref_mut.result.now c.deref_mut-2.result.now c.self.view_is c.deref_mut.ensures.value c.deref_mut-2.ensures.value sound in
-    on_ok c.expire_all.result (λ S. back (λ n. SoundNeighbourhood c.self.inside.settings c.args.now n) c.self.inside.settings moment c.args.now c.deref_mut.result.now c.self.inside.links.items c.expire_all.new.links
+    on_ok_weaker c.expire_all.result (λ S. back (λ n. SoundNeighbourhood c.self.inside.settings c.args.now n) c.self.inside.settings moment c.args.now c.deref_mut.result.now c.self.inside.links.items c.expire_all.new.links
     c.deref_mut-2.result.now c.self.inside.two_hops.items c.expire_all.new.two_hops c.self.inside.neighbours c.expire_all.new.neighbours c.self.inside.losts c.expire_all.new.losts c.self.inside.links.len c.self.inside.two_hops.len
     c.deref_mut.ensures.value c.deref_mut-2.ensures.value (omega (arith, c.deref_mut.ensures.len)) (omega (arith, c.deref_mut-2.ensures.len)) begins S S) c.expire_all.ensures.sound
 

@@ -1,13 +1,12 @@
 use Rattle.std.proofs.Common.{◌≡◌, ap, arith, IsTrue}
 use Rattle.std.specs.Prelude.{◌↔◌}
-use Rattle.std.proofs.lemmas.Result.{IfOk-weaker}
+use Rattle.std.proofs.lemmas.Result.{IfOk-weaker, on_ok_weaker}
 use Rattle.mesh_atoms.specs.Live.{LiveNeighbourhood}
 use Rattle.mesh_atoms.specs.Sound.{SoundNeighbourhood}
 use Rattle.mesh_nhdp.specs.NhdpState.{NhdpState}
 use Rattle.mesh_nhdp.specs.Staying.{AllIsAsItWas}
 use Rattle.mesh_nhdp.proofs.Held.{both_ok, both_on, given, said, back, carried}
 use Rattle.mesh_nhdp.proofs.nhdp.Nhdp.expire_since.Goals as goal
-use Rattle.mesh_atoms.proofs.Options.{on_ok_weaker as on_ok}
 
 pub expire_or_stay-requires-clause-now : goal.expire_or_stay-requires-clause-now
 expire_or_stay-requires-clause-now g c = c.requires.now
@@ -24,7 +23,7 @@ returns-clause-live g c =
 pub returns-clause-sound : goal.returns-clause-sound
 returns-clause-sound g c =
     let begins = given (λ s n. SoundNeighbourhood s c.args.last n) c.args.self.now _ c.deref_mut.result.now c.deref_mut-2.result.now c.self.view_is c.deref_mut.ensures.value c.deref_mut-2.ensures.value c.requires.sound in
-    on_ok c.expire_or_stay.result (λ S. back (λ n. SoundNeighbourhood c.self.inside.settings c.args.now n) c.self.inside.settings c.args.last c.args.now c.deref_mut.result.now c.self.inside.links.items c.expire_or_stay.new.links
+    on_ok_weaker c.expire_or_stay.result (λ S. back (λ n. SoundNeighbourhood c.self.inside.settings c.args.now n) c.self.inside.settings c.args.last c.args.now c.deref_mut.result.now c.self.inside.links.items c.expire_or_stay.new.links
     c.deref_mut-2.result.now c.self.inside.two_hops.items c.expire_or_stay.new.two_hops c.self.inside.neighbours c.expire_or_stay.new.neighbours c.self.inside.losts c.expire_or_stay.new.losts c.self.inside.links.len c.self.inside.two_hops.len
     c.deref_mut.ensures.value c.deref_mut-2.ensures.value (omega (arith, c.deref_mut.ensures.len)) (omega (arith, c.deref_mut-2.ensures.len)) begins S S) c.expire_or_stay.ensures.sound
 

@@ -1,3 +1,4 @@
+use Rattle.std.proofs.lemmas.Result.{on_ok_weaker}
 use Rattle.std.proofs.Common.{◌<◌, length, ap, sym, subst, arith}
 use Rattle.mesh_atoms.specs.Sound.{SoundNeighbourhood}
 use Rattle.mesh_atoms.specs.TakesHello.{TakesHello}
@@ -5,7 +6,6 @@ use Rattle.mesh_nbrs.specs.Same.{SameNear}
 use Rattle.mesh_nhdp.specs.NhdpState.{NhdpState}
 use Rattle.mesh_nhdp.proofs.Held.{both_ok, given, back, carried}
 use Rattle.mesh_nhdp.proofs.nhdp.Nhdp.take_and_tell.Goals as goal
-use Rattle.mesh_atoms.proofs.Options.{on_ok_weaker as on_ok}
 
 pub take_in-requires-clause-now : goal.take_in-requires-clause-now
 take_in-requires-clause-now g c = c.requires.now
@@ -36,7 +36,7 @@ returns-clause-ok g c =
 pub returns-clause-sound : goal.returns-clause-sound
 returns-clause-sound g c =
     let begins = given (λ s n. SoundNeighbourhood s c.args.now n) c.args.self.now _ c.deref_mut.result.now c.deref_mut-2.result.now c.self.view_is c.deref_mut.ensures.value c.deref_mut-2.ensures.value c.requires.sound in
-    on_ok c.take_in.result (λ sound. back (λ n. SoundNeighbourhood c.self.inside.settings c.args.now n) c.self.inside.settings c.args.now c.args.now c.deref_mut.result.now c.self.inside.links.items c.take_in.new.links
+    on_ok_weaker c.take_in.result (λ sound. back (λ n. SoundNeighbourhood c.self.inside.settings c.args.now n) c.self.inside.settings c.args.now c.args.now c.deref_mut.result.now c.self.inside.links.items c.take_in.new.links
     c.deref_mut-2.result.now c.self.inside.two_hops.items c.take_in.new.two_hops c.self.inside.neighbours c.take_in.new.neighbours c.self.inside.losts c.take_in.new.losts c.self.inside.links.len c.self.inside.two_hops.len
     c.deref_mut.ensures.value c.deref_mut-2.ensures.value (omega (arith, c.deref_mut.ensures.len)) (omega (arith, c.deref_mut-2.ensures.len)) begins sound sound) c.take_in.ensures.sound
 

@@ -1,4 +1,4 @@
-use Rattle.std.proofs.Common.{◌≡◌, subst, Option, None, Some}
+use Rattle.std.proofs.Common.{subst}
 use Rattle.mesh_atoms.proofs.Options.{if_ok_weaker}
 use Rattle.mesh_replay.specs.Checking.RelayLines.{TellsRelays}
 use Rattle.mesh_replay.proofs.CheckingLemmas.Ended.{event_not, event_told, in_again, lines_again, same_with, sound_again}

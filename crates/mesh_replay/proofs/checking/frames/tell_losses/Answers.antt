@@ -1,4 +1,4 @@
-use Rattle.std.proofs.Common.{◌≡◌, rules, refl, true, false, ap, map}
+use Rattle.std.proofs.Common.{◌≡◌, rules, true, false, ap, map}
 use Rattle.std.proofs.lemmas.List.{drop_all, drop_more}
 use Rattle.mesh_trace.specs.Positions.Standing.{Lost}
 use Rattle.mesh_replay.proofs.CheckingLemmas.Telling.{tells_more, tells_nowhere, tells_stop, tells_to}

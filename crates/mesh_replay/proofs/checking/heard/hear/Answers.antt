@@ -1,5 +1,4 @@
-use Rattle.std.proofs.Common.{arith, ◌≡◌, ◌<◌, List, Some, length, refl, true, rules}
-use Rattle.std.specs.Prelude.{slice_get}
+use Rattle.std.proofs.Common.{arith, ◌≡◌, ◌<◌, List, length, refl, true, rules}
 use Rattle.mesh_atoms.specs.State.{State}
 use Rattle.mesh_atoms.proofs.Lists.{item_at}
 use Rattle.mesh_atoms.proofs.Options.{if_ok_weaker}

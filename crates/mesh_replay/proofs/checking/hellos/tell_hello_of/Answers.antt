@@ -1,4 +1,4 @@
-use Rattle.std.proofs.Common.{◌≡◌, ℕ, sym, ◌∙◌, ap, subst}
+use Rattle.std.proofs.Common.{ℕ, sym, ◌∙◌, ap, subst}
 use Rattle.mesh_atoms.specs.Hello.{IsHelloNow}
 use Rattle.mesh_atoms.specs.State.{State}
 use Rattle.mesh_atoms.proofs.Options.{if_ok_weaker}

@@ -1,7 +1,5 @@
-use Rattle.std.proofs.Common.{◌≡◌, ◌<◌, ◌≤◌, List, [], length, rules, refl, ap, subst, sym, Bool, true, false, arith}
+use Rattle.std.proofs.Common.{◌≡◌, ◌<◌, ◌≤◌, [], length, rules, ap, subst, sym, Bool, true, false, arith}
 use Rattle.mesh_atoms.specs.declared.settings.RouterSettings.{RouterSettings}
-use Rattle.mesh_atoms.specs.State.{State}
-use Rattle.mesh_trace.specs.Positions.Standing.{Item}
 use Rattle.mesh_replay.specs.Checking.Cases.{TellsItems}
 use Rattle.mesh_replay.specs.Checking.Kept.{hello_items}
 use Rattle.mesh_replay.proofs.CheckingLemmas.Telling.{tells_more, tells_nowhere, tells_stop, tells_to}

@@ -1,4 +1,4 @@
-use Rattle.std.proofs.Common.{◌≡◌, List, ℕ, None, Some, rules, false, true, subst}
+use Rattle.std.proofs.Common.{◌≡◌, List, ℕ, rules, false, true, subst}
 use Rattle.std.specs.Prelude.{◌↔◌, IsTrue}
 use Rattle.mesh_replay.specs.Checking.Sending.{WritesSent}
 use Rattle.mesh_replay.proofs.CheckingLemmas.Texts.{takes_none, takes_not, takes_one}

@@ -1,8 +1,8 @@
-use Rattle.std.proofs.Common.{◌≡◌, List, Option, None, Some, rules, false, true, sym, ◌∙◌, ap, subst}
+use Rattle.std.proofs.Common.{List, Some, false, sym, ◌∙◌, ap}
 use Rattle.mesh_atoms.specs.declared.addr.Addr4.{Addr4}
-use Rattle.mesh_replay.specs.Checking.RelayLines.{IsAgain, again}
-use Rattle.mesh_replay.specs.Checking.Texts.{TakesNext, told_text}
-use Rattle.mesh_replay.proofs.CheckingLemmas.Texts.{takes_given, takes_nothing, takes_other}
+use Rattle.mesh_replay.specs.Checking.RelayLines.{again}
+use Rattle.mesh_replay.specs.Checking.Texts.{told_text}
+use Rattle.mesh_replay.proofs.CheckingLemmas.Texts.{takes_nothing, takes_other}
 use Rattle.mesh_replay.proofs.checking.relays.same_relays.Goals as goal
 
 pub returns-in_default : goal.returns-in_default

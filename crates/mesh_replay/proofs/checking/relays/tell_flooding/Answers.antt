@@ -1,9 +1,6 @@
-use Rattle.std.proofs.Common.{◌≡◌, ◌<◌, ◌≤◌, ℕ, length, List, ap, subst, sym, refl, arith, Option, None, Some}
-use Rattle.mesh_atoms.specs.declared.addr.Addr4.{Addr4}
+use Rattle.std.proofs.Common.{◌≡◌, ◌<◌, ℕ, length, ap, subst, arith}
 use Rattle.mesh_atoms.specs.declared.settings.RouterSettings.{RouterSettings}
-use Rattle.mesh_replay.specs.Checking.RelayLines.{HasTold, MayTell}
-use Rattle.mesh_replay.specs.Checking.Texts.{TakesNext, told_text}
-use Rattle.mesh_replay.proofs.CheckingLemmas.Telling.{progress_read}
+use Rattle.mesh_replay.specs.Checking.RelayLines.{HasTold}
 use Rattle.mesh_replay.proofs.RelaysLemmas.Floods.{stops_flooding, told_more, told_nothing}
 use Rattle.mesh_replay.proofs.checking.relays.tell_flooding.Goals as goal
 

@@ -1,6 +1,5 @@
-use Rattle.std.proofs.Common.{◌≡◌, refl, subst, List, Option, None, Some, length}
-use Rattle.mesh_atoms.specs.declared.addr.Addr4.{Addr4}
-use Rattle.mesh_replay.specs.Checking.RelayLines.{HasTold, TellsFlooding}
+use Rattle.std.proofs.Common.{refl, subst}
+use Rattle.mesh_replay.specs.Checking.RelayLines.{TellsFlooding}
 use Rattle.mesh_replay.proofs.RelaysLemmas.Floods.{stops_routing, told_all}
 use Rattle.mesh_replay.proofs.checking.relays.tell_relays.Goals as goal
 

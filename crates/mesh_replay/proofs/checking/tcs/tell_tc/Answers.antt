@@ -1,4 +1,4 @@
-use Rattle.std.proofs.Common.{◌≡◌, ℕ, List, Some, rules, refl, ◌∙◌, ap, true, false}
+use Rattle.std.proofs.Common.{◌≡◌, ℕ, List, Some, rules, ◌∙◌, ap, true, false}
 use Rattle.mesh_atoms.proofs.Options.{if_ok_weaker}
 use Rattle.mesh_replay.proofs.CheckingLemmas.Telling.{tells_not, tells_on, tells_where}
 use Rattle.mesh_replay.proofs.FramesLemmas.TcItems.{tc_told, tc_not}

@@ -1,4 +1,4 @@
-use Rattle.std.proofs.Common.{◌≡◌, ℕ, sym, ◌∙◌, ap, List, length}
+use Rattle.std.proofs.Common.{ℕ, sym, ◌∙◌, ap, List, length}
 use Rattle.std.specs.Prelude.{nat_eq}
 use Rattle.mesh_atoms.specs.declared.tc.TcRow.{TcRow}
 use Rattle.mesh_atoms.specs.State.{State}

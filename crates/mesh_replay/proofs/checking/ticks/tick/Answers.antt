@@ -1,5 +1,4 @@
-use Rattle.std.proofs.Common.{◌≡◌, ◌<◌, List, length, refl, arith, true, rules}
-use Rattle.mesh_atoms.specs.State.{State}
+use Rattle.std.proofs.Common.{◌≡◌, ◌<◌, length, refl, arith, true, rules}
 use Rattle.mesh_atoms.proofs.Lists.{item_at}
 use Rattle.mesh_atoms.proofs.Options.{if_ok_weaker}
 use Rattle.mesh_replay.proofs.CheckingLemmas.Opened.{router_within, routers_kept, settings_same}

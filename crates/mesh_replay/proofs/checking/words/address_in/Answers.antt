@@ -1,4 +1,4 @@
-use Rattle.std.proofs.Common.{sym, ◌∙◌, ap, subst, Some, List, ℕ}
+use Rattle.std.proofs.Common.{sym, ◌∙◌, ap, Some}
 use Rattle.std.proofs.lemmas.Bool.Decides.{Decides-eqb, not_from_Decides}
 use Rattle.std.proofs.lemmas.Slice.Eq.{slice_eq-Decides}
 use Rattle.mesh_atoms.specs.declared.addr.Addr4.{Addr4}

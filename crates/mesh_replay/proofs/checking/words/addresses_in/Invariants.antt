@@ -1,4 +1,4 @@
-use Rattle.std.proofs.Common.{◌≡◌, ◌++◌, ◌<◌, ◌^◌, All, List, length}
+use Rattle.std.proofs.Common.{◌≡◌, ◌<◌, ◌^◌, All, List, length}
 use Rattle.mesh_atoms.specs.declared.addr.Addr4.{Addr4}
 use Rattle.mesh_texts.specs.Lines.Marks.{spaced}
 use Rattle.mesh_replay.proofs.RelaysLemmas.Told.{IsLeft}

@@ -1,3 +1,4 @@
+use Rattle.std.proofs.lemmas.Result.{on_ok_weaker}
 use Rattle.std.proofs.Common.{◌≡◌, ◌++◌, List, ℕ, map}
 use Rattle.std.specs.List.{flat_map}
 use Rattle.std.proofs.lemmas.List.Folds.{flat_map-map}
@@ -7,7 +8,6 @@ use Rattle.mesh_packet.specs.Fields.{fields_of_block}
 use Rattle.mesh_report.specs.Lines.{block_line, address_line, addr_tlv_line}
 use Rattle.mesh_report.specs.Packets.{block_text}
 use Rattle.mesh_report.proofs.packet.BlockListed.put_lines.Goals as goal
-use Rattle.mesh_atoms.proofs.Options.{on_ok_weaker as on_ok}
 use Rattle.mesh_atoms.proofs.Lists.{three_appended}
 
 pub returns-in_err-put_block_line-clause-kept : goal.returns-in_err-put_block_line-clause-kept
@@ -27,6 +27,6 @@ returns c =
     let standing : List ℕ = c.put_addresses.new.out ++ c.put_addresses.new.line in
     let put_addresses : standing ≡ (c.put_block_line.new.out ++ c.put_block_line.new.line) ++ addrs = rw (← c.as_slice.ensures) c.in_ok-put_addresses.ensures.ok in
     record {
-      ok = on_ok c.put_each.result (λ wrote. three_appended old first addrs tlvs c.in_ok-put_block_line.ensures.ok put_addresses (rw (← c.as_slice-2.ensures, flat_map-map addr_tlv_line addr_fields c.as_slice-2.result.now) wrote)) c.put_each.ensures.ok;
+      ok = on_ok_weaker c.put_each.result (λ wrote. three_appended old first addrs tlvs c.in_ok-put_block_line.ensures.ok put_addresses (rw (← c.as_slice-2.ensures, flat_map-map addr_tlv_line addr_fields c.as_slice-2.result.now) wrote)) c.put_each.ensures.ok;
       kept = grows_on c.put_block_line.ensures.kept (grows_on c.put_addresses.ensures.kept c.put_each.ensures.kept);
     }

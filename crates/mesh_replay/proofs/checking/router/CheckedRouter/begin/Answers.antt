@@ -1,4 +1,4 @@
-use Rattle.std.proofs.Common.{refl, ◌∙◌, sym}
+use Rattle.std.proofs.Common.{refl, ◌∙◌}
 use Rattle.mesh_replay.proofs.RouterLemmas.Following.{renewed_anew, renewed_quietly}
 use Rattle.mesh_replay.proofs.checking.router.CheckedRouter.begin.Goals as goal
 
