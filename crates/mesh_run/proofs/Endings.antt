@@ -8,6 +8,7 @@ use Rattle.mesh_atoms.specs.declared.settings.RunSetup.{RunSetup}
 use Rattle.mesh_atoms.specs.Sound.{Sound}
 use Rattle.mesh_atoms.specs.State.{State}
 use Rattle.mesh_config.specs.RunSettings.{run_refusals}
+use Rattle.mesh_core.specs.Deferred.{IsKeptOf}
 use Rattle.mesh_io.proofs.Fronts.{keeps_same}
 use Rattle.mesh_io.specs.Airs.{Report}
 use Rattle.mesh_io.specs.Faults.{Rose, RoseByOne}
@@ -22,6 +23,7 @@ use Rattle.mesh_run.specs.declared.fault.RunFault.{RunFault}
 use Rattle.mesh_run.specs.declared.fault.RunFault.TheVariants as fault
 use Rattle.mesh_run.proofs.Moments.{below_end, reaches_end}
 use Rattle.mesh_config.specs.Keys.Faults.{first}
+use Rattle.mesh_run.proofs.TurnsLemmas.Kept.{whole_at_end}
 use Rattle.mesh_run.proofs.TurnsLemmas.Runs.{keep_sound}
 use Rattle.mesh_run.proofs.TurnsLemmas.Tellings.{tells_more}
 use Rattle.mesh_run.proofs.TurnsLemmas.Whole.{stops_behind}
@@ -38,14 +40,18 @@ module _ (setup : RunSetup) (most : ℕ) (state : State) (ended : Ended) (k l : 
   some : 0 < setup.end
   some = omega (arith, setup.end_in_range.least)
 
-  -- the router is sound
-  pub is_sound : Sound state
-  is_sound = keep_sound setup does.moments does.reports _ does.turns
+  -- of the router all is kept, where the turns come to the end
+  whole_left : setup.end ≤ ended.greatest → (rest : State) → IsKeptOf setup.end state rest → state ≡ rest
+  whole_left reached rest kept = whole_at_end setup.end (length setup.ports) _ some does.moments does.reports _ rest does.turns.goes (omega (arith, early, reached)) kept
+
+  -- it is sound
+  pub sound_left : setup.end ≤ ended.greatest → (rest : State) → IsKeptOf setup.end state rest → Sound rest
+  sound_left reached rest kept = subst Sound (whole_left reached rest kept) (keep_sound setup does.moments does.reports _ does.turns)
 
   -- its turns were done, and its text is put
-  finishes : ended.turns ≤ most → setup.end ≤ ended.greatest → (text : List ℕ) → IsReport setup.end ended state text →
-      FinishesTurns setup most k l a b text
-  finishes within reached text report = record {
+  finishes : ended.turns ≤ most → setup.end ≤ ended.greatest → (rest : State) → IsKeptOf setup.end state rest → (text : List ℕ) →
+      IsReport setup.end ended rest text → FinishesTurns setup most k l a b text
+  finishes within reached rest kept text report = record {
     moments = does.moments;
     reports = does.reports;
     clock_tells = does.clock_tells;
@@ -56,19 +62,20 @@ module _ (setup : RunSetup) (most : ℕ) (state : State) (ended : Ended) (k l : 
       state = state;
       turns = does.turns;
       ends = reaches_end setup.end (length setup.ports) early _ some does.moments does.reports _ does.turns.goes (omega (arith, early, reached));
-      report = subst (λ (e : Ended). IsReport setup.end e state text) does.ended_is report;
+      report = subst (λ (e : Ended). IsReport setup.end e state text) does.ended_is
+          (subst (λ (s : State). IsReport setup.end ended s text) (sym (whole_left reached rest kept)) report);
     };
   }
 
-  -- what is left by its report
-  pub report_left : ended.turns ≤ most → setup.end ≤ ended.greatest → (o o' : Option (List ℕ)) (f f' : ℕ) →
-      (text : List ℕ) × IsReport setup.end ended state text × Appends o o' text → RouterEnds setup most k l a b o o' f f' (Ok tt)
-  report_left within reached o o' f f' (text, report, stands) = (text, finishes within reached text report, stands)
+  -- what is left by the report of what is kept of it
+  pub report_left : ended.turns ≤ most → setup.end ≤ ended.greatest → (rest : State) → IsKeptOf setup.end state rest → (o o' : Option (List ℕ)) (f f' : ℕ) →
+      (text : List ℕ) × IsReport setup.end ended rest text × Appends o o' text → RouterEnds setup most k l a b o o' f f' (Ok tt)
+  report_left within reached rest kept o o' f f' (text, report, stands) = (text, finishes within reached rest kept text report, stands)
 
-  pub report_stops : ended.turns ≤ most → setup.end ≤ ended.greatest → (o o' : Option (List ℕ)) (f f' : ℕ) (why : Stop) →
-      LeavesText (IsReport setup.end ended state) o o' f f' (Err why) → RouterEnds setup most k l a b o o' f f' (Err (fault.Stopped why))
-  report_stops within reached o o' f f' stop.Write (rose, text, report, n, stands) = (rose, text, finishes within reached text report, n, stands)
-  report_stops within reached o o' f f' stop.Memory keeps = (inr (stops_behind setup most state ended k l a b within does), keeps)
+  pub report_stops : ended.turns ≤ most → setup.end ≤ ended.greatest → (rest : State) → IsKeptOf setup.end state rest → (o o' : Option (List ℕ)) (f f' : ℕ) (why : Stop) →
+      LeavesText (IsReport setup.end ended rest) o o' f f' (Err why) → RouterEnds setup most k l a b o o' f f' (Err (fault.Stopped why))
+  report_stops within reached rest kept o o' f f' stop.Write (rose, text, report, n, stands) = (rose, text, finishes within reached rest kept text report, n, stands)
+  report_stops within reached rest kept o o' f f' stop.Memory keeps = (inr (stops_behind setup most state ended k l a b within does), keeps)
 
   -- all its turns were done, below the end
   pub spends : ended.greatest < setup.end → Spends setup ended.turns ended.greatest setup.end k l a b

@@ -2,13 +2,13 @@
 use Rattle.std.proofs.Common.{ℕ, ◌^◌, ◌<◌, ◌≤◌, List, [], ◌∷◌, All, refl, arith}
 use Rattle.std.proofs.lemmas.List.Elements.{All-nil, All-cons, All-append}
 use Rattle.mesh_io.specs.Airs.{Report}
-use Rattle.mesh_run.specs.Turns.Turns.{Position, RunsTurns}
+use Rattle.mesh_run.specs.Turns.Turns.{DoesEvent, Position, RunsTurns}
 use Rattle.mesh_run.specs.Turns.Turns.RunsTurns.{Stays, Then_begins, Then_listens}
 use Rattle.mesh_run.specs.Text.{ReachesEnd}
 
 module _ (end count : ℕ) (early : end < 2 ^ 62) (start : Position) (before : start.moment < end) where
   -- all moments are below the end, where the last turn's is
-  pub below_end : (moments : List ℕ) (reports : List Report) (stop : Position) → RunsTurns end count start moments reports stop → stop.moment < end →
+  pub below_end : (moments : List ℕ) (reports : List Report) (stop : Position) → RunsTurns DoesEvent end count start moments reports stop → stop.moment < end →
       All (λ moment. moment < end) moments
   below_end moments reports stop Stays lt = All-nil (λ moment. moment < end)
   below_end moments reports stop (Then_begins {moments = ms} {reports = rs} {mid = mid} {told = told} goes begins) lt =
@@ -19,7 +19,7 @@ module _ (end count : ℕ) (early : end < 2 ^ 62) (start : Position) (before : s
       below_end moments rs mid goes (omega (arith, listens.moment, lt))
 
   -- the last moment alone is at or above the end, where the last turn's is
-  pub reaches_end : (moments : List ℕ) (reports : List Report) (stop : Position) → RunsTurns end count start moments reports stop → end ≤ stop.moment →
+  pub reaches_end : (moments : List ℕ) (reports : List Report) (stop : Position) → RunsTurns DoesEvent end count start moments reports stop → end ≤ stop.moment →
       ReachesEnd end moments
   reaches_end moments reports stop Stays le = absurd (omega (arith, before, le))
   reaches_end moments reports stop (Then_begins {moments = ms} {reports = rs} {mid = mid} {told = told} goes begins) le = record {

@@ -1,3 +1,4 @@
+pub mod Kept
 pub mod Positions
 pub mod Runs
 pub mod Tellings

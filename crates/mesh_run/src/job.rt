@@ -12,14 +12,15 @@ ghost use Rattle.mesh_config.specs.Keys.Faults.{first};
 
 use crate::fault::RunFault;
 use crate::router::run_setup;
+use crate::router_of_run::RouterOfRun;
 use mesh_config::{ConfigFault, router_of};
-use mesh_core::{Core, Machine};
+use mesh_core::DeferredCore;
 use mesh_expire::Bases;
 use mesh_io::{Air, Clock, Sink, Stop};
 use std::alloc::Global;
 
 // Runs the router that the input states.
-fn run_stated<M: Machine, O: Sink, A: Air, C: Clock>(
+fn run_stated<M: RouterOfRun, O: Sink, A: Air, C: Clock>(
     alloc: Global,
     input: &[u8],
     turns: u32,
@@ -98,5 +99,5 @@ pub fn run<B: Bases, O: Sink, A: Air, C: Clock>(
     ensures later_out { O.faults out.old ≤ O.faults out.new }
     ensures later_air { A.faults air.old ≤ A.faults air.new }
 {
-    run_stated::<Core<B>, O, A, C>(alloc, input, turns, out, air, clock)
+    run_stated::<DeferredCore<B>, O, A, C>(alloc, input, turns, out, air, clock)
 }

@@ -5,6 +5,7 @@ mod fault;
 mod job;
 mod report;
 mod router;
+mod router_of_run;
 mod turns;
 
 pub use fault::RunFault;

@@ -6,6 +6,7 @@ mod events;
 mod hand;
 mod laws;
 mod listen;
+mod moment;
 mod tally;
 mod turn;
 mod turns;

@@ -1,42 +1,66 @@
 -- What was done from one position to another, and then more.
-use Rattle.std.proofs.Common.{◌≡◌, ℕ, ◌+◌, ◌-◌, ◌^◌, ◌<◌, ◌≤◌, min, max, List, [], ◌++◌, ◌∷◌, Option, Some, refl, sym, ap, subst, ◌∙◌, append_assoc, arith, cond, nat_le}
+use Rattle.std.proofs.Common.{◌≡◌, ℕ, ◌+◌, ◌-◌, ◌^◌, ◌<◌, ◌≤◌, min, max, List, [], ◌++◌, ◌∷◌, Option, Some, None, refl, sym, ap, subst, ◌∙◌, append_assoc, arith, cond, nat_le}
 use Rattle.std.proofs.lemmas.List.{append-nil, length-append}
 use Rattle.std.proofs.lemmas.Bool.{le-leb, lt-leb}
 use Rattle.mesh_atoms.specs.declared.addr.Addr4.{Addr4}
 use Rattle.mesh_atoms.specs.State.{State}
 use Rattle.mesh_io.specs.Airs.{Report}
-use Rattle.mesh_io.specs.Airs.Report.{Heard_frame}
+use Rattle.mesh_io.specs.Airs.Report.{Heard_frame, Heard_silence, Heard_fault}
 use Rattle.mesh_io.specs.Told.{TellsMore}
-use Rattle.mesh_texts.specs.machine.Machine.Event.{Hear}
+use Rattle.mesh_texts.specs.machine.Machine.{Event, Hear, due}
 use Rattle.mesh_run.specs.declared.turns.tally.Tally.{Tally}
 use Rattle.mesh_run.specs.Turns.Turns.{Position, RunsTurns, tick_of, moment_of, greatest_of}
 use Rattle.mesh_run.specs.Turns.Turns.RunsTurns.{Stays, Then_begins, Then_listens}
 use Rattle.mesh_run.specs.Turns.Turns.CameToNothing.{A_moment, An_ear}
-use Rattle.mesh_run.specs.Turns.Parts.{Acts, HearsInterface, HearsInVain, Going, Broken, Turning, Stopped, at, counted}
+use Rattle.mesh_run.specs.Turns.Parts.{KeepsEvent, Acts, HearsInterface, HearsInVain, Going, Broken, Turning, Stopped, at, counted}
+use Rattle.mesh_run.proofs.TurnsLemmas.Kept.{kept_same}
 use Rattle.mesh_run.proofs.TurnsLemmas.Tellings.{tells_nothing, tells_more, counted_nothing, counted_more}
 
 -- What an interface hears
+
+zero_more : (x : ℕ) → x + 0 ≡ x
+zero_more x = omega arith
 
 -- a frame that was heard counts one more
 heard_one : (t : Tally) (h iface : ℕ) (sender : Addr4) (bytes : List ℕ) → h ≡ t.heard + 1 →
     (let u : Tally = record { heard = h; sent = t.sent; faults = t.faults } in u) ≡ counted t (Heard_frame iface sender bytes ∷ [])
 heard_one t h iface sender bytes e = rw (e, zero_more t.sent, zero_more t.faults) refl
-  where
-    zero_more : (x : ℕ) → x + 0 ≡ x
-    zero_more x = omega arith
 
 -- a frame is heard, and then what comes of it
-pub hears_frame : (now iface : ℕ) (sender : Addr4) (bytes : List ℕ) (old new : State) (a b c : Option (List Report)) (t v : Tally) (h : ℕ) →
+pub hears_frame : (end now iface : ℕ) (sender : Addr4) (octets bytes : List ℕ) (old new : State) (a b c : Option (List Report)) (t v : Tally) (h : ℕ) → octets ≡ bytes →
     h ≡ t.heard + 1 → TellsMore a b (Heard_frame iface sender bytes ∷ []) →
-    Acts old (Some (Hear (record { now = now; iface = iface; sender = sender }) bytes)) new b c (record { heard = h; sent = t.sent; faults = t.faults }) v →
-    HearsInterface now iface old new a c t v
-hears_frame now iface sender bytes old new a b c t v h more told acts = record {
+    Acts end old (Some (Hear (record { now = now; iface = iface; sender = sender }) octets)) new b c (record { heard = h; sent = t.sent; faults = t.faults }) v →
+    HearsInterface end now iface old new a c t v
+hears_frame end now iface sender octets bytes old new a b c t v h same more told acts = record {
   ear = Heard_frame iface sender bytes;
   reports = acts.reports;
   tells = tells_more a b c (Heard_frame iface sender bytes ∷ []) acts.reports told acts.tells;
   heard = refl;
-  does = acts.does;
+  does = subst (λ (l : List ℕ). KeepsEvent end old (Some (Hear (record { now = now; iface = iface; sender = sender }) l)) acts.reports new) same acts.does;
   counts = counted_more t (record { heard = h; sent = t.sent; faults = t.faults }) v (Heard_frame iface sender bytes ∷ []) acts.reports (heard_one t h iface sender bytes more) acts.counts;
+}
+
+-- silence, or a fault
+pub hears_silence : (end now iface : ℕ) (s : State) (a b : Option (List Report)) (t : Tally) → TellsMore a b (Heard_silence iface ∷ []) →
+    HearsInterface end now iface s s a b t t
+hears_silence end now iface s a b t told = record {
+  ear = Heard_silence iface;
+  reports = [];
+  tells = told;
+  heard = refl;
+  does = (s, (refl, refl), kept_same end s);
+  counts = rw (zero_more t.heard, zero_more t.sent, zero_more t.faults) refl;
+}
+
+pub hears_fault : (end now iface : ℕ) (s : State) (a b : Option (List Report)) (t : Tally) (f : ℕ) → f ≡ t.faults + 1 → TellsMore a b (Heard_fault iface ∷ []) →
+    HearsInterface end now iface s s a b t (record { heard = t.heard; sent = t.sent; faults = f })
+hears_fault end now iface s a b t f more told = record {
+  ear = Heard_fault iface;
+  reports = [];
+  tells = told;
+  heard = refl;
+  does = (s, (refl, refl), kept_same end s);
+  counts = rw (more, zero_more t.heard, zero_more t.sent) refl;
 }
 
 -- a frame is heard, and nothing comes of it
@@ -56,7 +80,7 @@ going_nothing end count s a t = record { reports = []; tells = tells_nothing a; 
 
 -- the next interface is heard
 pub going_hears : (end count : ℕ) (s : Position) (ms : List ℕ) (now i : ℕ) (old new : State) (a b c : Option (List Report)) (t u v : Tally) →
-    Going end count s (at old now i) ms a b t u → i < count → HearsInterface now i old new b c u v → Going end count s (at new now (i + 1)) ms a c t v
+    Going end count s (at old now i) ms a b t u → i < count → HearsInterface end now i old new b c u v → Going end count s (at new now (i + 1)) ms a c t v
 going_hears end count s ms now i old new a b c t u v g lt h = record {
   reports = g.reports ++ h.ear ∷ h.reports;
   tells = tells_more a b c g.reports (h.ear ∷ h.reports) g.tells h.tells;
@@ -80,8 +104,8 @@ broken_hears end count s ms now i old a b c t u g lt h = record {
 }
 
 -- more is done
-goes_more : (end count : ℕ) (s m p : Position) (ms ns : List ℕ) (rs qs : List Report) → RunsTurns end count s ms rs m → RunsTurns end count m ns qs p →
-    RunsTurns end count s (ms ++ ns) (rs ++ qs) p
+goes_more : (end count : ℕ) (s m p : Position) (ms ns : List ℕ) (rs qs : List Report) → RunsTurns (KeepsEvent end) end count s ms rs m → RunsTurns (KeepsEvent end) end count m ns qs p →
+    RunsTurns (KeepsEvent end) end count s (ms ++ ns) (rs ++ qs) p
 goes_more end count s m p ms ns rs qs g Stays = rw (append-nil ms, append-nil rs) g
 goes_more end count s m p ms ns rs qs g (Then_begins {moments = ks} {reports = js} {more = more} {told = told} h b) =
     rw (← append_assoc ms ks (told ∷ []), ← append_assoc rs js more) (Then_begins (goes_more end count s m _ ms ks rs js g h) b)
@@ -120,13 +144,24 @@ going_at end count s ms x now now' i j a b t u e f g =
 
 -- A turn
 
+-- before the end a router that isn't due doesn't tick
+pub acts_nothing : (end now : ℕ) (s : State) (a : Option (List Report)) (t : Tally) → now < end → now < due s → Acts end s (tick_of end now s) s a a t t
+acts_nothing end now s a t early before =
+    let none : tick_of end now s ≡ None = rw (lt-leb end now early, lt-leb (due s) now before) refl in
+    record {
+      reports = [];
+      tells = tells_nothing a;
+      does = subst (λ (event : Option Event). KeepsEvent end s event [] s) (sym none) (s, (refl, refl), kept_same end s);
+      counts = counted_nothing t;
+    }
+
 -- a turn that has begun: the moment told, the greatest moment told so far, and what the tick did
 pub record Begun (end last now told g : ℕ) (old mid : State) (clock clock' : Option (List ℕ)) (a b : Option (List Report)) (t u : Tally) : Type 0 where
   pub going : last < end
   pub greatest : g ≡ max last told
   pub now_is : now ≡ min g (2 ^ 62 - 1)
   pub tells : TellsMore clock clock' (told ∷ [])
-  pub acts : Acts old (tick_of end now old) mid a b t u
+  pub acts : Acts end old (tick_of end now old) mid a b t u
 
 begun : (end count last now told g : ℕ) (old mid : State) (clock clock' : Option (List ℕ)) (a b : Option (List Report)) (t u : Tally) (n : ℕ) →
     Begun end last now told g old mid clock clock' a b t u → cond (nat_le end now) count 0 ≡ n →

@@ -97,7 +97,7 @@ ear_hears (Heard_fault i) now iface e = (refl, refl)
 ear_hears (Handed i bytes answer) now iface e = absurd cc
 
 goes_through : (end count : ℕ) (start : Position) (moments : List ℕ) (reports : List Report) (stop : Position) →
-    RunsTurns end count start moments reports stop → Through start.state reports stop.state
+    RunsTurns DoesEvent end count start moments reports stop → Through start.state reports stop.state
 goes_through end count start moments reports stop Stays = record { events = []; sent = []; steps = No_events; heard = refl; are_handed = refl }
 goes_through end count start moments reports stop (Then_begins {moments = ms} {reports = rs} {more = more} {mid = mid} goes begins) =
     through_more start.state mid.state stop.state rs [] more (tick_of end stop.moment mid.state) (goes_through end count start ms rs mid goes)

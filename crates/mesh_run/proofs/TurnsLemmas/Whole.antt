@@ -4,6 +4,7 @@ use Rattle.std.specs.List.{count_by}
 use Rattle.std.proofs.lemmas.List.{append-nil}
 use Rattle.mesh_atoms.specs.declared.settings.RunSetup.{RunSetup}
 use Rattle.mesh_atoms.specs.State.{State}
+use Rattle.mesh_core.specs.Deferred.{IsKeptOf}
 use Rattle.mesh_io.specs.Airs.{Report}
 use Rattle.mesh_texts.specs.machine.Machine.{IsOpening}
 use Rattle.mesh_run.specs.declared.turns.tally.Ended.{Ended}
@@ -12,6 +13,7 @@ use Rattle.mesh_run.specs.Turns.Turns.{moment_of, greatest_of, is_heard, is_sent
 use Rattle.mesh_run.specs.Turns.Turns.RunsTurns.{Stays}
 use Rattle.mesh_run.specs.Turns.Turns.CameToNothing.{Nothing}
 use Rattle.mesh_run.specs.Turns.Parts.{Turning, Stopped, at, counted}
+use Rattle.mesh_run.proofs.TurnsLemmas.Kept.{kept_same, whole_turns, lost_whole}
 use Rattle.mesh_run.proofs.TurnsLemmas.Tellings.{tells_nothing}
 
 -- counts from nothing on
@@ -34,36 +36,45 @@ ended_is n g u ms rs e f h =
 pub does_turns : (setup : RunSetup) (old new : State) (n g : ℕ) (k l : Option (List ℕ)) (a b : Option (List Report)) (u : Tally) →
     IsOpening setup.router old →
     Turning setup.end (length setup.ports) (at old 0 (length setup.ports)) (at new (moment_of 0 g) (length setup.ports)) n 0 g k l a b no_tally u →
-    DoesTurns setup new (record { turns = n; greatest = g; tally = u }) k l a b
-does_turns setup old new n g k l a b u opening t = record {
-  moments = t.moments;
-  reports = t.going.reports;
-  clock_tells = t.clock_tells;
-  air_tells = t.going.tells;
-  turns = record { opening = old; is_opening = opening; goes = t.going.goes };
-  ended_is = ended_is n g u t.moments t.going.reports t.turns_are t.greatest_is t.going.counts;
-}
+    (whole : State) × DoesTurns setup whole (record { turns = n; greatest = g; tally = u }) k l a b × IsKeptOf setup.end whole new
+does_turns setup old new n g k l a b u opening t =
+    let (whole, goes, kept) = whole_turns setup.end (length setup.ports) (at old 0 (length setup.ports)) old (kept_same setup.end old)
+    t.moments t.going.reports (at new (moment_of 0 g) (length setup.ports)) t.going.goes in (
+      whole,
+      record {
+        moments = t.moments;
+        reports = t.going.reports;
+        clock_tells = t.clock_tells;
+        air_tells = t.going.tells;
+        turns = record { opening = old; is_opening = opening; goes = goes };
+        ended_is = ended_is n g u t.moments t.going.reports t.turns_are t.greatest_is t.going.counts;
+      },
+      kept,
+    )
 
 pub stops_turns : (setup : RunSetup) (most : ℕ) (old : State) (k l : Option (List ℕ)) (a b : Option (List Report)) →
     IsOpening setup.router old → Stopped most setup.end (length setup.ports) (at old 0 (length setup.ports)) k l a b → StopsTurns setup most k l a b
-stops_turns setup most old k l a b opening s = record {
-  moments = s.moments;
-  reports = s.broken.first_reports ++ s.broken.lost_reports;
-  clock_tells = s.clock_tells;
-  air_tells = s.broken.tells;
-  within = s.within;
-  stops = record {
-    first_moments = s.broken.first_moments;
-    first_reports = s.broken.first_reports;
-    position = s.broken.position;
-    goes = record { opening = old; is_opening = opening; goes = s.broken.goes };
-    lost_moments = s.broken.lost_moments;
-    lost_reports = s.broken.lost_reports;
-    is_lost = s.broken.is_lost;
-    moments_are = s.broken.moments_are;
-    reports_are = refl;
-  };
-}
+stops_turns setup most old k l a b opening s =
+    let (whole, goes, kept) = whole_turns setup.end (length setup.ports) (at old 0 (length setup.ports)) old (kept_same setup.end old)
+    s.broken.first_moments s.broken.first_reports s.broken.position s.broken.goes in
+    record {
+      moments = s.moments;
+      reports = s.broken.first_reports ++ s.broken.lost_reports;
+      clock_tells = s.clock_tells;
+      air_tells = s.broken.tells;
+      within = s.within;
+      stops = record {
+        first_moments = s.broken.first_moments;
+        first_reports = s.broken.first_reports;
+        position = record s.broken.position { state = whole };
+        goes = record { opening = old; is_opening = opening; goes = goes };
+        lost_moments = s.broken.lost_moments;
+        lost_reports = s.broken.lost_reports;
+        is_lost = lost_whole (length setup.ports) s.broken.position whole s.broken.lost_moments s.broken.lost_reports s.broken.is_lost;
+        moments_are = s.broken.moments_are;
+        reports_are = refl;
+      };
+    }
 
 -- where nothing was told yet
 pub stops_before : (setup : RunSetup) (most : ℕ) (old : State) (k : Option (List ℕ)) (a : Option (List Report)) → IsOpening setup.router old →

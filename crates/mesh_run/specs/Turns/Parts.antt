@@ -3,6 +3,7 @@ use Rattle.std.specs.Prelude.{◌≡◌, ℕ, ◌+◌, ◌≤◌, max, [], ◌�
 use Rattle.std.specs.List.{count_by}
 use Rattle.mesh_atoms.specs.declared.settings.Port.{Port}
 use Rattle.mesh_atoms.specs.State.{State}
+use Rattle.mesh_core.specs.Deferred.{IsKeptOf}
 use Rattle.mesh_io.specs.Airs.{Report, AttachesInterface, IsAttachCaused}
 use Rattle.mesh_io.specs.Told.{TellsMore}
 use Rattle.mesh_io.specs.declared.airs.Attached.{Attached}
@@ -41,20 +42,27 @@ pub record Hands (frames : List Frame) (log log' : Option (List Report)) (tally 
   pub are_handed : AreHanded frames reports
   pub counts : tally' ≡ counted tally reports
 
+-- What is done where routes and relays may be put off: the states between are those that are kept
+
+-- an event, where there is one, and then what it sends is handed over; of the state after it, this is kept
+abbrev pub KeepsEvent : ℕ → State → Option Event → List Report → State → Type 0
+KeepsEvent until old event reports new = (whole : State) × DoesEvent old event reports whole × IsKeptOf until whole new
+
 -- an event was done, where there is one, and its frames were handed over
-pub record Acts (old : State) (event : Option Event) (new : State) (log log' : Option (List Report)) (tally tally' : Tally) : Type 0 where
+pub record Acts (end : ℕ) (old : State) (event : Option Event) (new : State) (log log' : Option (List Report)) (tally tally' : Tally) :
+    Type 0 where
   pub reports : List Report
   pub tells : TellsMore log log' reports
-  pub does : DoesEvent old event reports new
+  pub does : KeepsEvent end old event reports new
   pub counts : tally' ≡ counted tally reports
 
 -- an interface was heard at that moment, and what came of it
-pub record HearsInterface (now iface : ℕ) (old new : State) (log log' : Option (List Report)) (tally tally' : Tally) : Type 0 where
+pub record HearsInterface (end now iface : ℕ) (old new : State) (log log' : Option (List Report)) (tally tally' : Tally) : Type 0 where
   pub ear : Report
   pub reports : List Report
   pub tells : TellsMore log log' (ear ∷ reports)
   pub heard : ear_of ear ≡ Some iface
-  pub does : DoesEvent old (heard_at now ear) reports new
+  pub does : KeepsEvent end old (heard_at now ear) reports new
   pub counts : tally' ≡ counted tally (ear ∷ reports)
 
 -- an interface was heard, and nothing came of it
@@ -72,7 +80,7 @@ pub record Going (end count : ℕ) (start stop : Position) (moments : List ℕ) 
     Type 0 where
   pub reports : List Report
   pub tells : TellsMore log log' reports
-  pub goes : RunsTurns end count start moments reports stop
+  pub goes : RunsTurns (KeepsEvent end) end count start moments reports stop
   pub counts : tally' ≡ counted tally reports
 
 -- from a position on by the first of these moments, where want of memory stopped it
@@ -80,7 +88,7 @@ pub record Broken (end count : ℕ) (start : Position) (moments : List ℕ) (log
   pub first_moments : List ℕ
   pub first_reports : List Report
   pub position : Position
-  pub goes : RunsTurns end count start first_moments first_reports position
+  pub goes : RunsTurns (KeepsEvent end) end count start first_moments first_reports position
   pub lost_moments : List ℕ
   pub lost_reports : List Report
   pub is_lost : CameToNothing count position lost_moments lost_reports

@@ -72,38 +72,42 @@ pub record Position : Type 0 where
   pub moment : ℕ
   pub next : ℕ
 
--- a turn begins: the clock tells a moment, and the router ticks where it is due. The turn at the end hears nothing
-pub record BeginsTurn (end count : ℕ) (old : Position) (told : ℕ) (reports : List Report) (new : Position) : Type 0 where
+-- a turn begins: the clock tells a moment, and the router ticks where it is due. The turn at the end hears nothing. Does says what an event
+-- does, where there is one
+pub record BeginsTurn (Does : State → Option Event → List Report → State → Type 0) (end count : ℕ) (old : Position) (told : ℕ)
+    (reports : List Report) (new : Position) : Type 0 where
   pub between : old.next ≡ count
   pub going : old.moment < end
   pub moment : new.moment ≡ moment_of old.moment told
-  pub does : DoesEvent old.state (tick_of end new.moment old.state) reports new.state
+  pub does : Does old.state (tick_of end new.moment old.state) reports new.state
   pub next : new.next ≡ (if nat_le end new.moment then count else 0)
 
 -- the next interface is heard once; a frame is an event of the router at the moment of the turn
-pub record Listens (count : ℕ) (old : Position) (ear : Report) (reports : List Report) (new : Position) : Type 0 where
+pub record Listens (Does : State → Option Event → List Report → State → Type 0) (count : ℕ) (old : Position) (ear : Report)
+    (reports : List Report) (new : Position) : Type 0 where
   pub within : old.next < count
   pub heard : ear_of ear ≡ Some old.next
-  pub does : DoesEvent old.state (heard_at old.moment ear) reports new.state
+  pub does : Does old.state (heard_at old.moment ear) reports new.state
   pub moment : new.moment ≡ old.moment
   pub next : new.next ≡ old.next + 1
 
 -- from one position to another by these moments that the clock tells, and these reports of the air
-pub data RunsTurns (end count : ℕ) (start : Position) : List ℕ → List Report → Position → Type 0 where
-  Stays : RunsTurns end count start [] [] start
+pub data RunsTurns (Does : State → Option Event → List Report → State → Type 0) (end count : ℕ) (start : Position) :
+    List ℕ → List Report → Position → Type 0 where
+  Stays : RunsTurns Does end count start [] [] start
   Then_begins : {moments : List ℕ} {reports more : List Report} {mid new : Position} {told : ℕ} →
-      RunsTurns end count start moments reports mid → BeginsTurn end count mid told more new →
-      RunsTurns end count start (moments ++ told ∷ []) (reports ++ more) new
+      RunsTurns Does end count start moments reports mid → BeginsTurn Does end count mid told more new →
+      RunsTurns Does end count start (moments ++ told ∷ []) (reports ++ more) new
   Then_listens : {moments : List ℕ} {reports more : List Report} {mid new : Position} {ear : Report} →
-      RunsTurns end count start moments reports mid → Listens count mid ear more new →
-      RunsTurns end count start moments (reports ++ ear ∷ more) new
+      RunsTurns Does end count start moments reports mid → Listens Does count mid ear more new →
+      RunsTurns Does end count start moments (reports ++ ear ∷ more) new
 
 -- the router of a setup goes from its opening state, at moment 0, to that position
 pub record GoesTo (setup : RunSetup) (moments : List ℕ) (reports : List Report) (position : Position) : Type 0 where
   pub opening : State
   pub is_opening : IsOpening setup.router opening
-  pub goes : RunsTurns setup.end (length setup.ports) (record { state = opening; moment = 0; next = length setup.ports }) moments reports
-      position
+  pub goes : RunsTurns DoesEvent setup.end (length setup.ports) (record { state = opening; moment = 0; next = length setup.ports }) moments
+      reports position
 
 -- whole turns of the router of a setup, one for each moment, after which it has that state. The last alone may be at the end
 abbrev pub Turns : RunSetup → List ℕ → List Report → ℕ → State → Type 0

@@ -6,37 +6,14 @@ ghost use Rattle.mesh_run.specs.Turns.Parts.{IsReady, Acts};
 ghost use Rattle.mesh_run.specs.Turns.Turns.{tick_of};
 
 use crate::turns::hand::{hand_over, has_room};
+use crate::turns::moment::TurnMoment;
 use crate::turns::tally::Tally;
-use mesh_core::{Arrival, Machine, Outbox};
+use mesh_core::{Arrival, NetworkRouter, Outbox, TypedFrame};
 use mesh_io::Air;
 use std::alloc::AllocError;
 
-// The clock of the router ticks.
-fn tick<M: Machine, A: Air>(
-    router: &mut M,
-    now: u64,
-    out: &mut Outbox,
-    air: &mut A,
-    tally: &mut Tally,
-) -> Result<(), AllocError>
-    requires now { now < 2 ^ 62 }
-    requires ready { IsReady (M.state router.old) (A.attached air.old) now }
-    ensures acts { OnOk result (Acts (M.state router.old) (Some (Event.Tick now)) (M.state router.new)
-        (A.reports air.old) (A.reports air.new) tally.old tally.new) }
-    ensures silent { OnErr result (TellsMore (A.reports air.old) (A.reports air.new) []) }
-    ensures ready { OnOk result (IsReady (M.state router.new) (A.attached air.new) now) }
-    ensures attached { A.attached air.new ≡ A.attached air.old }
-    ensures later { A.faults air.old ≤ A.faults air.new }
-{
-    router.tick_at(now, out)?;
-    has_room(tally, out.len())?;
-    hand_over(air, out, tally);
-    Ok(())
-}
-
-/// The clock of the router ticks: at the end, where the end has come; else at the moment, where the router is due. Moments are in
-/// ticks of 1/8192 s. What the router sends is handed over.
-pub fn tick_due<M: Machine, A: Air>(
+// The clock of the router ticks. Routes may be put off up to the end.
+fn tick<M: NetworkRouter, A: Air>(
     router: &mut M,
     end: u64,
     now: u64,
@@ -45,29 +22,54 @@ pub fn tick_due<M: Machine, A: Air>(
     tally: &mut Tally,
 ) -> Result<(), AllocError>
     requires now { now < 2 ^ 62 }
-    requires going { (M.state router.old).last ≤ end }
     requires ready { IsReady (M.state router.old) (A.attached air.old) now }
-    ensures acts { OnOk result (Acts (M.state router.old) (tick_of end now (M.state router.old)) (M.state router.new)
+    ensures acts { OnOk result (Acts end (M.state router.old) (Some (Event.Tick now)) (M.state router.new)
         (A.reports air.old) (A.reports air.new) tally.old tally.new) }
     ensures silent { OnErr result (TellsMore (A.reports air.old) (A.reports air.new) []) }
     ensures ready { OnOk result (IsReady (M.state router.new) (A.attached air.new) now) }
     ensures attached { A.attached air.new ≡ A.attached air.old }
     ensures later { A.faults air.old ≤ A.faults air.new }
 {
-    if end <= now {
-        return tick(router, end, out, air, tally);
+    router.tick_until(end, now, out)?;
+    has_room(tally, out.len())?;
+    hand_over(air, out, tally);
+    Ok(())
+}
+
+/// The clock of the router ticks: at the end, where the end has come; else at the moment, where the router is due. What the router
+/// sends is handed over.
+pub fn tick_due<M: NetworkRouter, A: Air>(
+    router: &mut M,
+    moment: TurnMoment,
+    out: &mut Outbox,
+    air: &mut A,
+    tally: &mut Tally,
+) -> Result<(), AllocError>
+    requires now { moment.now < 2 ^ 62 }
+    requires going { (M.state router.old).last ≤ moment.end }
+    requires ready { IsReady (M.state router.old) (A.attached air.old) moment.now }
+    ensures acts { OnOk result (Acts moment.end (M.state router.old) (tick_of moment.end moment.now (M.state router.old)) (M.state router.new)
+        (A.reports air.old) (A.reports air.new) tally.old tally.new) }
+    ensures silent { OnErr result (TellsMore (A.reports air.old) (A.reports air.new) []) }
+    ensures ready { OnOk result (IsReady (M.state router.new) (A.attached air.new) moment.now) }
+    ensures attached { A.attached air.new ≡ A.attached air.old }
+    ensures later { A.faults air.old ≤ A.faults air.new }
+{
+    if moment.end <= moment.now {
+        return tick(router, moment.end, moment.end, out, air, tally);
     }
-    if router.next_due() <= now {
-        return tick(router, now, out, air, tally);
+    if router.due_next() <= moment.now {
+        return tick(router, moment.end, moment.now, out, air, tally);
     }
     Ok(())
 }
 
-/// The router hears a frame, and what it sends is handed over.
-pub fn hear<M: Machine, A: Air>(
+/// The router hears a frame, and what it sends is handed over. Relays and routes may be put off up to the end.
+pub fn hear<M: NetworkRouter, A: Air>(
     router: &mut M,
+    end: u64,
     arrival: Arrival,
-    bytes: &[u8],
+    frame: &TypedFrame,
     out: &mut Outbox,
     air: &mut A,
     tally: &mut Tally,
@@ -75,14 +77,14 @@ pub fn hear<M: Machine, A: Air>(
     requires now { arrival.now < 2 ^ 62 }
     requires iface { arrival.iface < A.attached air.old }
     requires ready { IsReady (M.state router.old) (A.attached air.old) arrival.now }
-    ensures acts { OnOk result (Acts (M.state router.old) (Some (Event.Hear arrival bytes.now)) (M.state router.new)
+    ensures acts { OnOk result (Acts end (M.state router.old) (Some (Event.Hear arrival frame.now)) (M.state router.new)
         (A.reports air.old) (A.reports air.new) tally.old tally.new) }
     ensures silent { OnErr result (TellsMore (A.reports air.old) (A.reports air.new) []) }
     ensures ready { OnOk result (IsReady (M.state router.new) (A.attached air.new) arrival.now) }
     ensures attached { A.attached air.new ≡ A.attached air.old }
     ensures later { A.faults air.old ≤ A.faults air.new }
 {
-    router.hear_frame(arrival, bytes, out)?;
+    router.hear_until(end, arrival, frame, out)?;
     has_room(tally, out.len())?;
     hand_over(air, out, tally);
     Ok(())

@@ -7,9 +7,10 @@ ghost use Rattle.mesh_run.specs.Turns.Turns.{moment_of};
 use crate::turns::buffers::Buffers;
 use crate::turns::events::tick_due;
 use crate::turns::listen::listen_all;
+use crate::turns::moment::TurnMoment;
 use crate::turns::tally::Tally;
 use mesh_atoms::RunSetup;
-use mesh_core::Machine;
+use mesh_core::NetworkRouter;
 use mesh_io::{Air, Clock};
 use std::alloc::AllocError;
 
@@ -17,8 +18,9 @@ use std::alloc::AllocError;
 const LAST_MOMENT: u64 = 4_611_686_018_427_387_903;
 
 /// One turn: the clock tells a moment, the router ticks where it is due, and each interface is heard once; at the end none is.
-/// The answer is the greatest moment told, in ticks. `greatest` is that of the turns before, which is before the end.
-pub fn turn<M: Machine, A: Air, C: Clock>(
+/// The answer is the greatest moment told, in ticks. `greatest` is that of the turns before, which is before the end. Routes are put off
+/// up to the end.
+pub fn turn<M: NetworkRouter, A: Air, C: Clock>(
     router: &mut M,
     setup: &RunSetup,
     greatest: u64,
@@ -44,12 +46,15 @@ pub fn turn<M: Machine, A: Air, C: Clock>(
     let told = clock.now();
     let greatest = u64::max(greatest, told);
     let now = u64::min(greatest, LAST_MOMENT);
-    tick_due(router, setup.end, now, &mut buffers.outbox, air, tally)?;
+    let moment = TurnMoment {
+        now,
+        end: setup.end,
+    };
+    tick_due(router, moment, &mut buffers.outbox, air, tally)?;
     if setup.end <= now {
         return Ok(greatest);
     }
     let count = setup.ports.len();
-    let buf = buffers.frame.as_mut_slice();
-    listen_all(router, now, count, buf, &mut buffers.outbox, air, tally)?;
+    listen_all(router, moment, count, buffers, air, tally)?;
     Ok(greatest)
 }

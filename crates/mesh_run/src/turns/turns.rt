@@ -1,5 +1,7 @@
 //! The turns of a running router, up to its end.
 ghost use Rattle.std.specs.Prelude.{◌≡◌, ◌<◌, ◌≤◌, ◌^◌, length, OnErr, IfOk};
+ghost use Rattle.mesh_atoms.specs.State.{State};
+ghost use Rattle.mesh_core.specs.Deferred.{IsKeptOf};
 ghost use Rattle.mesh_texts.specs.machine.Machine.{IsOpening};
 ghost use Rattle.mesh_run.specs.Turns.Parts.{IsReady, Turning, Stopped, at};
 ghost use Rattle.mesh_run.specs.Turns.Turns.{moment_of, DoesTurns, StopsTurns};
@@ -8,7 +10,7 @@ use crate::turns::buffers::Buffers;
 use crate::turns::tally::{Ended, Tally};
 use crate::turns::turn::turn;
 use mesh_atoms::{LONGEST_DATAGRAM, RunSetup};
-use mesh_core::{Machine, Outbox};
+use mesh_core::{NetworkRouter, Outbox};
 use mesh_io::{Air, Clock};
 use std::alloc::{AllocError, Global};
 
@@ -20,7 +22,7 @@ struct StopPoint {
 }
 
 // At most so many turns, up to the first at or behind the end.
-fn turn_on<M: Machine, A: Air, C: Clock>(
+fn turn_on<M: NetworkRouter, A: Air, C: Clock>(
     router: &mut M,
     setup: &RunSetup,
     most: u32,
@@ -60,8 +62,9 @@ fn turn_on<M: Machine, A: Air, C: Clock>(
 
 /// Does at most so many turns of a router that was made with the setup, over an air with its interfaces: up to the first turn whose
 /// moment is at or above the setup's end. In a turn the clock is asked, the router ticks where it is due, and each interface is heard
-/// once, in order; what the router sends is handed over at once.
-pub fn do_turns<M: Machine, A: Air, C: Clock>(
+/// once, in order; what the router sends is handed over at once. The router may put routes off up to the end, and relays up to its next
+/// tick; at the end it has those of its bases.
+pub fn do_turns<M: NetworkRouter, A: Air, C: Clock>(
     alloc: Global,
     router: &mut M,
     setup: &RunSetup,
@@ -71,8 +74,9 @@ pub fn do_turns<M: Machine, A: Air, C: Clock>(
 ) -> Result<Ended, AllocError>
     requires opening { IsOpening setup.now.router (M.state router.old) }
     requires attached { A.attached air.old ≡ length setup.now.ports }
-    ensures done { IfOk result (λ ended. DoesTurns setup.now (M.state router.new) ended
-        (C.moments clock.old) (C.moments clock.new) (A.reports air.old) (A.reports air.new)) }
+    // What is said of the turns is said of a state of which the router keeps all but relays and routes, and at the end these too.
+    ensures done { IfOk result (λ ended. (whole : State) × DoesTurns setup.now whole ended
+        (C.moments clock.old) (C.moments clock.new) (A.reports air.old) (A.reports air.new) × IsKeptOf setup.now.end whole (M.state router.new)) }
     // It ended, or all turns were done.
     ensures most { IfOk result (λ ended. ended.turns ≤ most) }
     ensures spent { IfOk result (λ ended. ended.greatest < setup.now.end → ended.turns ≡ most) }

@@ -1,4 +1,4 @@
-use Rattle.std.proofs.Common.{◌≡◌, ℕ, [], refl, arith}
+use Rattle.std.proofs.Common.{◌≡◌, [], refl, arith}
 use Rattle.mesh_atoms.proofs.Options.{on_err_of}
 use Rattle.mesh_run.specs.Turns.Parts.{at}
 use Rattle.mesh_run.proofs.TurnsLemmas.Positions.{going_nothing, going_hears, broken_hears, going_at}
@@ -6,7 +6,7 @@ use Rattle.mesh_run.proofs.turns.listen.listen_all.Goals as goal
 
 pub loop-iface-init : goal.loop-iface-init
 loop-iface-init g c = record {
-  goes = λ (end : ℕ). going_nothing end c.args.count (at (g.M.RouterView.state c.args.router.now) c.args.now 0) (g.A.Air.reports c.args.air.now) c.args.tally.now;
+  goes = going_nothing c.args.moment.end c.args.count (at (g.M.NetworkRouter.state c.args.router.now) c.args.moment.now 0) (g.A.Air.reports c.args.air.now) c.args.tally.now;
   ready = c.requires.ready;
   attached = refl;
   later = omega arith;
@@ -14,20 +14,20 @@ loop-iface-init g c = record {
 }
 
 pub returns-in_err-listen-clause-breaks : goal.returns-in_err-listen-clause-breaks
-returns-in_err-listen-clause-breaks g c = λ (end : ℕ). on_err_of c.from_residual.result
-    (broken_hears end c.args.count (at (g.M.RouterView.state c.args.router.now) c.args.now 0) [] c.args.now c.loop-iface.iface (g.M.RouterView.state c.loop-iface.router)
+returns-in_err-listen-clause-breaks g c = on_err_of c.from_residual.result
+    (broken_hears c.args.moment.end c.args.count (at (g.M.NetworkRouter.state c.args.router.now) c.args.moment.now 0) [] c.args.moment.now c.loop-iface.iface (g.M.NetworkRouter.state c.loop-iface.router)
     (g.A.Air.reports c.args.air.now) (g.A.Air.reports c.loop-iface.air) (g.A.Air.reports c.listen.new.air) c.args.tally.now c.loop-iface.tally
-    (c.loop-iface.invariant.goes end) c.loop-iface-test.true c.in_err-listen.ensures.in_vain)
+    c.loop-iface.invariant.goes c.loop-iface-test.true c.in_err-listen.ensures.in_vain)
 
 pub loop-iface-preserved : goal.loop-iface-preserved
 loop-iface-preserved g c =
     let i = c.loop-iface.invariant in
     let h = c.in_ok-listen.ensures in
     record {
-      goes = λ (end : ℕ). going_hears end c.args.count (at (g.M.RouterView.state c.args.router.now) c.args.now 0) [] c.args.now c.loop-iface.iface
-          (g.M.RouterView.state c.loop-iface.router) (g.M.RouterView.state c.listen.new.router)
+      goes = going_hears c.args.moment.end c.args.count (at (g.M.NetworkRouter.state c.args.router.now) c.args.moment.now 0) [] c.args.moment.now c.loop-iface.iface
+          (g.M.NetworkRouter.state c.loop-iface.router) (g.M.NetworkRouter.state c.listen.new.router)
           (g.A.Air.reports c.args.air.now) (g.A.Air.reports c.loop-iface.air) (g.A.Air.reports c.listen.new.air) c.args.tally.now c.loop-iface.tally c.listen.new.tally
-          (i.goes end) c.loop-iface-test.true h.hears;
+          i.goes c.loop-iface-test.true h.hears;
       ready = h.ready;
       attached = cc;
       later = omega (arith, i.later, h.later);
@@ -37,5 +37,5 @@ loop-iface-preserved g c =
 pub returns-clause-goes : goal.returns-clause-goes
 returns-clause-goes g c =
     let e : c.loop-iface.iface ≡ c.args.count = omega (arith, c.loop-iface-test.false, c.loop-iface.auto.iface-end) in
-    λ (end : ℕ). going_at end c.args.count (at (g.M.RouterView.state c.args.router.now) c.args.now 0) [] (g.M.RouterView.state c.loop-iface.router) c.args.now c.args.now c.loop-iface.iface c.args.count
-    (g.A.Air.reports c.args.air.now) (g.A.Air.reports c.loop-iface.air) c.args.tally.now c.loop-iface.tally refl e (c.loop-iface.invariant.goes end)
+    going_at c.args.moment.end c.args.count (at (g.M.NetworkRouter.state c.args.router.now) c.args.moment.now 0) [] (g.M.NetworkRouter.state c.loop-iface.router) c.args.moment.now c.args.moment.now c.loop-iface.iface c.args.count
+    (g.A.Air.reports c.args.air.now) (g.A.Air.reports c.loop-iface.air) c.args.tally.now c.loop-iface.tally refl e c.loop-iface.invariant.goes

@@ -1,14 +1,14 @@
-use Rattle.std.proofs.Common.{◌≡◌, ℕ, ◌≤◌, [], length}
+use Rattle.std.proofs.Common.{◌≡◌, ◌≤◌, [], length}
 use Rattle.mesh_run.specs.Turns.Parts.{IsReady, Going, at}
 use Rattle.mesh_run.proofs.turns.listen.listen_all.Given as goal
 
 -- so many interfaces were heard
 abbrev pub invariant-loop-iface : goal.invariant-loop-iface
 invariant-loop-iface g l = record {
-  goes : (end : ℕ) → Going end l.count (at (g.M.RouterView.state l.fn.router) l.now 0) (at (g.M.RouterView.state l.router) l.now l.iface) []
+  goes : Going l.moment.end l.count (at (g.M.NetworkRouter.state l.fn.router) l.moment.now 0) (at (g.M.NetworkRouter.state l.router) l.moment.now l.iface) []
       (g.A.Air.reports l.fn.air) (g.A.Air.reports l.air) l.fn.tally l.tally;
-  ready : IsReady (g.M.RouterView.state l.router) (g.A.Air.attached l.air) l.now;
+  ready : IsReady (g.M.NetworkRouter.state l.router) (g.A.Air.attached l.air) l.moment.now;
   attached : g.A.Air.attached l.air ≡ g.A.Air.attached l.fn.air;
   later : g.A.Air.faults l.fn.air ≤ g.A.Air.faults l.air;
-  longest : length l.buf ≡ 65507;
+  longest : length l.buffers.frame.items ≡ 65507;
 }
