@@ -171,12 +171,12 @@ fn write_first(
 /// Appends the block in the fewest octets (RFC 5444, section 5.3). Among several spellings of that length it takes the
 /// shortest head; then no tail, else one of zeros, else a full one; then the shortest tail; then one prefix length before
 /// one for each address. The block has 1 to 255 addresses and a width of 1 to 16 octets; each address has zeros after
-/// those, and a prefix of at most 8 times the width. After want of memory the old octets are a prefix of `out`.
+/// those, and a prefix of at most 8 times the width. After an allocation failure the old octets are a prefix of `out`.
 pub fn write_least(block: &AddrBlock, out: &mut Bytes) -> Result<(), AllocError>
     requires { IsWritable block.now.width block.now.addrs }
     // What is appended is a spelling of the block, and no spelling has fewer octets.
     ensures least { OnOk result (WroteLeast block.now.width block.now.addrs out.old out.new) }
-    // After want of memory the old octets are a prefix.
+    // After an allocation failure the old octets are a prefix.
     ensures err { OnErr result (Grew out.old out.new) }
 {
     let addrs = block.addrs.as_slice();

@@ -18,7 +18,7 @@ abbrev pub ◌>>=◌ : {A B : Type 0} → Result A Refusal → (A → Result B R
 abbrev pub refuse : {A : Type 0} → ℕ → ℕ → Result A Refusal
 refuse place reason = Err (record { place = place; reason = reason })
 
--- what a reader without want of memory gives, where `view` says what its value shows
+-- what a reader without an allocation failure gives, where `view` says what its value shows
 abbrev pub Reads : {X Y : Type 0} → (X → Y) → Result X Refusal → Result Y Refusal → Type 0
 Reads view (Ok x) read = read ≡ Ok (view x)
 Reads view (Err e) read = read ≡ Err e

@@ -57,7 +57,7 @@ impl Bytes {
         self.items.as_slice()
     }
 
-    /// Puts an octet at the end. Want of memory leaves the list unchanged.
+    /// Puts an octet at the end. An allocation failure leaves the list unchanged.
     pub fn push(&mut self, item: u8) -> Result<(), AllocError>
         ensures ok { OnOk result (self.new ≡ self.old ++ item ∷ []) }
         ensures err { OnErr result (self.new ≡ self.old) }
@@ -66,7 +66,7 @@ impl Bytes {
         Ok(())
     }
 
-    /// Puts octets at the end. Want of memory leaves the list unchanged.
+    /// Puts octets at the end. An allocation failure leaves the list unchanged.
     pub fn append(&mut self, items: &[u8]) -> Result<(), AllocError>
         ensures ok { OnOk result (self.new ≡ self.old ++ items.now) }
         ensures err { OnErr result (self.new ≡ self.old) }

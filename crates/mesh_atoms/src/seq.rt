@@ -57,7 +57,7 @@ impl<T: Drop> Seq<T> {
         self.items.as_slice()
     }
 
-    /// Puts an item at the end. Want of memory leaves the list unchanged, and drops the item.
+    /// Puts an item at the end. An allocation failure leaves the list unchanged, and drops the item.
     pub fn push(&mut self, item: T) -> Result<(), AllocError>
         ensures ok { OnOk result (self.new ≡ self.old ++ item ∷ []) }
         ensures err { OnErr result (self.new ≡ self.old) }

@@ -4,7 +4,7 @@ ghost use Rattle.std.specs.Prelude.{◌≡◌, ◌++◌, decimal, OnOk, OnErr};
 use crate::Bytes;
 use std::alloc::AllocError;
 
-/// Puts a number in decimal digits at the end. Want of memory leaves the list unchanged.
+/// Puts a number in decimal digits at the end. An allocation failure leaves the list unchanged.
 pub fn put_decimal(out: &mut Bytes, number: u64) -> Result<(), AllocError>
     ensures ok { OnOk result (out.new ≡ out.old ++ decimal number) }
     ensures err { OnErr result (out.new ≡ out.old) }

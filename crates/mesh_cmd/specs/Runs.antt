@@ -35,7 +35,7 @@ sinks_of call = record {
   err_faults' = call.err.faults';
 }
 
--- the line that says want of memory stands on err, or a front of it, where the write failed
+-- the line that says an allocation failure stands on err, or a front of it, where the write failed
 abbrev pub TellsNoMemory : Option (List ℕ) → Option (List ℕ) → ℕ → ℕ → Status → Type 0
 TellsNoMemory err err' faults faults' answer =
     ((answer ≡ Memory) × Appends err err' memory_line)

@@ -24,7 +24,7 @@ fn words(rt: &HostRuntime) -> io::Result<Vec<String>> {
     Ok(all.collect(rt.alloc())?)
 }
 
-// Want of memory before the top call.
+// An allocation failure before the top call.
 fn no_memory<E: Sink>(err: &mut E) -> Status
     ensures { TellsNoMemory (E.content err.old) (E.content err.new) (E.faults err.old) (E.faults err.new) result }
 {
@@ -34,7 +34,7 @@ fn no_memory<E: Sink>(err: &mut E) -> Status
     }
 }
 
-// Want of memory before there is a standard output to put anything on.
+// An allocation failure before there is a standard output to put anything on.
 fn no_memory_for_out<E: Sink>(err: &mut E) -> Status
     ensures { Runs [] (record {
       out = None;

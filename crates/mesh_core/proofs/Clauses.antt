@@ -20,7 +20,7 @@ use Rattle.mesh_core.specs.Event.Outdated.{IsKeptFor, KeepsWanted}
 use Rattle.mesh_core.specs.Event.Promises.{HearsAndKeeps, HearsTo, TicksTo, kept_answer}
 use Rattle.mesh_core.specs.Holding.{CoreValue}
 
--- a core has heard a frame, or met want of memory
+-- a core has heard a frame, or met an allocation failure
 pub record HearClauses {E : Type 0} (came : Result Heard E) (fates : Bool) (old : State) (arrival : Arrival) (bytes : List ℕ) (before after : List Frame) (new : State) : Type 0 where
   pub step : IfOk came (λ answer. Step old (Hear arrival bytes) (sent_since before after) new)
   pub answer : IfOk came (λ kept. (answer : Heard) × (kept ≡ kept_answer fates answer) × Hears old arrival bytes answer (sent_since before after) new)
@@ -31,7 +31,7 @@ pub record HearClauses {E : Type 0} (came : Result Heard E) (fates : Bool) (old 
   pub due : OnOk came (due new ≡ due old)
   pub sound : OnOk came (Sound new)
 
--- its clock has ticked, or it met want of memory
+-- its clock has ticked, or it met an allocation failure
 pub record TickClauses {A E : Type 0} (came : Result A E) (old : State) (now : ℕ) (before after : List Frame) (new : State) : Type 0 where
   pub step : OnOk came (Step old (Tick now) (sent_since before after) new)
   pub appended : after ≡ before ++ sent_since before after

@@ -13,6 +13,10 @@ use Rattle.mesh_machine.specs.Renewal.{Renews}
 use Rattle.mesh_machine.specs.Sending.{SendsHellos, Hellos_early, Hellos_due, SendsTcs, Tcs_early, Tcs_silent, Tcs_due}
 use Rattle.mesh_core.specs.Deferred.{IsKeptOf}
 
+-- all of a router is kept of it
+pub kept_whole : (until : ℕ) (s : State) → IsKeptOf until s s
+kept_whole until s = record { same = refl; from_then = λ late. refl }
+
 -- what is kept of what is kept of a router
 pub kept_through : (until : ℕ) (whole mid rest : State) → IsKeptOf until whole mid → IsKeptOf until mid rest → IsKeptOf until whole rest
 kept_through until whole mid rest first second = record {

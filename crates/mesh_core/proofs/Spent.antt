@@ -1,9 +1,9 @@
--- What holds of a core that isn't spent, and after an event that didn't meet want of memory.
+-- What holds of a core that isn't spent, and after an event that didn't meet an allocation failure.
 use Rattle.std.proofs.Common.{◌≡◌, Bool, false, sym, Result, Ok, Err, ◌∙◌}
 use Rattle.std.specs.Prelude.{is_err, OnOk}
 use Rattle.std.proofs.lemmas.Bool.{true≢false, false≢true}
 
--- where an event that met want of memory leaves the core spent, what holds after each other event holds of a core that isn't
+-- where an event that met an allocation failure leaves the core spent, what holds after each other event holds of a core that isn't
 pub where_whole : {A E : Type 0} {P : Type 0} {spent : Bool} (came : Result A E) → spent ≡ is_err came → OnOk came P → spent ≡ false → P
 where_whole (Ok x) says holds whole = holds
 where_whole (Err e) says holds whole = absurd (true≢false (sym says ∙ whole))

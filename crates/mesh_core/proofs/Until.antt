@@ -17,7 +17,7 @@ use Rattle.mesh_core.specs.Event.Promises.{HearsAndKeeps, HearsTo, TicksTo}
 use Rattle.mesh_core.specs.Holding.{CoreValue}
 use Rattle.mesh_core.proofs.Clauses.{all_kept}
 
--- a router has heard a frame, or met want of memory
+-- a router has heard a frame, or met an allocation failure
 pub record HearUntil {E : Type 0} (came : Result Heard E) (until : ℕ) (old : State) (arrival : Arrival) (bytes : List ℕ) (sent : List Frame) (outdated : Outdated) (new : State) : Type 0 where
   pub step : OnOk came ((whole : State) × Step old (Hear arrival bytes) sent whole × IsKeptOf until whole new)
   pub sendable : OnOk came (All (IsSendable old.settings) sent)
@@ -39,7 +39,7 @@ module _ {E : Type 0} (old : State) (arrival : Arrival) (bytes : List ℕ) (sent
   sound_whole (Ok kept) sound heard = step_sound old (Hear arrival bytes) sent new sound (step_whole (Ok kept) heard)
   sound_whole (Err e) sound heard = tt
 
--- its clock has ticked, or it met want of memory
+-- its clock has ticked, or it met an allocation failure
 pub record TickUntil {A E : Type 0} (came : Result A E) (until : ℕ) (old : State) (now : ℕ) (sent : List Frame) (outdated : Outdated) (new : State) : Type 0 where
   pub step : OnOk came ((whole : State) × Step old (Tick now) sent whole × IsKeptOf until whole new)
   pub sendable : OnOk came (All (IsSendable old.settings) sent)

@@ -20,7 +20,7 @@ pub(crate) struct RouterState<B: Bases> {
     pub(crate) outdated: Outdated,
 }
 
-/// A router: it hears frames, its clock ticks, and it sends frames. Moments are in ticks of 1/8192 s. After want of memory it is
+/// A router: it hears frames, its clock ticks, and it sends frames. Moments are in ticks of 1/8192 s. After an allocation failure it is
 /// spent, and may only be dropped.
 pub struct Core<B: Bases> {
     pub(crate) router: RouterState<B>,
@@ -93,14 +93,14 @@ impl<B: Bases> Core<B> {
         self.router.due()
     }
 
-    /// Whether the router has met want of memory.
+    /// Whether the router has met an allocation failure.
     pub fn is_spent(&self) -> bool
         ensures { result ≡ self.now.is_spent }
     {
         self.spent
     }
 
-    /// The router as one that may put off relays and routes. A spent router refuses, as for want of memory.
+    /// The router as one that may put off relays and routes. A spent router refuses, as if an allocation had failed.
     pub fn defer(self) -> Result<DeferredCore<B>, AllocError>
         ensures state { IfOk result (λ deferred. deferred.state ≡ self.state) }
         ensures sound { IfOk result (λ deferred. Sound deferred.state) }

@@ -17,8 +17,8 @@ use std::alloc::AllocError;
 
 impl<B: Bases> Core<B> {
     /// Hears a frame on an interface from that sender, at a moment below 2^62 that isn't before the last event (RFC 5444, RFC 6130 and
-    /// RFC 7181). A frame with a fault changes nothing, not even by expiry. What is sent is put at the end of `out`. Want of memory
-    /// leaves `out` as it was, and the router spent: it then answers want of memory to each event.
+    /// RFC 7181). A frame with a fault changes nothing, not even by expiry. What is sent is put at the end of `out`. An allocation failure
+    /// leaves `out` as it was, and the router spent: it then answers with an allocation failure to each event.
     pub fn hear(
         &mut self,
         now: u64,
@@ -102,8 +102,8 @@ impl<B: Bases> Core<B> {
         came
     }
 
-    /// The clock ticks, at a moment below 2^62 that isn't before the last event: what is due is sent, put at the end of `out`. Want of
-    /// memory leaves `out` as it was, and the router spent: it then answers want of memory to each event.
+    /// The clock ticks, at a moment below 2^62 that isn't before the last event: what is due is sent, put at the end of `out`. An
+    /// allocation failure leaves `out` as it was, and the router spent: it then answers with an allocation failure to each event.
     pub fn tick(&mut self, now: u64, out: &mut Outbox) -> Result<(), AllocError>
         requires now { now < 2 ^ 62 }
         requires later { self.old.state.last ≤ now }

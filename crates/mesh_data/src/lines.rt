@@ -120,7 +120,7 @@ fn put_trip_end(out: &mut Bytes, scenario: &Scenario, trip: &Trip) -> Result<(),
 }
 
 /// The text of a trip: a line that says how it ends, and one for each hop. A router or an interface that the scenario doesn't
-/// have is written as nothing. Only want of memory is an error.
+/// have is written as nothing. Only an allocation failure is an error.
 pub fn trip_text(
     alloc: Global,
     scenario: &Scenario,

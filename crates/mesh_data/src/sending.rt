@@ -63,7 +63,7 @@ fn trip_of<R: RouterView>(
 /// the routers are sound, it is the only one. In a settled network a packet to another router's address, to which the radio graph has
 /// a way over routers that are willing to route, arrives there at the least cost. Where all routers are willing to route, no router has
 /// the address, and a router joined with `from` attaches a network that has it, the packet arrives at a router that attaches the longest
-/// such network. No such packet ends for want of an arc, or goes too far. Only want of memory is an error. Not promised: it takes time
+/// such network. No such packet ends for want of an arc, or goes too far. Only an allocation failure is an error. Not promised: it takes time
 /// near the number of arcs for each hop.
 pub fn send<R: RouterView>(
     alloc: Global,

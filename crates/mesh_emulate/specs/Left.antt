@@ -22,7 +22,7 @@ use Rattle.mesh_texts.specs.Trace.{IsFrameTaken}
 use Rattle.mesh_texts.specs.Network.{IsGapOf, IsSummary}
 use Rattle.mesh_texts.specs.Runs.{Traces, WholeRun, IsRunText, FirstEvents, IsFirstTrace}
 
--- a text was put there; where a write failed, a front of a text, and the count rose; and at want of memory the text of what was done
+-- a text was put there; where a write failed, a front of a text, and the count rose; and at an allocation failure the text of what was done
 abbrev pub LeavesOut : (List ℕ → Type 0) → (List ℕ → Type 0) → (List ℕ → Type 0) → Option (List ℕ) → Option (List ℕ) → ℕ → ℕ
     → Result (Unit {0}) Stop → Type 0
 LeavesOut Whole Front Part content content' faults faults' (Ok u) = (text : List ℕ) × Whole text × Appends content content' text

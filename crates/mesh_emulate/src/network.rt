@@ -5,12 +5,12 @@ ghost use Rattle.mesh_texts.specs.machine.Net.{NetState, NetStep};
 ghost use Rattle.mesh_texts.specs.machine.NetRun.{IsOver, IsOfPackets, NetRun};
 
 use mesh_expire::Bases;
-use mesh_radio::{Core, Counts, Machine, Net, NetEvent};
+use mesh_radio::{Core, Counts, Net, NetEvent, RouterCore};
 use std::alloc::AllocError;
 
 /// An emulated network. What is told of one needs no more than this, and knows nothing of tables.
 pub trait Network: Sized + Drop {
-    type Router: Machine;
+    type Router: RouterCore;
 
     ghost net: { Self → NetState };
 

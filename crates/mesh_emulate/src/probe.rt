@@ -8,11 +8,11 @@ use crate::writing::write_text;
 use mesh_atoms::{Bytes, RadioGraph, Scenario};
 use mesh_io::{Sink, Stop};
 use mesh_probe::{probe, probe_text};
-use mesh_radio::Machine;
+use mesh_radio::RouterCore;
 use std::alloc::{AllocError, Global};
 
-// The text of the probe by that router. After want of memory the routers may only be dropped.
-fn text_of_probe<R: Machine>(
+// The text of the probe by that router. After an allocation failure the routers may only be dropped.
+fn text_of_probe<R: RouterCore>(
     alloc: Global,
     routers: &mut [R],
     scenario: &Scenario,
@@ -29,7 +29,7 @@ fn text_of_probe<R: Machine>(
 }
 
 /// Writes the probe of the network by the router that is wanted; nothing where none is.
-pub fn tell_probe<R: Machine, O: Sink>(
+pub fn tell_probe<R: RouterCore, O: Sink>(
     alloc: Global,
     routers: &mut [R],
     scenario: &Scenario,

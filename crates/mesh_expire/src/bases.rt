@@ -67,7 +67,7 @@ impl Bases for PlainBases {
     type Forwarded = ListTable<FloodKey, Noted>;
 }
 
-/// Bases that hold nothing, and answer want of memory to each tuple that is put in.
+/// Bases that hold nothing, and answer with an allocation failure to each tuple that is put in.
 #[derive(Drop)]
 pub struct NoBases;
 

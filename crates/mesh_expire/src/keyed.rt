@@ -8,7 +8,7 @@ use crate::table::{Key, Table};
 use std::alloc::AllocError;
 use std::collections::BTreeSet;
 
-/// Makes the tuple of a key, in place of the one that the key had. Want of memory leaves the table unchanged.
+/// Makes the tuple of a key, in place of the one that the key had. An allocation failure leaves the table unchanged.
 pub fn put_keyed<K: Key + Ord + Drop, V: Drop, T: Table<K, V>>(
     table: &mut T,
     keys: &mut BTreeSet<K>,

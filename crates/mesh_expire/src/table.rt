@@ -35,7 +35,7 @@ pub trait Table<K: Key, V>: Sized + Drop {
     fn get(&self, key: &K) -> Option<(&V, u64)>
         ensures { value_of result ≡ find K.eq (content self.now) key.now };
 
-    /// Makes the entry of a key, in place of the one that the key had. Want of memory leaves the table unchanged, and drops
+    /// Makes the entry of a key, in place of the one that the key had. An allocation failure leaves the table unchanged, and drops
     /// the record.
     fn put(&mut self, key: K, value: V, until: u64) -> Result<(), AllocError>
         ensures ok { OnOk result (SetsOnly K.eq (content self.old) (content self.new) key (Some (value, until))) }
@@ -45,7 +45,7 @@ pub trait Table<K: Key, V>: Sized + Drop {
         ensures distinct { HasDistinctKeys K.eq (content self.new) };
 
     /// Gives the entry of a key a record and a moment, and gives back its record before; `None`, changing nothing, where the key isn't
-    /// there. No entry comes to another place. Want of memory leaves the table unchanged.
+    /// there. No entry comes to another place. An allocation failure leaves the table unchanged.
     fn renew(&mut self, key: &K, value: V, until: u64) -> Result<Option<V>, AllocError>
         ensures before { IfOk result (λ before. before ≡ option_map (λ e. e.0) (find K.eq (content self.old) key.now)) }
         ensures ok { OnOk result (content self.new ≡ changed_at K.eq (content self.old) key.now (λ _. (value, until))) }

@@ -103,7 +103,7 @@ impl<B: Bases> Flood<B> {
     }
 
     /// Makes the tuples of a message on which that verdict was given: until now plus the hold time of the set. `processed`
-    /// says that the message was processed. After want of memory the value may only be dropped.
+    /// says that the message was processed. After an allocation failure the value may only be dropped.
     pub fn note(
         &mut self,
         now: u64,

@@ -134,7 +134,7 @@ fn renew_at<T: Table<LinkKey, Link>>(
 
 /// The links after a HELLO, with the map from addresses to them: first the others end, then the map leads from each address of
 /// the sending list to its link, and then that link is renewed or made. Addresses of links that ended stay in the map up to the
-/// next purge. After want of memory the table and the map may only be dropped.
+/// next purge. After an allocation failure the table and the map may only be dropped.
 pub fn hear_on<T: Table<LinkKey, Link>>(
     table: &mut T,
     owners: &mut IndexMap<Addr4, LinkKey>,

@@ -21,7 +21,7 @@ use std::marker::Model;
 
 /// The links of one interface, with a map from addresses to their keys. The map is tied one way: each address of a link leads
 /// to it, and addresses of links that are gone may stand there up to the next purge, at `expire`. Moments are in ticks of
-/// 1/8192 s. After want of memory the set may only be dropped.
+/// 1/8192 s. After an allocation failure the set may only be dropped.
 #[derive(Drop)]
 pub struct LinkSet<T: Table<LinkKey, Link>> {
     table: T,
@@ -102,7 +102,7 @@ impl<T: Table<LinkKey, Link>> LinkSet<T> {
     /// doesn't accept its quality, and each other link that has an address of that list ends (RFC 6130, sections 12.5 and 14,
     /// and RFC 7181, section 15.3). The moment, the hold time and the validity are below 2^62. Copies the sending list where
     /// it makes a link, and takes memory for its addresses; looks each of them up once. Addresses of links that end stay in the
-    /// map up to the next purge. After want of memory the set may only be dropped.
+    /// map up to the next purge. After an allocation failure the set may only be dropped.
     pub fn hear(
         &mut self,
         now: u64,
@@ -139,7 +139,7 @@ impl<T: Table<LinkKey, Link>> LinkSet<T> {
 
     /// Brings each link in line with its quality: it is admitted where that is accepted, lost where it is rejected, and else as
     /// it was. One that becomes lost stays for the hold time at most (RFC 6130, section 14). The moment and the hold time are
-    /// below 2^62. Looks at each link once, and takes memory where one becomes lost. After want of memory the set may only be
+    /// below 2^62. Looks at each link once, and takes memory where one becomes lost. After an allocation failure the set may only be
     /// dropped.
     pub fn admit(&mut self, now: u64, hold: u64, rule: &Admit) -> Result<(), AllocError>
         requires now { now < 2 ^ 62 }

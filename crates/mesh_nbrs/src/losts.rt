@@ -11,7 +11,7 @@ use mesh_expire::Table;
 use std::alloc::{AllocError, Global};
 use std::marker::Model;
 
-/// The addresses that were a symmetric neighbour's. After want of memory the set may only be dropped.
+/// The addresses that were a symmetric neighbour's. After an allocation failure the set may only be dropped.
 #[derive(Drop)]
 pub struct LostSet<T: Table<Addr4, Lost>> {
     table: T,

@@ -31,7 +31,7 @@ pub struct LinkNote {
     pub until: u64,
 }
 
-/// The neighbours of a router, by originator. After want of memory the set may only be dropped.
+/// The neighbours of a router, by originator. After an allocation failure the set may only be dropped.
 #[derive(Drop)]
 pub struct NeighbourSet<T: Table<Addr4, Neighbour>> {
     table: T,

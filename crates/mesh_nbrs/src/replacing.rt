@@ -102,7 +102,7 @@ fn put_new<T: Table<Addr4, Neighbour>>(
 }
 
 /// Makes the neighbour with that originator, which has these addresses; no other neighbour has one of them. One that stands
-/// with just these keeps its place, and its addresses aren't looked up. Want of memory may take it out.
+/// with just these keeps its place, and its addresses aren't looked up. An allocation failure may take it out.
 pub fn put_owned<T: Table<Addr4, Neighbour>>(
     table: &mut T,
     owners: &mut IndexMap<Addr4, Addr4>,

@@ -42,7 +42,7 @@ impl<B: Bases> Nhdp<B> {
 
     /// Brings links in line with their qualities, and takes out what is expired at a moment below 2^62: links, their 2-hop
     /// tuples where they aren't SYMMETRIC, and lost addresses; neighbours follow their links (RFC 6130, sections 13 and 14, and
-    /// RFC 7181, section 17). After want of memory the neighbourhood may only be dropped. Beside what its tables' expiry costs,
+    /// RFC 7181, section 17). After an allocation failure the neighbourhood may only be dropped. Beside what its tables' expiry costs,
     /// each link and each address of a neighbour is looked up.
     pub fn expire(&mut self, now: u64) -> Result<(), AllocError>
         requires now { now < 2 ^ 62 }
@@ -62,7 +62,7 @@ impl<B: Bases> Nhdp<B> {
     }
 }
 
-/// The same over links, tuples, neighbours and lost addresses, which after want of memory may only be dropped.
+/// The same over links, tuples, neighbours and lost addresses, which after an allocation failure may only be dropped.
 fn expire_all<
     L: Table<LinkKey, Link>,
     H: PlacedTable<TwoHopKey, TwoHop>,

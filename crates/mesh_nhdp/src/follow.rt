@@ -14,7 +14,7 @@ use mesh_nbrs::{LostSet, NeighbourSet};
 use std::alloc::{AllocError, Global};
 
 /// Sets the neighbours as their links have them, and the addresses as lost until that moment that were a symmetric
-/// neighbour's and are none's now (RFC 6130, sections 12.4 and 13). After want of memory both sets may only be dropped.
+/// neighbour's and are none's now (RFC 6130, sections 12.4 and 13). After an allocation failure both sets may only be dropped.
 pub fn follow_links<L: Table<LinkKey, Link>, N: Table<Addr4, Neighbour>, O: Table<Addr4, Lost>>(
     alloc: Global,
     links: &[LinkSet<L>],
@@ -43,7 +43,7 @@ pub struct SendingNeighbour<'a> {
 
 /// Sets the neighbour that the HELLO speaks of, which has the listed addresses, as its links have it, and the addresses as lost that
 /// were a symmetric neighbour's, of those that became this one, and aren't this one's now. Looks at no other neighbour.
-/// After want of memory both sets may only be dropped.
+/// After an allocation failure both sets may only be dropped.
 fn follow_links_of<L: Table<LinkKey, Link>, N: Table<Addr4, Neighbour>, O: Table<Addr4, Lost>>(
     alloc: Global,
     links: &[LinkSet<L>],
@@ -63,7 +63,7 @@ fn follow_links_of<L: Table<LinkKey, Link>, N: Table<Addr4, Neighbour>, O: Table
 }
 
 /// Makes one neighbour of all that a HELLO speaks of, and sets it as its links have it, with the addresses as lost that were a
-/// symmetric neighbour's, of those that became this one, and aren't this one's now. Looks at no other neighbour. After want of memory
+/// symmetric neighbour's, of those that became this one, and aren't this one's now. Looks at no other neighbour. After an allocation failure
 /// both sets may only be dropped.
 pub fn renew_neighbour<L: Table<LinkKey, Link>, N: Table<Addr4, Neighbour>, O: Table<Addr4, Lost>>(
     alloc: Global,

@@ -40,7 +40,7 @@ pub struct HelloReceipt<'a> {
 }
 
 /// Takes the HELLO in on all interfaces; `least` is the key of the link that it came over, and `own` has the router's addresses.
-/// Answers true only where that link isn't SYMMETRIC then, or all rows repeat what was held. After want of memory links and tuples may
+/// Answers true only where that link isn't SYMMETRIC then, or all rows repeat what was held. After an allocation failure links and tuples may
 /// only be dropped.
 fn hear_interfaces<L: Table<LinkKey, Link>, H: PlacedTable<TwoHopKey, TwoHop>>(
     alloc: Global,
@@ -82,7 +82,7 @@ fn hear_interfaces<L: Table<LinkKey, Link>, H: PlacedTable<TwoHopKey, TwoHop>>(
 }
 
 /// Takes a HELLO in on all interfaces; `theirs` has the addresses of the neighbours that it speaks of. Answers as `hear_interfaces`.
-/// After want of memory links and tuples may only be dropped.
+/// After an allocation failure links and tuples may only be dropped.
 fn hear_links<L: Table<LinkKey, Link>, H: PlacedTable<TwoHopKey, TwoHop>>(
     settings: &RouterSettings,
     receipt: &HelloReceipt,
@@ -129,7 +129,7 @@ fn hear_links<L: Table<LinkKey, Link>, H: PlacedTable<TwoHopKey, TwoHop>>(
 }
 
 /// Takes in a HELLO that isn't refused and isn't too much. Answers true only where the link that it came over isn't SYMMETRIC then,
-/// or all rows repeat what was held. After want of memory the neighbourhood may only be dropped.
+/// or all rows repeat what was held. After an allocation failure the neighbourhood may only be dropped.
 pub fn hear<
     L: Table<LinkKey, Link>,
     H: PlacedTable<TwoHopKey, TwoHop>,

@@ -36,7 +36,7 @@ pub trait Change<L: Table<LinkKey, Link>, H: PlacedTable<TwoHopKey, TwoHop>> {
 
     ghost makes: { Self → ℕ → Base LinkKey Link → Base LinkKey Link → Base TwoHopKey TwoHop → Base TwoHopKey TwoHop → Type 0 };
 
-    /// Changes those of the interface of that number. After want of memory both may only be dropped.
+    /// Changes those of the interface of that number. After an allocation failure both may only be dropped.
     fn change(
         &self,
         alloc: Global,

@@ -10,7 +10,7 @@ use mesh_nbrs::{LostSet, NeighbourSet, TwoHopSet};
 use std::alloc::{AllocError, Global};
 use std::marker::Model;
 
-/// The neighbourhood of a router, with its settings. Moments are in ticks of 1/8192 s. After want of memory it may only be
+/// The neighbourhood of a router, with its settings. Moments are in ticks of 1/8192 s. After an allocation failure it may only be
 /// dropped.
 pub struct Nhdp<B: Bases> {
     pub(crate) settings: RouterSettings,

@@ -18,7 +18,7 @@ impl<B: Bases> Nhdp<B> {
     /// time codes, willingness, and a row for each address of which something is to be said (RFC 6130, section 11, and
     /// RFC 7181, section 15.1). `iface` is an interface, and nothing is expired at `now`. Goes over the
     /// links of the interface, the neighbours and the lost addresses once, sorts the addresses, and looks each of them up once in
-    /// each; nothing but the list of addresses and the rows is copied. Only want of memory refuses.
+    /// each; nothing but the list of addresses and the rows is copied. Only an allocation failure refuses.
     pub fn hello_now(
         &self,
         alloc: Global,

@@ -30,7 +30,7 @@ pub enum HelloTaken {
 impl<B: Bases> Nhdp<B> {
     /// Takes in a HELLO from that sender on an interface, at a moment below 2^62 at which nothing is expired; its validity is
     /// above 0 and below 2^62 (RFC 6130, section 12, and RFC 7181, section 15.3). One that is refused or too much changes
-    /// nothing. After want of memory the neighbourhood may only be dropped. Looks the addresses that it lists up, and then at
+    /// nothing. After an allocation failure the neighbourhood may only be dropped. Looks the addresses that it lists up, and then at
     /// the neighbours, the links and the tuples of those alone that it speaks of, but where about 1,024 addresses are held: then
     /// it goes over all neighbours and lost addresses to count them. Each row is looked for among the addresses that it lists.
     pub fn take_hello(

@@ -34,7 +34,7 @@ pub(crate) struct SearchStep {
 
 /// Finds the least walks from that node (RFC 7181, section 19), as the certificate of the graph: a row for each node that
 /// is reached, in ascending order. No arc may be free, and they are fewer than 2^32, so that each metric fits. Takes time
-/// near n log n in the number n of arcs. Refuses for want of memory alone.
+/// near n log n in the number n of arcs. Refuses only where an allocation fails.
 pub fn search(alloc: Global, graph: &Graph, from: NetAddr) -> Result<Certificate, AllocError>
     requires costs { HasCosts graph.now }
     requires few { length graph.now.arcs < 2 ^ 32 }

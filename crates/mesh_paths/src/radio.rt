@@ -14,7 +14,7 @@ use std::alloc::{AllocError, Global};
 /// The radio graph of a scenario: one pair for each direction of two joined interfaces, and for each router the least
 /// number among its own and those of the routers that chains of joined interfaces join it with. Interfaces are joined by
 /// arcs both ways whose quality at the scenario's end is accepted where they lead to (RFC 6130, section 14). Takes time in
-/// proportion to arcs times arcs and routers together. Refuses for want of memory alone.
+/// proportion to arcs times arcs and routers together. Refuses only where an allocation fails.
 pub fn radio_graph(alloc: Global, scenario: &Scenario) -> Result<RadioGraph, AllocError>
     ensures graph { IfOk result (λ graph. IsRadioGraph scenario.now graph) }
 {

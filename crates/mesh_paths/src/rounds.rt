@@ -16,7 +16,7 @@ use std::collections::BTreeMap;
 
 /// Finds the same certificate as `search`, under the same conditions, by rounds over all arcs until one changes nothing.
 /// There are at most two rounds more than a least walk has arcs. Takes time in proportion to rounds times arcs. Refuses
-/// for want of memory alone.
+/// for an allocation failure alone.
 pub fn search_by_rounds(
     alloc: Global,
     graph: &Graph,

@@ -8,7 +8,7 @@ ghost use Rattle.mesh_probe.specs.Hearing.{CanHear, IsOfInterface, HearsFrame, S
 use crate::frames::put_sent;
 use crate::transmission::Transmission;
 use mesh_atoms::{Addr4, RadioArc, Scenario};
-use mesh_core::{Arrival, Machine, Outbox};
+use mesh_core::{Arrival, Outbox, RouterCore};
 use std::alloc::{AllocError, Global};
 
 // Whether the arc leads from that interface of the router.
@@ -29,7 +29,7 @@ fn sender_of(scenario: &Scenario, frame: &Transmission) -> Addr4
 }
 
 // The router at the end of an arc hears a frame of these octets from that sender, and what it sends is put at the end.
-fn hear_one<R: Machine>(
+fn hear_one<R: RouterCore>(
     alloc: Global,
     routers: &mut [R],
     arc: &RadioArc,
@@ -54,7 +54,7 @@ fn hear_one<R: Machine>(
 }
 
 // The routers at the ends of a frame's arcs hear it, in the order of the arcs: the frames that they send.
-fn hear_all<R: Machine>(
+fn hear_all<R: RouterCore>(
     alloc: Global,
     routers: &mut [R],
     scenario: &Scenario,
@@ -81,7 +81,7 @@ fn hear_all<R: Machine>(
 
 /// The frames that wait are heard at one moment, first sent first, and what is sent waits behind them, until all are heard. There
 /// are never more frames than there are interfaces.
-pub(crate) fn flood<R: Machine>(
+pub(crate) fn flood<R: RouterCore>(
     alloc: Global,
     routers: &mut [R],
     scenario: &Scenario,

@@ -42,7 +42,7 @@ pub(crate) fn first_frames(
     Ok(frames)
 }
 
-/// Puts what a router sent at the end. After want of memory a part of it may stand there.
+/// Puts what a router sent at the end. After an allocation failure a part of it may stand there.
 pub(crate) fn put_sent(
     alloc: Global,
     frames: &mut Vec<Transmission>,

@@ -119,9 +119,8 @@ fn put_end(
     }
 }
 
-/// The text of a probe of router `origin`: a line that says with which number how many of the routers that are joined with it were
-/// reached, and with how many frames, and a line for each that wasn't, in ascending order; or that there was no number. Only want of
-/// memory is an error.
+/// The text of a probe of router `origin`: a line that says with which number how many of the routers that are joined with it were reached, and with
+/// how many frames, and a line for each that wasn't, in ascending order; or that there was no number. Only an allocation failure is an error.
 pub fn probe_text(
     alloc: Global,
     scenario: &Scenario,

@@ -14,7 +14,7 @@ use crate::numbers::free_number;
 use crate::reached::reached_of;
 use crate::transmission::Transmission;
 use mesh_atoms::{Bytes, Scenario, Seq, Tc, time_at_least, time_code_at_least};
-use mesh_core::Machine;
+use mesh_core::RouterCore;
 use mesh_machine::RouterView;
 use mesh_wire::write_tc;
 use std::alloc::{AllocError, Global};
@@ -69,7 +69,7 @@ fn probe_frame<R: RouterView>(alloc: Global, router: &R, number: u16) -> Result<
 }
 
 // The flood of a router's TC with that number: the frames that are heard.
-fn flood_of<R: Machine>(
+fn flood_of<R: RouterCore>(
     alloc: Global,
     routers: &mut [R],
     scenario: &Scenario,
@@ -110,7 +110,7 @@ fn sends_of(alloc: Global, frames: &[Transmission]) -> Result<Seq<Sending>, Allo
 }
 
 // The flood of a router's TC with that number, and whom it reaches.
-fn coverage_of<R: Machine>(
+fn coverage_of<R: RouterCore>(
     alloc: Global,
     routers: &mut [R],
     scenario: &Scenario,
@@ -134,7 +134,7 @@ fn coverage_of<R: Machine>(
 }
 
 // The probe of a network, whatever its laws.
-fn probe_from<R: Machine>(
+fn probe_from<R: RouterCore>(
     alloc: Global,
     routers: &mut [R],
     scenario: &Scenario,
@@ -160,8 +160,8 @@ fn probe_from<R: Machine>(
 /// sent first, until none is left. Losses, delays and qualities play no part.
 ///
 /// The TC's sequence number is the least that no router has noted of the origin's TCs; `NoNumber` exactly where there is none, and then
-/// nothing changes. After want of memory the routers may only be dropped.
-pub fn probe<R: Machine>(
+/// nothing changes. After an allocation failure the routers may only be dropped.
+pub fn probe<R: RouterCore>(
     alloc: Global,
     routers: &mut [R],
     scenario: &Scenario,

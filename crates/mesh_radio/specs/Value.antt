@@ -4,7 +4,7 @@ use Rattle.mesh_atoms.specs.State.{State}
 use Rattle.mesh_core.specs.Holding.{CoreValue}
 use Rattle.mesh_machine.specs.Net.{NetState}
 
--- an emulated network, and whether it has met want of memory
+-- an emulated network, and whether it has met an allocation failure
 pub record NetValue : Type 0 where
   pub net : NetState
   pub is_spent : Bool

@@ -6,7 +6,7 @@ ghost use Rattle.mesh_radio.specs.Value.{states_of};
 
 use crate::scene::Scene;
 use crate::step::next_event;
-use mesh_core::{Core, DeferredCore, NetworkRouter};
+use mesh_core::{Core, DeferredCore, DeferringRouter};
 use mesh_expire::Bases;
 use std::alloc::{AllocError, Global};
 
@@ -24,8 +24,8 @@ pub(crate) fn run_to_end<B: Bases>(
     all_whole(alloc, deferred)
 }
 
-/// Does all events that are left. After 2^64 - 1 events it gives up as for want of memory.
-fn do_events<R: NetworkRouter>(
+/// Does all events that are left. After 2^64 - 1 events it gives up as if an allocation had failed.
+fn do_events<R: DeferringRouter>(
     alloc: Global,
     routers: &mut Vec<R>,
     scene: &mut Scene,
@@ -59,7 +59,7 @@ fn defer_each<B: Bases>(
 }
 
 /// A router that may put relays and routes off, and is to become one that puts nothing off.
-trait IntoWhole<C: NetworkRouter>: NetworkRouter {
+trait IntoWhole<C: DeferringRouter>: DeferringRouter {
     /// The router as one that puts nothing off, where its state is sound.
     fn into_whole(self) -> C
         requires { Sound (Self.state self) }
@@ -73,7 +73,7 @@ impl<B: Bases> IntoWhole<Core<B>> for DeferredCore<B> {
 }
 
 /// The routers as ones that put nothing off.
-fn all_whole<R: IntoWhole<C>, C: NetworkRouter>(
+fn all_whole<R: IntoWhole<C>, C: DeferringRouter>(
     alloc: Global,
     routers: Vec<R>,
 ) -> Result<Vec<C>, AllocError>

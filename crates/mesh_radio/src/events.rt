@@ -11,11 +11,11 @@ use crate::occurrences::Occurrence;
 use crate::routers::{hear, sender_of, tick};
 use crate::scene::Scene;
 use crate::traffic::{ArrivedFrame, send_all};
-use mesh_core::NetworkRouter;
+use mesh_core::DeferringRouter;
 use std::alloc::{AllocError, Global};
 
 /// A frame is heard by the router to which its arc leads, and what that sends goes into the air.
-pub(crate) fn land<R: NetworkRouter>(
+pub(crate) fn land<R: DeferringRouter>(
     alloc: Global,
     until: u64,
     routers: &mut Vec<R>,
@@ -56,7 +56,7 @@ pub(crate) fn land<R: NetworkRouter>(
 }
 
 /// A router ticks, and what it sends goes into the air.
-pub(crate) fn tick_one<R: NetworkRouter>(
+pub(crate) fn tick_one<R: DeferringRouter>(
     alloc: Global,
     until: u64,
     routers: &mut Vec<R>,

@@ -13,7 +13,7 @@ mod step;
 mod traffic;
 
 pub use mesh_atoms::{Counts, Emission, NetEvent};
-pub use mesh_core::{Core, Machine, RouterView};
+pub use mesh_core::{Core, RouterCore, RouterView};
 pub use mesh_machine::{machines, routers_end_together};
 pub use net::Net;
 pub use traffic::{ArrivedFrame, Draws, FramesInAir, RadioTraffic, words_of};

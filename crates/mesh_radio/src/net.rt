@@ -16,7 +16,7 @@ use std::alloc::{AllocError, Global};
 use std::marker::Model;
 
 /// An emulated network: the routers of a scenario, over these bases, and the frames in the air between them. Moments are in
-/// ticks of 1/8192 s. After want of memory a network is spent: every further event is refused for want of memory too.
+/// ticks of 1/8192 s. After an allocation failure a network is spent: every further event is refused too, as if an allocation had failed.
 pub struct Net<B: Bases> {
     alloc: Global,
     cores: Vec<Core<B>>,
@@ -63,15 +63,15 @@ impl<B: Bases> Net<B> {
         })
     }
 
-    /// Whether the network has met want of memory.
+    /// Whether the network has met an allocation failure.
     pub fn is_spent(&self) -> bool
         ensures { result ≡ self.now.is_spent }
     {
         self.spent
     }
 
-    /// Does the next event, and tells it; `None` where none is left. Want of memory leaves the network spent: it then answers want of
-    /// memory to each event.
+    /// Does the next event, and tells it; `None` where none is left. An allocation failure leaves the network spent: it then answers with an
+    /// allocation failure to each event.
     pub fn step(&mut self) -> Result<Option<NetEvent>, AllocError>
         // The next event; none exactly where the run is over, and then nothing changes.
         ensures step { IfOk result (λ e. MatchOption e (IsOver self.old.net × (self.new.net ≡ self.old.net))
@@ -91,8 +91,8 @@ impl<B: Bases> Net<B> {
         came
     }
 
-    /// Does all events that are left. Until the end the routers put relays and routes off. After 2^64 - 1 events it gives up as for want
-    /// of memory, which leaves the network spent.
+    /// Does all events that are left. Until the end the routers put relays and routes off. After 2^64 - 1 events it gives up as if an allocation had
+    /// failed, which leaves the network spent.
     pub fn run_until_end(&mut self) -> Result<(), AllocError>
         ensures over { OnOk result ((events : List NetEvent) × NetRun self.old.net events self.new.net × IsOver self.new.net) }
         ensures spent { self.new.is_spent ≡ is_err result }

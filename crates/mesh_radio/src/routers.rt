@@ -9,11 +9,11 @@ ghost use Rattle.mesh_radio.specs.Scene.{Stepped, KeepsDue, IsAfterTick, IsFrom}
 use crate::scene::Due;
 use crate::traffic::ArrivedFrame;
 use mesh_atoms::{Addr4, RadioArc, RouterSettings, Scenario};
-use mesh_core::{Arrival, Machine, NetworkRouter, Outbox};
+use mesh_core::{Arrival, DeferringRouter, Outbox, RouterCore};
 use std::alloc::{AllocError, Global};
 
 /// The routers with these settings before their first events.
-pub(crate) fn routers_of<R: Machine>(
+pub(crate) fn routers_of<R: RouterCore>(
     alloc: Global,
     settings: &[RouterSettings],
 ) -> Result<Vec<R>, AllocError>
@@ -27,7 +27,7 @@ pub(crate) fn routers_of<R: Machine>(
 }
 
 /// A router hears what comes by an arc. The outbox has what it then sends.
-pub(crate) fn hear<R: NetworkRouter>(
+pub(crate) fn hear<R: DeferringRouter>(
     until: u64,
     routers: &mut Vec<R>,
     landed: &ArrivedFrame,
@@ -51,7 +51,7 @@ pub(crate) fn hear<R: NetworkRouter>(
 }
 
 /// A router ticks. The outbox has what it then sends.
-pub(crate) fn tick<R: NetworkRouter>(
+pub(crate) fn tick<R: DeferringRouter>(
     until: u64,
     routers: &mut Vec<R>,
     router: usize,
@@ -68,7 +68,7 @@ pub(crate) fn tick<R: NetworkRouter>(
 }
 
 /// The router that ticks first, and when.
-pub(crate) fn first_due<R: NetworkRouter>(routers: &Vec<R>) -> Due
+pub(crate) fn first_due<R: DeferringRouter>(routers: &Vec<R>) -> Due
     requires { 0 < length routers.now.items }
     ensures { IsFirstDue (map R.state routers.now.items) result.router result.moment }
 {

@@ -8,11 +8,11 @@ use crate::occurrences::{Occurrence, event_told};
 use crate::routers::first_due;
 use crate::scene::{Scene, Tick};
 use mesh_atoms::NetEvent;
-use mesh_core::NetworkRouter;
+use mesh_core::DeferringRouter;
 use std::alloc::{AllocError, Global};
 
 /// Does the next event, in which no router puts anything off, and tells it with octets; `None` where none is left.
-pub(crate) fn tell_next<R: NetworkRouter>(
+pub(crate) fn tell_next<R: DeferringRouter>(
     alloc: Global,
     routers: &mut Vec<R>,
     scene: &mut Scene,
@@ -31,7 +31,7 @@ pub(crate) fn tell_next<R: NetworkRouter>(
 }
 
 /// Does the next event, and tells it; `None` where none is left. From the moment `until` on no router puts anything off.
-pub(crate) fn next_event<R: NetworkRouter>(
+pub(crate) fn next_event<R: DeferringRouter>(
     alloc: Global,
     until: u64,
     routers: &mut Vec<R>,
@@ -49,7 +49,7 @@ pub(crate) fn next_event<R: NetworkRouter>(
 }
 
 /// Lets the frame be heard that is due no later than the first tick and the end, if there is one.
-fn hear_next<R: NetworkRouter>(
+fn hear_next<R: DeferringRouter>(
     alloc: Global,
     until: u64,
     routers: &mut Vec<R>,
@@ -71,7 +71,7 @@ fn hear_next<R: NetworkRouter>(
 }
 
 /// Lets the router tick that ticks next, if there is one.
-fn tick_next<R: NetworkRouter>(
+fn tick_next<R: DeferringRouter>(
     alloc: Global,
     until: u64,
     routers: &mut Vec<R>,

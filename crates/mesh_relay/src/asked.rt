@@ -91,7 +91,7 @@ fn serves_among(
 
 /// Whether the relays cover, and none of them is one too many (RFC 7181, section 18.3): what `covers` and `irredundant` tell
 /// together, with memory and in about n log n steps for n entries of the graph, where `far` entries by one neighbour stand side by side. Ids must be
-/// distinct. Only want of memory refuses.
+/// distinct. Only an allocation failure refuses.
 pub fn serves(alloc: Global, graph: &NeighbourGraph, relays: &[Addr4]) -> Result<bool, AllocError>
     requires { HasDistinctIds graph.now }
     ensures { IfOk result (λ b. IsTrue b ↔ (Covers graph.now relays.now × Needed graph.now relays.now)) }

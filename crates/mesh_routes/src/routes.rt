@@ -17,9 +17,9 @@ use mesh_paths::search;
 use mesh_topo::Topology;
 use std::alloc::{AllocError, Global};
 
-/// The routes of a router whose bases are sound at a moment (RFC 7181, section 19.2), which are its routes at each moment at which
-/// its neighbourhood is sound, so that nothing is made of the moment: one for each node that a walk over its own graph reaches and that is not its own, at the least cost, with the least parent and the
-/// best next hop. Refuses for want of memory alone. Takes time near n log n in the number n of tuples.
+/// The routes of a router whose bases are sound at a moment (RFC 7181, section 19.2), which are its routes at each moment at which its neighbourhood
+/// is sound, so that nothing is made of the moment: one for each node that a walk over its own graph reaches and that is not its own, at the least
+/// cost, with the least parent and the best next hop. Refuses only where an allocation fails. Takes time near n log n in the number n of tuples.
 pub fn routes_of<N: Near4, B: Bases>(
     alloc: Global,
     near: &N,

@@ -24,7 +24,7 @@ Completes (Err (fault.Turns turns moment end)) = Unit {0}
 Completes (Err (fault.Stopped stop.Write)) = ⊥
 Completes (Err (fault.Stopped stop.Memory)) = Unit {0}
 
--- a text was put on out; where a write failed, a front of it, and the count rose; and nothing at want of memory
+-- a text was put on out; where a write failed, a front of it, and the count rose; and nothing at an allocation failure
 abbrev pub LeavesText : (List ℕ → Type 0) → Option (List ℕ) → Option (List ℕ) → ℕ → ℕ → Result (Unit {0}) Stop → Type 0
 LeavesText IsText out out' faults faults' (Ok u) = (text : List ℕ) × IsText text × Appends out out' text
 LeavesText IsText out out' faults faults' (Err stop.Write) =

@@ -11,7 +11,7 @@ use mesh_io::{Sink, Stop, write_all};
 use mesh_texts::{Piece, put_line, put_section};
 use std::alloc::{AllocError, Global};
 
-// Puts when a run ended and what was counted. Want of memory leaves a part of it behind what was there.
+// Puts when a run ended and what was counted. An allocation failure leaves a part of it behind what was there.
 #[tactic(auto, unfolding(crate::specs::Text::run_line))]
 fn put_run_line(out: &mut Bytes, end: u64, ended: &Ended) -> Result<(), AllocError>
     ensures { OnOk result (out.new ≡ out.old ++ run_line end ended.now) }
@@ -49,7 +49,7 @@ fn report_of<R: RouterView>(
     Ok(text)
 }
 
-/// Writes the report of a router, by one write; or says that it couldn't be written, or for want of memory not be made.
+/// Writes the report of a router, by one write; or says that it couldn't be written, or could not be made for an allocation failure.
 pub fn tell_report<R: RouterView, O: Sink>(
     alloc: Global,
     router: &R,

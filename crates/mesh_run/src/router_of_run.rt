@@ -4,13 +4,13 @@ ghost use Rattle.mesh_atoms.specs.Sound.{Sound};
 ghost use Rattle.mesh_texts.specs.machine.Machine.{IsOpening};
 
 use mesh_atoms::RouterSettings;
-use mesh_core::{Core, DeferredCore, NetworkRouter, RouterView};
+use mesh_core::{Core, DeferredCore, DeferringRouter, RouterView};
 use mesh_expire::Bases;
 use std::alloc::{AllocError, Global};
 
 /// A router that may put relays and routes off, and that becomes one that shows them. What does its turns and reports it needs no more than
 /// this, and knows nothing of tables.
-pub trait RouterOfRun: NetworkRouter {
+pub trait RouterOfRun: DeferringRouter {
     type Whole: RouterView + Drop;
 
     /// A router with these settings before its first event.

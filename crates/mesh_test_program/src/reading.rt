@@ -100,7 +100,7 @@ static READ: [(&[u8], Asked); 22] = [
     (FROM_AFAR, Asked::IsValid(122880)),
 ];
 
-/// The rule and the address of a fault; none of want of memory.
+/// The rule and the address of a fault; none of an allocation failure.
 fn shown(fault: &WireFault) -> Option<(u8, Option<(u32, u8)>)> {
     match fault {
         WireFault::Broken { number, addr } => match addr {

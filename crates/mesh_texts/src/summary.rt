@@ -15,7 +15,7 @@ use mesh_atoms::{Addr4, Bytes, Counts, Gap, GapKey, Interface, LinkKey, Scenario
 use mesh_settled::{RouterView, router_name};
 use std::alloc::AllocError;
 
-/// Puts how large a network is, when it ended, and what was counted. Want of memory leaves a part of it behind what was there.
+/// Puts how large a network is, when it ended, and what was counted. An allocation failure leaves a part of it behind what was there.
 #[tactic(auto, unfolding(crate::specs::Network::counts_line))]
 pub fn put_counts_line(
     out: &mut Bytes,
@@ -188,7 +188,7 @@ fn put_unsettled(out: &mut Bytes, scenario: &Scenario, gap: Gap) -> Result<(), A
     put_gap_line(out, scenario, gap)
 }
 
-/// Puts whether a network is settled, and else its gap. Want of memory leaves a part of it behind what was there.
+/// Puts whether a network is settled, and else its gap. An allocation failure leaves a part of it behind what was there.
 #[tactic(auto, unfolding(crate::specs::Network::settled_text))]
 pub fn put_settled(out: &mut Bytes, scenario: &Scenario, gap: Option<Gap>) -> Result<(), AllocError>
     ensures ok { OnOk result (out.new ≡ out.old ++ settled_text scenario.now gap) }
@@ -201,7 +201,7 @@ pub fn put_settled(out: &mut Bytes, scenario: &Scenario, gap: Option<Gap>) -> Re
 }
 
 /// Puts the summary of a network of these routers: what was counted, each router's section in order, and whether the network is
-/// settled or else its gap. Want of memory leaves a part of it behind what was there.
+/// settled or else its gap. An allocation failure leaves a part of it behind what was there.
 pub fn put_summary<R: RouterView>(
     out: &mut Bytes,
     scenario: &Scenario,

@@ -367,7 +367,7 @@ fn put_happening<R: RouterView>(
 
 /// Puts the lines of an event of an emulated network, after which its router is so: what happened to it, the relays that it then
 /// has, and each frame that it sent with the arcs on which it was lost. What is heard spells a packet, as all frames of a run do.
-/// Want of memory leaves a part of it behind what was there.
+/// An allocation failure leaves a part of it behind what was there.
 pub fn put_event<R: RouterView>(
     out: &mut Bytes,
     scenario: &Scenario,

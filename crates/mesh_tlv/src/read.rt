@@ -161,7 +161,7 @@ fn read_block<'a, R: ItemReader<'a>>(
 
 /// Reads the TLV block of a packet or a message that begins at `at` (RFC 5444, section 5.4), in a frame or message that
 /// goes up to `end`, and gives the place after the block. Places are counted in octets from the start of the frame.
-/// `Refused` has the first fault, in the order of the fields. Want of memory may come in place of any other answer.
+/// `Refused` has the first fault, in the order of the fields. An allocation failure may come in place of any other answer.
 pub fn read_tlvs<'a>(
     alloc: Global,
     frame: &'a [u8],

@@ -27,7 +27,7 @@ pub trait ItemReader<'a>: Copy {
     ghost item_at: { Self → List ℕ → ℕ → ℕ → Reading Fields };
 
     /// The item at `at` in a range that goes up to `end`, and the place after it. Places are counted in octets from the
-    /// start of the frame. Want of memory may come in place of any other answer.
+    /// start of the frame. An allocation failure may come in place of any other answer.
     fn read(
         self,
         alloc: Global,
@@ -42,7 +42,7 @@ pub trait ItemReader<'a>: Copy {
         ensures after { IfOk result (λ x. (at ≤ x.1) × (x.1 ≤ end)) };
 }
 
-/// Reads the items that stand from `at` up to `end` of a frame, in order. `Refused` has the first fault. Want of memory may
+/// Reads the items that stand from `at` up to `end` of a frame, in order. `Refused` has the first fault. An allocation failure may
 /// come in place of any other answer.
 pub fn read_items<'a, R: ItemReader<'a>>(
     alloc: Global,

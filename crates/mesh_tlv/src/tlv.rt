@@ -24,7 +24,7 @@ pub struct AddrTlv<'a> {
     pub value: Option<&'a [u8]>,
 }
 
-/// Why a block isn't written: it or one of its values has more than 65,535 octets, or want of memory.
+/// Why a block isn't written: it or one of its values has more than 65,535 octets, or an allocation failure.
 #[derive(Drop)]
 pub enum WriteTlv {
     TooLong,

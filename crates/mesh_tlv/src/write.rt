@@ -91,7 +91,7 @@ pub fn write_tlvs(tlvs: &[Tlv], out: &mut Bytes) -> Result<(), WriteTlv>
     ensures too_long { (result ≡ Err WriteTlv.TooLong) ↔ AreTooLong least_tlv (λ tlv. tlv.value) (map fields tlvs.now) }
     ensures unchanged { result ≡ Err WriteTlv.TooLong → out.new ≡ out.old }
 
-    // Also after want of memory the old octets stand in front.
+    // Also after an allocation failure the old octets stand in front.
     ensures kept { Grows out.old out.new }
 {
     write_block(tlvs, 1, out)
@@ -116,7 +116,7 @@ pub fn write_addr_tlvs(tlvs: &[AddrTlv], count: u8, out: &mut Bytes) -> Result<(
     ensures too_long { (result ≡ Err WriteTlv.TooLong) ↔ AreTooLong (least_addr_tlv count) (λ tlv. tlv.value) (map addr_fields tlvs.now) }
     ensures unchanged { result ≡ Err WriteTlv.TooLong → out.new ≡ out.old }
 
-    // Also after want of memory the old octets stand in front.
+    // Also after an allocation failure the old octets stand in front.
     ensures kept { Grows out.old out.new }
 {
     write_block(tlvs, count, out)

@@ -83,7 +83,7 @@ impl<B: Bases> Topology<B> {
     /// Takes a TC that is heard at that moment (RFC 7181, section 16.3.3). `Old` comes exactly where the number that is
     /// kept of its originator is newer than its own, and then `Full` where a set has more than 16,384 tuples with the
     /// rows that the TC has for it (one for the advertisers), the first such set. Rows without a metric count for
-    /// nothing. Rows of originators and of routable addresses must have the prefix 32. After want of memory the value
+    /// nothing. Rows of originators and of routable addresses must have the prefix 32. After an allocation failure the value
     /// may only be dropped. Looks at the tuples of its originator alone, and takes memory for their keys.
     pub fn take_tc(&mut self, now: u64, tc: &Tc) -> Result<TcTaken, AllocError>
         requires now { now < 2 ^ 62 }

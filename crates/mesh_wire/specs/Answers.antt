@@ -4,18 +4,18 @@ use Rattle.mesh_atoms.specs.declared.addr.NetAddr.{NetAddr}
 use Rattle.mesh_wire.specs.declared.fault.WireFault.{WireFault}
 use Rattle.mesh_wire.specs.declared.fault.WireFault.TheVariants as faults
 
--- a fact of the rule and the address, where the fault isn't want of memory
+-- a fact of the rule and the address, where the fault isn't an allocation failure
 abbrev pub IfBroken : (ℕ → Option NetAddr → Type 0) → WireFault → Type 0
 IfBroken P (faults.Memory e) = Unit {0}
 IfBroken P (faults.Broken number addr) = P number addr
 
--- that value, or want of memory
+-- that value, or an allocation failure
 abbrev pub GivesValue : {X : Type 0} → X → Result X WireFault → Type 0
 GivesValue x (Ok y) = y ≡ x
 GivesValue x (Err (faults.Memory e)) = Unit {0}
 GivesValue x (Err (faults.Broken number addr)) = ⊥
 
--- that rule at that address, or want of memory
+-- that rule at that address, or an allocation failure
 abbrev pub RefusesAt : {X : Type 0} → ℕ → Option NetAddr → Result X WireFault → Type 0
 RefusesAt number addr (Ok y) = ⊥
 RefusesAt number addr (Err (faults.Memory e)) = Unit {0}

@@ -7,7 +7,7 @@ use std::alloc::AllocError;
 pub enum WireFault {
     /// The rule of least number that is broken, and the least address that breaks it where the rule is about addresses.
     Broken { number: u8, addr: Option<NetAddr> },
-    /// Want of memory.
+    /// An allocation failure.
     Memory(AllocError),
 }
 

@@ -200,7 +200,7 @@ fn read_hello(alloc: Global, message: &Message) -> Result<Hello, WireFault>
 /// Reads a message of type HELLO (RFC 6130, section 10, and RFC 7181, section 15). TLVs with an extension, of other types, and
 /// MPR values other than 1, 2 and 3 are ignored. The rows are the distinct addresses of the message, each with all that the
 /// TLVs over it say, in ascending order. Where rules are broken, the fault is the one of least number, with the least
-/// address that breaks it where the rule is about addresses; else want of memory is the only fault.
+/// address that breaks it where the rule is about addresses; else an allocation failure is the only fault.
 pub fn hello_of(alloc: Global, message: &Message) -> Result<Hello, WireFault>
     requires kind { message.now.kind ≡ 0 }
     // What is read is what the message says.

@@ -194,7 +194,7 @@ fn read_tc(alloc: Global, message: &Message) -> Result<Tc, WireFault>
 /// Reads a message of type TC (RFC 7181, sections 13 and 16). TLVs with an extension, but for CONT_SEQ_NUM, and of other types
 /// are ignored. The rows are the distinct addresses of the message, each with all that the TLVs over it say, in ascending
 /// order; times are those at the distance that the message has come. Where rules are broken, the fault is the one of least
-/// number, with the least address that breaks it where the rule is about addresses; else want of memory is the only fault.
+/// number, with the least address that breaks it where the rule is about addresses; else an allocation failure is the only fault.
 pub fn tc_of(alloc: Global, message: &Message) -> Result<Tc, WireFault>
     requires kind { message.now.kind ≡ 1 }
     // What is read is what the message says.

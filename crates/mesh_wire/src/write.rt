@@ -257,7 +257,7 @@ fn tc_message<'a>(
 
 /// Writes a HELLO as a packet of its own, in the least form (RFC 6130, section 10, and RFC 7181, section 15). It takes at most
 /// 1,100 rows. Its times are those of codes from 1 to 254. A row with `local` has no status, no metric and no relay; one with
-/// `local`, `link` or `other` is of a whole address. The message has no hop limit, hop count or sequence number. Want of memory
+/// `local`, `link` or `other` is of a whole address. The message has no hop limit, hop count or sequence number. An allocation failure
 /// is the only fault.
 pub fn write_hello(alloc: Global, hello: &Hello) -> Result<Bytes, AllocError>
     requires few { length hello.now.rows ≤ 1100 }
@@ -280,7 +280,7 @@ pub fn write_hello(alloc: Global, hello: &Hello) -> Result<Bytes, AllocError>
 /// Writes a TC as a packet of its own with that hop limit and hop count 0, in the least form (RFC 7181, section 16). The value of
 /// VALIDITY_TIME may tell more than one validity, by distance (RFC 5497, section 6): in at most 17 octets, all its codes from 1 to
 /// 254; the TC's validity is what it tells at distance 1. It takes at most 1,100 rows. Its interval is that of such a code. A row with
-/// `origin` or `routable` has no gateway, and is of a whole address. Want of memory is the only fault.
+/// `origin` or `routable` has no gateway, and is of a whole address. An allocation failure is the only fault.
 pub fn write_tc(alloc: Global, tc: &Tc, hop_limit: u8, validity: &[u8]) -> Result<Bytes, AllocError>
     requires few { length tc.now.rows ≤ 1100 }
     requires value { IsTimeValue validity.now }

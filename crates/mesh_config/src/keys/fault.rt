@@ -5,7 +5,7 @@ ghost use Rattle.mesh_config.specs.Keys.Faults.{IsReadFault, FailsAt, fault};
 use mesh_atoms::Bytes;
 use std::alloc::{AllocError, Global};
 
-/// Settings that are refused, with the number of what for, as `refusal` has them, and the key at fault; or want of memory.
+/// Settings that are refused, with the number of what for, as `refusal` has them, and the key at fault; or an allocation failure.
 #[derive(Drop)]
 pub enum ConfigFault {
     Refused { number: u8, key: Bytes },
@@ -23,7 +23,7 @@ impl From<AllocError> for ConfigFault {
     }
 }
 
-/// The refusal of that number and key, or want of memory.
+/// The refusal of that number and key, or an allocation failure.
 pub fn refused(alloc: Global, number: u8, key: &str) -> ConfigFault
     ensures read { IsReadFault {A = Unit} result (Err (fault number key.now)) }
     ensures answer { FailsAt result (Some (fault number key.now)) }

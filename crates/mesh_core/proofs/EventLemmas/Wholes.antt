@@ -18,7 +18,7 @@ use Rattle.mesh_renewal.proofs.RowMoments.{rows_stay}
 use Rattle.mesh_renewal.proofs.Staying.{relays_kept, routes_kept}
 use Rattle.mesh_core.specs.declared.event.outdated.Outdated.{Outdated}
 use Rattle.mesh_core.specs.declared.event.outdated.EventWants.{EventWants}
-use Rattle.mesh_core.specs.Deferred.{IsButForDerived, IsKeptOf, IsSoundButForDerived}
+use Rattle.mesh_core.specs.Deferred.{IsButForDerived, IsSoundButForDerived}
 use Rattle.mesh_core.specs.Event.Outdated.{IsCurrent, IsKeptFor}
 use Rattle.mesh_core.proofs.HeldLemmas.Quiet.{advertised_equal, near_equal}
 
@@ -45,10 +45,6 @@ sound_but s sound = (s, sound, refl)
 
 pub current_of : (outdated : Outdated) (s : State) → Sound s → IsCurrent outdated s
 current_of outdated s sound = record { relays = λ current. sound.relays; routes = λ current. (sound.self, sound.routes) }
-
--- and all of it is kept of itself
-pub kept_whole : (until : ℕ) (s : State) → IsKeptOf until s s
-kept_whole until s = record { same = refl; from_then = λ late. refl }
 
 -- Relays and routes that there are
 

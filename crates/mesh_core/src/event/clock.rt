@@ -17,7 +17,7 @@ use std::alloc::AllocError;
 
 /// A router's clock ticks, at a moment below 2^62 in ticks of 1/8192 s: what is expired goes (RFC 6130, section 13), what follows from the
 /// bases is renewed (RFC 7181, sections 16.1, 18 and 19), but for routes that aren't wanted, and the HELLOs (RFC 6130, section 11) and TCs
-/// (RFC 7181, section 16) that are due are put at the end of `out`. Relays are wanted at each tick, since HELLOs say them. Want of memory
+/// (RFC 7181, section 16) that are due are put at the end of `out`. Relays are wanted at each tick, since HELLOs say them. An allocation failure
 /// leaves `out` as it was; `router` may then only be dropped.
 pub(crate) fn tick<B: Bases>(
     router: &mut RouterState<B>,

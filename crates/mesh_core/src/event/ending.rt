@@ -90,7 +90,7 @@ fn renew_routes<B: Bases>(
 }
 
 /// Ends an event at `now`, where `quiet` says what it has left as it was (RFC 7181, sections 16.1, 18 and 19): the advertised rows are
-/// renewed, and so is what is wanted of relays and routes. What isn't wanted may then be outdated. After want of memory `derived` may
+/// renewed, and so is what is wanted of relays and routes. What isn't wanted may then be outdated. After an allocation failure `derived` may
 /// only be dropped.
 pub(crate) fn end_event<B: Bases>(
     alloc: Global,

@@ -20,7 +20,7 @@ use std::alloc::AllocError;
 /// A router hears a frame (RFC 5444) on one of its interfaces, at a moment below 2^62 in ticks of 1/8192 s. A frame with a fault changes
 /// nothing, not even by expiry. Of one that spells a packet, what is expired goes (RFC 6130, section 13), the messages are taken in
 /// order (section 12, and RFC 7181, section 14), and what follows from the bases is renewed (RFC 7181, sections 16.1, 18 and 19), but for
-/// relays and routes that aren't wanted. What is sent is put at the end of `out`. Want of memory leaves `out` as it was; `router` may then
+/// relays and routes that aren't wanted. What is sent is put at the end of `out`. An allocation failure leaves `out` as it was; `router` may then
 /// only be dropped.
 pub(crate) fn hear_frame<B: Bases>(
     router: &mut RouterState<B>,

@@ -17,7 +17,7 @@ use std::alloc::{AllocError, Global};
 use std::marker::Model;
 
 /// The bases of a router: its neighbourhood, its topology, and the messages seen before. Moments are in ticks of 1/8192 s. After
-/// want of memory the value may only be dropped.
+/// an allocation failure the value may only be dropped.
 pub struct InformationBases<B: Bases> {
     pub(crate) nhdp: Nhdp<B>,
     pub(crate) topology: Topology<B>,

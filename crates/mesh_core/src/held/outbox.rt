@@ -59,7 +59,7 @@ impl Outbox {
         self.frames.clear();
     }
 
-    /// Puts a frame at the end. Want of memory leaves the outbox as it was.
+    /// Puts a frame at the end. An allocation failure leaves the outbox as it was.
     pub(crate) fn send(&mut self, iface: usize, bytes: Bytes) -> Result<(), AllocError>
         ensures ok { OnOk result (self.new ≡ self.old ++ (record { iface = iface; bytes = bytes }) ∷ []) }
         ensures err { OnErr result (self.new ≡ self.old) }
@@ -68,7 +68,7 @@ impl Outbox {
         Ok(())
     }
 
-    /// Puts all frames of another outbox at the end. Want of memory leaves this one as it was.
+    /// Puts all frames of another outbox at the end. An allocation failure leaves this one as it was.
     pub(crate) fn put_all(&mut self, mut other: Outbox) -> Result<(), AllocError>
         ensures ok { OnOk result (self.new ≡ self.old ++ other) }
         ensures err { OnErr result (self.new ≡ self.old) }
@@ -77,7 +77,7 @@ impl Outbox {
         Ok(())
     }
 
-    /// Puts the octets at the end as one frame on each interface, in order. After want of memory some of them may stand there.
+    /// Puts the octets at the end as one frame on each interface, in order. After an allocation failure some of them may stand there.
     pub(crate) fn send_on_each(&mut self, count: usize, bytes: &[u8]) -> Result<(), AllocError>
         ensures ok { OnOk result (self.new ≡ self.old ++ on_each count bytes.now) }
     {

@@ -53,7 +53,7 @@ pub(crate) fn typed_messages(
     Ok(typed)
 }
 
-// A frame with a fault reads as that; want of memory stays that.
+// A frame with a fault reads as that; an allocation failure stays that.
 fn refused(fault: DecodeFault) -> Result<FrameContent, AllocError>
     ensures { (bytes : List ℕ) → IfRefused (λ refusal. FirstFault bytes refusal.place refusal.reason) fault → IfOk result (IsContentOf bytes) }
 {
@@ -72,7 +72,7 @@ fn messages_of(alloc: Global, decoded: Decoded) -> Result<FrameContent, AllocErr
     Ok(FrameContent::Packet(ReadPacket { typed, spans }))
 }
 
-/// Reads a frame (RFC 5444), and each of its messages (RFC 6130 and RFC 7181). Only want of memory refuses.
+/// Reads a frame (RFC 5444), and each of its messages (RFC 6130 and RFC 7181). Only an allocation failure refuses.
 pub(crate) fn read_content(alloc: Global, bytes: &[u8]) -> Result<FrameContent, AllocError>
     ensures octets { IfOk result (λ content. AreOctets bytes.now) }
     ensures content { IfOk result (IsContentOf bytes.now) }

@@ -45,7 +45,7 @@ impl Drop for TypedMessage {
     }
 }
 
-// A message that breaks a rule reads as that; want of memory stays that.
+// A message that breaks a rule reads as that; an allocation failure stays that.
 fn broken(fault: WireFault) -> Result<TypedMessage, AllocError>
     ensures { (message : MessageFields) → IfBroken (λ number net. IsReadAsBroken message number) fault → IfOk result (IsReadAs message) }
 {

@@ -28,7 +28,7 @@ impl Model for TypedFrame {
 }
 
 impl TypedFrame {
-    /// Reads a frame of these octets. Only want of memory refuses.
+    /// Reads a frame of these octets. Only an allocation failure refuses.
     pub fn new(alloc: Global, octets: Bytes) -> Result<TypedFrame, AllocError>
         ensures { IfOk result (λ frame. frame ≡ octets) }
     {

@@ -12,7 +12,7 @@ use std::alloc::{AllocError, Global};
 
 /// The HELLO that an interface sends: originator, validity and interval rounded up to time codes, willingness, and a row for each
 /// address of which something is to be said (RFC 6130, section 11, and RFC 7181, section 15.1). Two links, or two neighbours, have no
-/// address in common, and all addresses of a link are one neighbour's. Only want of memory refuses.
+/// address in common, and all addresses of a link are one neighbour's. Only an allocation failure refuses.
 pub fn make_hello<L: Table<LinkKey, Link>, N: Table<Addr4, Neighbour>, O: Table<Addr4, Lost>>(
     alloc: Global,
     basis: &HelloBasis<'_, L, N, O>,

@@ -10,7 +10,7 @@ use std::alloc::{AllocError, Global};
 use std::collections::BTreeSet;
 use std::marker::Model;
 
-/// The 2-hop tuples of one interface. After want of memory the set may only be dropped.
+/// The 2-hop tuples of one interface. After an allocation failure the set may only be dropped.
 #[derive(Drop)]
 pub struct TwoHopSet<T: PlacedTable<TwoHopKey, TwoHop>> {
     table: T,
@@ -33,7 +33,7 @@ impl<T: PlacedTable<TwoHopKey, TwoHop>> Model for TwoHopSet<T> {
     ghost invariant = { λ s. HasDistinctKeys two_hop_eq (T.content s.table) × KnowsLinks s.links (T.content s.table) };
 }
 
-// Makes the tuple of a key, and gives the one that was there before. Want of memory leaves the table unchanged; the links may then have
+// Makes the tuple of a key, and gives the one that was there before. An allocation failure leaves the table unchanged; the links may then have
 // the key's link all the same.
 fn put_tuple<T: PlacedTable<TwoHopKey, TwoHop>>(
     table: &mut T,
@@ -87,7 +87,7 @@ impl<T: PlacedTable<TwoHopKey, TwoHop>> TwoHopSet<T> {
 
     /// Makes the tuple of a link and an address, in place of the one that stood there: the metrics are the neighbour's, from
     /// and to the address (RFC 6130, section 12.6, and RFC 7181, section 15.3). Whether it stood with these metrics, so that its
-    /// moment alone changed. Want of memory leaves the set unchanged.
+    /// moment alone changed. An allocation failure leaves the set unchanged.
     pub fn renew(
         &mut self,
         link: LinkKey,

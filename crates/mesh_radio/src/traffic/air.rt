@@ -62,7 +62,7 @@ impl FramesInAir {
         }
     }
 
-    /// Puts a frame in the air behind all others. After 2^64 - 1 deliveries it gives up as for want of memory, which
+    /// Puts a frame in the air behind all others. After 2^64 - 1 deliveries it gives up as if an allocation had failed, which
     /// leaves everything as it was.
     pub fn put(&mut self, moment: u64, arc: usize, frame: Rc<TypedFrame>) -> Result<(), AllocError>
         ensures { OnOk result (self.new ≡ self.old ++ record { moment = moment; arc = arc; frame = frame.value } ∷ []) }

@@ -20,7 +20,7 @@ use mesh_expire::Bases;
 use std::alloc::{AllocError, Global};
 
 /// Whether a trace is that of a run of the emulated network of a scenario up to its end: yes exactly where it is whole, and else the first
-/// line that doesn't fit. After 2^64 - 1 events it gives up as for want of memory.
+/// line that doesn't fit. After 2^64 - 1 events it gives up as if an allocation had failed.
 pub fn replay<B: Bases>(
     alloc: Global,
     scenario: &Scenario,

@@ -13,10 +13,6 @@ use Rattle.mesh_run.specs.Turns.Turns.{heard_at, DoesEvent, tick_of, Position, R
 use Rattle.mesh_run.specs.Turns.Turns.CameToNothing.{Nothing, A_moment, An_ear}
 use Rattle.mesh_run.specs.Turns.Turns.RunsTurns.{Stays, Then_begins, Then_listens}
 
--- where nothing is put off
-pub kept_same : (until : ℕ) (state : State) → IsKeptOf until state state
-kept_same until state = record { same = refl; from_then = λ late. refl }
-
 -- The turns of whole states
 
 -- an event of what is kept of a router is one of the router

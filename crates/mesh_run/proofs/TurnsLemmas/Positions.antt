@@ -4,6 +4,7 @@ use Rattle.std.proofs.lemmas.List.{append-nil, length-append}
 use Rattle.std.proofs.lemmas.Bool.{le-leb, lt-leb}
 use Rattle.mesh_atoms.specs.declared.addr.Addr4.{Addr4}
 use Rattle.mesh_atoms.specs.State.{State}
+use Rattle.mesh_core.proofs.Kept.{kept_whole}
 use Rattle.mesh_io.specs.Airs.{Report}
 use Rattle.mesh_io.specs.Airs.Report.{Heard_frame, Heard_silence, Heard_fault}
 use Rattle.mesh_io.specs.Told.{TellsMore}
@@ -13,7 +14,6 @@ use Rattle.mesh_run.specs.Turns.Turns.{Position, RunsTurns, tick_of, moment_of, 
 use Rattle.mesh_run.specs.Turns.Turns.RunsTurns.{Stays, Then_begins, Then_listens}
 use Rattle.mesh_run.specs.Turns.Turns.CameToNothing.{A_moment, An_ear}
 use Rattle.mesh_run.specs.Turns.Parts.{KeepsEvent, Acts, HearsInterface, HearsInVain, Going, Broken, Turning, Stopped, at, counted}
-use Rattle.mesh_run.proofs.TurnsLemmas.Kept.{kept_same}
 use Rattle.mesh_run.proofs.TurnsLemmas.Tellings.{tells_nothing, tells_more, counted_nothing, counted_more}
 
 -- What an interface hears
@@ -48,7 +48,7 @@ hears_silence end now iface s a b t told = record {
   reports = [];
   tells = told;
   heard = refl;
-  does = (s, (refl, refl), kept_same end s);
+  does = (s, (refl, refl), kept_whole end s);
   counts = rw (zero_more t.heard, zero_more t.sent, zero_more t.faults) refl;
 }
 
@@ -59,7 +59,7 @@ hears_fault end now iface s a b t f more told = record {
   reports = [];
   tells = told;
   heard = refl;
-  does = (s, (refl, refl), kept_same end s);
+  does = (s, (refl, refl), kept_whole end s);
   counts = rw (more, zero_more t.heard, zero_more t.sent) refl;
 }
 
@@ -151,7 +151,7 @@ acts_nothing end now s a t early before =
     record {
       reports = [];
       tells = tells_nothing a;
-      does = subst (λ (event : Option Event). KeepsEvent end s event [] s) (sym none) (s, (refl, refl), kept_same end s);
+      does = subst (λ (event : Option Event). KeepsEvent end s event [] s) (sym none) (s, (refl, refl), kept_whole end s);
       counts = counted_nothing t;
     }
 
@@ -204,7 +204,7 @@ turn_goes end count last now told g old mid new clock clock' a b c t u v h lt k 
     (going_more end count (at old last count) (at mid now 0) (at new now count) (told ∷ []) [] a b c t u v
     (begun end count last now told g old mid clock clock' a b t u 0 h (rw (lt-leb end now lt) refl)) k)
 
--- a turn whose tick want of memory stops
+-- a turn whose tick an allocation failure stops
 pub turn_stops : (end count last told : ℕ) (old : State) (clock clock' : Option (List ℕ)) (a b : Option (List Report)) →
     TellsMore clock clock' (told ∷ []) → TellsMore a b [] → Stopped 1 end count (at old last count) clock clock' a b
 turn_stops end count last told old clock clock' a b tells silent = record {
@@ -224,7 +224,7 @@ turn_stops end count last told old clock clock' a b tells silent = record {
   };
 }
 
--- a turn that want of memory stops while an interface is heard
+-- a turn that an allocation failure stops while an interface is heard
 pub turn_breaks : (end count last now told g : ℕ) (old mid : State) (clock clock' : Option (List ℕ)) (a b c : Option (List Report)) (t u : Tally) →
     Begun end last now told g old mid clock clock' a b t u → now < end → Broken end count (at mid now 0) [] b c →
     Stopped 1 end count (at old last count) clock clock' a c

@@ -5,6 +5,7 @@ use Rattle.std.proofs.lemmas.List.{append-nil}
 use Rattle.mesh_atoms.specs.declared.settings.RunSetup.{RunSetup}
 use Rattle.mesh_atoms.specs.State.{State}
 use Rattle.mesh_core.specs.Deferred.{IsKeptOf}
+use Rattle.mesh_core.proofs.Kept.{kept_whole}
 use Rattle.mesh_io.specs.Airs.{Report}
 use Rattle.mesh_texts.specs.machine.Machine.{IsOpening}
 use Rattle.mesh_run.specs.declared.turns.tally.Ended.{Ended}
@@ -13,7 +14,7 @@ use Rattle.mesh_run.specs.Turns.Turns.{moment_of, greatest_of, is_heard, is_sent
 use Rattle.mesh_run.specs.Turns.Turns.RunsTurns.{Stays}
 use Rattle.mesh_run.specs.Turns.Turns.CameToNothing.{Nothing}
 use Rattle.mesh_run.specs.Turns.Parts.{Turning, Stopped, at, counted}
-use Rattle.mesh_run.proofs.TurnsLemmas.Kept.{kept_same, whole_turns, lost_whole}
+use Rattle.mesh_run.proofs.TurnsLemmas.Kept.{whole_turns, lost_whole}
 use Rattle.mesh_run.proofs.TurnsLemmas.Tellings.{tells_nothing}
 
 -- counts from nothing on
@@ -38,7 +39,7 @@ pub does_turns : (setup : RunSetup) (old new : State) (n g : ℕ) (k l : Option 
     Turning setup.end (length setup.ports) (at old 0 (length setup.ports)) (at new (moment_of 0 g) (length setup.ports)) n 0 g k l a b no_tally u →
     (whole : State) × DoesTurns setup whole (record { turns = n; greatest = g; tally = u }) k l a b × IsKeptOf setup.end whole new
 does_turns setup old new n g k l a b u opening t =
-    let (whole, goes, kept) = whole_turns setup.end (length setup.ports) (at old 0 (length setup.ports)) old (kept_same setup.end old)
+    let (whole, goes, kept) = whole_turns setup.end (length setup.ports) (at old 0 (length setup.ports)) old (kept_whole setup.end old)
     t.moments t.going.reports (at new (moment_of 0 g) (length setup.ports)) t.going.goes in (
       whole,
       record {
@@ -55,7 +56,7 @@ does_turns setup old new n g k l a b u opening t =
 pub stops_turns : (setup : RunSetup) (most : ℕ) (old : State) (k l : Option (List ℕ)) (a b : Option (List Report)) →
     IsOpening setup.router old → Stopped most setup.end (length setup.ports) (at old 0 (length setup.ports)) k l a b → StopsTurns setup most k l a b
 stops_turns setup most old k l a b opening s =
-    let (whole, goes, kept) = whole_turns setup.end (length setup.ports) (at old 0 (length setup.ports)) old (kept_same setup.end old)
+    let (whole, goes, kept) = whole_turns setup.end (length setup.ports) (at old 0 (length setup.ports)) old (kept_whole setup.end old)
     s.broken.first_moments s.broken.first_reports s.broken.position s.broken.goes in
     record {
       moments = s.moments;

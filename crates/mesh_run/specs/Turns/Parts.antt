@@ -83,7 +83,7 @@ pub record Going (end count : ℕ) (start stop : Position) (moments : List ℕ) 
   pub goes : RunsTurns (KeepsEvent end) end count start moments reports stop
   pub counts : tally' ≡ counted tally reports
 
--- from a position on by the first of these moments, where want of memory stopped it
+-- from a position on by the first of these moments, where an allocation failure stopped it
 pub record Broken (end count : ℕ) (start : Position) (moments : List ℕ) (log log' : Option (List Report)) : Type 0 where
   pub first_moments : List ℕ
   pub first_reports : List Report
@@ -104,7 +104,7 @@ pub record Turning (end count : ℕ) (start stop : Position) (turns before after
   pub greatest_is : after ≡ max before (greatest_of moments)
   pub going : Going end count start stop moments log log' tally tally'
 
--- turns, at most so many with the one that want of memory stopped
+-- turns, at most so many with the one that an allocation failure stopped
 pub record Stopped (most end count : ℕ) (start : Position) (clock clock' : Option (List ℕ)) (log log' : Option (List Report)) :
     Type 0 where
   pub moments : List ℕ

@@ -191,7 +191,7 @@ pub record DoesTurns (setup : RunSetup) (state : State) (ended : Ended) (clock c
   pub turns : Turns setup moments reports (moment_of 0 ended.greatest) state
   pub ended_is : ended ≡ ended_by moments reports
 
--- the same, where want of memory stopped it in one of at most so many turns, or behind them
+-- the same, where an allocation failure stopped it in one of at most so many turns, or behind them
 pub record StopsTurns (setup : RunSetup) (most : ℕ) (clock clock' : Option (List ℕ)) (air air' : Option (List Report)) : Type 0 where
   pub moments : List ℕ
   pub reports : List Report

@@ -8,12 +8,12 @@ ghost use Rattle.mesh_run.specs.Turns.Turns.{tick_of};
 use crate::turns::hand::{hand_over, has_room};
 use crate::turns::moment::TurnMoment;
 use crate::turns::tally::Tally;
-use mesh_core::{Arrival, NetworkRouter, Outbox, TypedFrame};
+use mesh_core::{Arrival, DeferringRouter, Outbox, TypedFrame};
 use mesh_io::Air;
 use std::alloc::AllocError;
 
 // The clock of the router ticks. Routes may be put off up to the end.
-fn tick<M: NetworkRouter, A: Air>(
+fn tick<M: DeferringRouter, A: Air>(
     router: &mut M,
     end: u64,
     now: u64,
@@ -38,7 +38,7 @@ fn tick<M: NetworkRouter, A: Air>(
 
 /// The clock of the router ticks: at the end, where the end has come; else at the moment, where the router is due. What the router
 /// sends is handed over.
-pub fn tick_due<M: NetworkRouter, A: Air>(
+pub fn tick_due<M: DeferringRouter, A: Air>(
     router: &mut M,
     moment: TurnMoment,
     out: &mut Outbox,
@@ -65,7 +65,7 @@ pub fn tick_due<M: NetworkRouter, A: Air>(
 }
 
 /// The router hears a frame, and what it sends is handed over. Relays and routes may be put off up to the end.
-pub fn hear<M: NetworkRouter, A: Air>(
+pub fn hear<M: DeferringRouter, A: Air>(
     router: &mut M,
     end: u64,
     arrival: Arrival,

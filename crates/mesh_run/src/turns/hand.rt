@@ -57,7 +57,7 @@ pub fn hand_over<A: Air>(air: &mut A, out: &Outbox, tally: &mut Tally)
     }
 }
 
-/// Whether so many frames can still be counted; want of memory where they can't.
+/// Whether so many frames can still be counted; an allocation failure where they can't.
 pub fn has_room(tally: &Tally, count: usize) -> Result<(), AllocError>
     ensures sent { OnOk result (tally.now.sent + count < 2 ^ 64) }
     ensures faults { OnOk result (tally.now.faults + count < 2 ^ 64) }

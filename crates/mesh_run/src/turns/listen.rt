@@ -8,11 +8,11 @@ use crate::turns::events::hear;
 use crate::turns::moment::TurnMoment;
 use crate::turns::tally::Tally;
 use mesh_atoms::Bytes;
-use mesh_core::{Arrival, NetworkRouter, TypedFrame};
+use mesh_core::{Arrival, DeferringRouter, TypedFrame};
 use mesh_io::{Air, Ear};
 use std::alloc::{AllocError, Global};
 
-// One more; want of memory at the end of the count.
+// One more; an allocation failure at the end of the count.
 fn one_more(count: u64) -> Result<u64, AllocError>
     ensures { IfOk result (λ more. more ≡ count + 1) }
 {
@@ -22,7 +22,7 @@ fn one_more(count: u64) -> Result<u64, AllocError>
     Ok(count + 1)
 }
 
-// A frame of these octets, read. Only want of memory refuses.
+// A frame of these octets, read. Only an allocation failure refuses.
 fn read_frame(alloc: Global, octets: &[u8]) -> Result<TypedFrame, AllocError>
     ensures { IfOk result (λ frame. frame ≡ octets.now) }
 {
@@ -32,7 +32,7 @@ fn read_frame(alloc: Global, octets: &[u8]) -> Result<TypedFrame, AllocError>
 }
 
 // Hears an interface once; a frame is an event of the router.
-fn listen<M: NetworkRouter, A: Air>(
+fn listen<M: DeferringRouter, A: Air>(
     router: &mut M,
     moment: TurnMoment,
     iface: usize,
@@ -82,7 +82,7 @@ fn listen<M: NetworkRouter, A: Air>(
 }
 
 /// Hears each interface once, in order of their numbers, at the moment of a turn. A frame is read before the router hears it.
-pub fn listen_all<M: NetworkRouter, A: Air>(
+pub fn listen_all<M: DeferringRouter, A: Air>(
     router: &mut M,
     moment: TurnMoment,
     count: usize,

@@ -10,7 +10,7 @@ use crate::turns::listen::listen_all;
 use crate::turns::moment::TurnMoment;
 use crate::turns::tally::Tally;
 use mesh_atoms::RunSetup;
-use mesh_core::NetworkRouter;
+use mesh_core::DeferringRouter;
 use mesh_io::{Air, Clock};
 use std::alloc::AllocError;
 
@@ -20,7 +20,7 @@ const LAST_MOMENT: u64 = 4_611_686_018_427_387_903;
 /// One turn: the clock tells a moment, the router ticks where it is due, and each interface is heard once; at the end none is.
 /// The answer is the greatest moment told, in ticks. `greatest` is that of the turns before, which is before the end. Routes are put off
 /// up to the end.
-pub fn turn<M: NetworkRouter, A: Air, C: Clock>(
+pub fn turn<M: DeferringRouter, A: Air, C: Clock>(
     router: &mut M,
     setup: &RunSetup,
     greatest: u64,

@@ -10,7 +10,7 @@ use crate::turns::buffers::Buffers;
 use crate::turns::tally::{Ended, Tally};
 use crate::turns::turn::turn;
 use mesh_atoms::{LONGEST_DATAGRAM, RunSetup};
-use mesh_core::{NetworkRouter, Outbox};
+use mesh_core::{DeferringRouter, Outbox};
 use mesh_io::{Air, Clock};
 use std::alloc::{AllocError, Global};
 
@@ -22,7 +22,7 @@ struct StopPoint {
 }
 
 // At most so many turns, up to the first at or behind the end.
-fn turn_on<M: NetworkRouter, A: Air, C: Clock>(
+fn turn_on<M: DeferringRouter, A: Air, C: Clock>(
     router: &mut M,
     setup: &RunSetup,
     most: u32,
@@ -64,7 +64,7 @@ fn turn_on<M: NetworkRouter, A: Air, C: Clock>(
 /// moment is at or above the setup's end. In a turn the clock is asked, the router ticks where it is due, and each interface is heard
 /// once, in order; what the router sends is handed over at once. The router may put routes off up to the end, and relays up to its next
 /// tick; at the end it has those of its bases.
-pub fn do_turns<M: NetworkRouter, A: Air, C: Clock>(
+pub fn do_turns<M: DeferringRouter, A: Air, C: Clock>(
     alloc: Global,
     router: &mut M,
     setup: &RunSetup,

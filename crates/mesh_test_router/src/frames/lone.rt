@@ -217,7 +217,7 @@ pub(crate) static CASES: [Case; 4] = [
 
 /// Over tables that hold nothing.
 pub(crate) const SPENT: Case = (
-    "want of memory spends a router",
+    "an allocation failure spends a router",
     Run::Frames(
         TWO_ROUTERS,
         &[

@@ -202,7 +202,7 @@ fn put_piece(out: &mut Bytes, piece: Piece) -> Result<(), AllocError>
     }
 }
 
-/// Puts pieces one behind the other. Want of memory leaves a part of them behind what was there.
+/// Puts pieces one behind the other. An allocation failure leaves a part of them behind what was there.
 pub fn put_all(out: &mut Bytes, pieces: &[Piece]) -> Result<(), AllocError>
     ensures ok { OnOk result (out.new ≡ out.old ++ flat_map piece_text pieces.now) }
     ensures kept { Grows out.old out.new }
@@ -213,7 +213,7 @@ pub fn put_all(out: &mut Bytes, pieces: &[Piece]) -> Result<(), AllocError>
     Ok(())
 }
 
-/// Puts a line of these pieces. Want of memory leaves a part of it behind what was there.
+/// Puts a line of these pieces. An allocation failure leaves a part of it behind what was there.
 pub fn put_line(out: &mut Bytes, pieces: &[Piece]) -> Result<(), AllocError>
     ensures ok { OnOk result (out.new ≡ out.old ++ line_of (map piece_text pieces.now)) }
     ensures kept { Grows out.old out.new }

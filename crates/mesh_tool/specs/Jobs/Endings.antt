@@ -18,7 +18,7 @@ use Rattle.mesh_tool.specs.Words.Words.{words_of}
 abbrev pub IsNotLonger : ℕ → SourceUse → Type 0
 IsNotLonger most input = input.taken' ≡ input.taken + (most + 1) → ⊥
 
--- why an input of at most so many octets wasn't read whole: a fault of the source, an octet too many, or want of memory
+-- why an input of at most so many octets wasn't read whole: a fault of the source, an octet too many, or an allocation failure
 abbrev pub StopsReading : ℕ → SourceUse → Ending → Type 0
 StopsReading most input ending.Read = Rose input.faults input.faults' × IsNotLonger most input
 StopsReading most input ending.TooLong = IsInputTooLong most input

@@ -14,7 +14,7 @@ use mesh_run::turns_are_runs;
 use std::alloc::Global;
 
 /// All that the program does, with routers over these bases: it reads the words, then the input, and writes the text of the job on
-/// `out` and the line of a fault on `err`; a router is run over the air, which has no interface yet, and the clock. Want of memory
+/// `out` and the line of a fault on `err`; a router is run over the air, which has no interface yet, and the clock. An allocation failure
 /// may be answered in place of each other status but that of wrong words and of an input of which one octet more than its job takes
 /// was taken, and a failed write of a fault's line in place of that fault's status.
 pub fn top_over<B: Bases, S: Source, O: Sink, E: Sink, A: Air, C: Clock>(

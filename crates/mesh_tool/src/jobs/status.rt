@@ -4,7 +4,7 @@ ghost use Rattle.mesh_tool.specs.Jobs.Status.{code_of};
 
 /// How the program ended: the whole text was written; the words are no command line; a read or a write failed; the input
 /// was refused; the whole listing was written, and a line of it says a refusal; an interface couldn't be attached; all turns were
-/// done, and the end didn't come; want of memory; the whole text was written, and it says that a trace is none of a run.
+/// done, and the end didn't come; an allocation failure; the whole text was written, and it says that a trace is none of a run.
 #[derive(Clone, Copy)]
 pub enum Status {
     Done,

@@ -32,7 +32,7 @@ pub(crate) struct Offer {
 
 /// The rows by these selectors and attached networks, which must be distinct: each address and originator of a selector,
 /// at the least metric of the selectors that have it; and each network that is no such address, with its distance and
-/// metric. Rows are in ascending order. Refuses for want of memory alone. Takes time
+/// metric. Rows are in ascending order. Refuses only where an allocation fails. Takes time
 /// n log n for n addresses and networks.
 pub fn tc_rows(
     alloc: Global,

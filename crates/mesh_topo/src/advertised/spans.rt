@@ -15,7 +15,7 @@ pub struct PartSpan {
 }
 
 /// So many rows cut into runs of `most`, which must be above 0, in order. The last run is shorter where it must be; of no rows
-/// there is one run, which is empty. Refuses for want of memory alone.
+/// there is one run, which is empty. Refuses only where an allocation fails.
 pub fn parts(alloc: Global, rows: usize, most: usize) -> Result<Seq<PartSpan>, AllocError>
     requires { 0 < most }
     ensures spans { IfOk result (AreSpans rows most) }

@@ -84,7 +84,7 @@ impl<K: Key + Ord + Drop, V: TopologyTuple<K>, T: Table<K, V>> KeyedSet<K, V, T>
     }
 
     /// Takes the rows of a TC: they make or renew tuples until that moment. If the TC is complete, each other tuple of its
-    /// originator with another number goes. Whether what the tuples say may have changed. After want of memory the set
+    /// originator with another number goes. Whether what the tuples say may have changed. After an allocation failure the set
     /// may only be dropped.
     pub fn take_rows(&mut self, tc: &Tc, until: u64) -> Result<bool, AllocError>
         ensures becomes { OnOk result (BecomesSet K.eq tc.now until V.origin V.number (GivenBy V.given tc.now) self.old self.new) }

@@ -179,7 +179,7 @@ fn is_hello(
 }
 
 /// Whether octets may be sent for a HELLO (RFC 6130, section 10, and RFC 7181, section 15): a packet of one message alone, which reads as
-/// the HELLO, has nothing that the reading ignores, and each of whose address blocks is in the fewest octets. Want of memory is the only
+/// the HELLO, has nothing that the reading ignores, and each of whose address blocks is in the fewest octets. An allocation failure is the only
 /// fault.
 pub fn spells_hello(alloc: Global, hello: &Hello, bytes: &[u8]) -> Result<bool, AllocError>
     ensures { IfOk result (λ yes. IsTrue yes ↔ WritesHello hello.now bytes.now) }

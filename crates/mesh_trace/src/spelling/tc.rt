@@ -177,7 +177,7 @@ fn is_tc(
 
 /// Whether octets may be sent for a TC with that hop limit and that value of VALIDITY_TIME (RFC 7181, section 16): a packet of one message
 /// alone, which has come no hop, reads as the TC, has nothing that the reading ignores, and each of whose address blocks is in the
-/// fewest octets. Want of memory is the only fault.
+/// fewest octets. An allocation failure is the only fault.
 pub fn spells_tc(
     alloc: Global,
     tc: &Tc,

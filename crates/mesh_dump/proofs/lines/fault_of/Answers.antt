@@ -7,7 +7,7 @@ use Rattle.mesh_dump.specs.Lines.{IsNotHex}
 use Rattle.mesh_dump.proofs.Hex.{other_digit, odd_text, never_length}
 use Rattle.mesh_dump.proofs.lines.fault_of.Goals as goal
 
--- a fault that isn't want of memory is that of decoding
+-- a fault that isn't an allocation failure is that of decoding
 decoded : (text : List ℕ) (e f : FromHexError) → (e ≡ OutOfMemory) ⊎ (decode_of text ≡ Err e) → e ≡ f → (f ≡ OutOfMemory → ⊥) → decode_of text ≡ Err f
 decoded text e f (inl full) is apart = absurd (apart (sym is ∙ full))
 decoded text e f (inr h) is apart = h ∙ ap (λ (x : FromHexError). Err x) is

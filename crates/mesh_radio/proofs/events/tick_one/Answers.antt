@@ -3,7 +3,7 @@ use Rattle.mesh_radio.proofs.Standing.{router_at, may_send}
 use Rattle.mesh_radio.proofs.events.tick_one.Goals as goal
 
 pub tick-requires-clause-stands : goal.tick-requires-clause-stands
-tick-requires-clause-stands g c = router_at c.args.scene.now.scenario c.args.now (map g.R.NetworkRouter.state c.args.routers.now.items) c.args.router c.requires.routers c.requires.router
+tick-requires-clause-stands g c = router_at c.args.scene.now.scenario c.args.now (map g.R.DeferringRouter.state c.args.routers.now.items) c.args.router c.requires.routers c.requires.router
 
 pub send_all-requires-clause-ways : goal.send_all-requires-clause-ways
 send_all-requires-clause-ways g c = c.requires.ways

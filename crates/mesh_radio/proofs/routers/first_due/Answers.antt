@@ -10,14 +10,14 @@ use Rattle.mesh_radio.proofs.routers.first_due.Goals.{then-moment-first, else-mo
 
 pub loop-router-init : goal.loop-router-init
 loop-router-init g c =
-    let state = g.R.NetworkRouter.state in
+    let state = g.R.DeferringRouter.state in
     let routers = c.args.routers.now.items in
     let one = c.index.result.now in
     rw c.due_next.ensures (very_first (map state routers) (state one) (mapped_at state routers 0 one (slice_get_read routers (length routers) 0 one refl c.requires c.index.ensures)))
 
 pub loop-router-preserved : goal.loop-router-preserved
 loop-router-preserved g c =
-    let state = g.R.NetworkRouter.state in
+    let state = g.R.DeferringRouter.state in
     let routers = c.args.routers.now.items in
     let states : List State = map state routers in
     let at : slice_get states c.loop-router.router ≡ Some (state c.one-item.result) =
@@ -30,4 +30,4 @@ loop-router-preserved g c =
 
 pub returns : goal.returns
 returns g c =
-    first_of_all (map g.R.NetworkRouter.state c.args.routers.now.items) c.loop-router.router _ _ (rw (length-map c.args.routers.now.items g.R.NetworkRouter.state, ← c.deref-one-items.ensures.value) c.loop-router-test.false) c.loop-router.invariant
+    first_of_all (map g.R.DeferringRouter.state c.args.routers.now.items) c.loop-router.router _ _ (rw (length-map c.args.routers.now.items g.R.DeferringRouter.state, ← c.deref-one-items.ensures.value) c.loop-router-test.false) c.loop-router.invariant

@@ -3,4 +3,4 @@ use Rattle.mesh_machine.proofs.FirstDue.{IsFirstOf}
 use Rattle.mesh_radio.proofs.routers.first_due.Given as goal
 
 abbrev pub invariant-loop-router : goal.invariant-loop-router
-invariant-loop-router g l = IsFirstOf (map g.R.NetworkRouter.state l.routers.items) l.router l.first.router l.first.moment
+invariant-loop-router g l = IsFirstOf (map g.R.DeferringRouter.state l.routers.items) l.router l.first.router l.first.moment

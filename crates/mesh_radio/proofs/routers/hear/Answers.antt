@@ -12,18 +12,18 @@ hear_until-requires-clause-now g c = c.requires.early
 pub hear_until-requires-clause-later : goal.hear_until-requires-clause-later
 hear_until-requires-clause-later g c =
     let (was, at, late, less) = c.requires.stands in
-    subst (λ (q : State). q.last ≤ c.args.landed.now.moment) (its_state g.R.NetworkRouter.state c.args.routers.now.items c.args.arc.now.to was at c.index_mut-router.result.now c.index_mut-router.ensures.value) late
+    subst (λ (q : State). q.last ≤ c.args.landed.now.moment) (its_state g.R.DeferringRouter.state c.args.routers.now.items c.args.arc.now.to was at c.index_mut-router.result.now c.index_mut-router.ensures.value) late
 
 pub hear_until-requires-clause-iface : goal.hear_until-requires-clause-iface
 hear_until-requires-clause-iface g c =
     let (was, at, late, less) = c.requires.stands in
     subst (λ (q : State). c.args.arc.now.to_iface < length q.settings.interfaces)
-    (its_state g.R.NetworkRouter.state c.args.routers.now.items c.args.arc.now.to was at c.index_mut-router.result.now c.index_mut-router.ensures.value) less
+    (its_state g.R.DeferringRouter.state c.args.routers.now.items c.args.arc.now.to was at c.index_mut-router.result.now c.index_mut-router.ensures.value) less
 
 pub returns : goal.returns
 returns g c =
     let (was, at, late, less) = c.requires.stands in
-    let state = g.R.NetworkRouter.state in
+    let state = g.R.DeferringRouter.state in
     let x = c.args.arc.now.to in
     let routers = c.args.routers.now.items in
     let heard = c.hear_until.ensures in

@@ -16,7 +16,7 @@ pub land-requires-clause-routers : goal.land-requires-clause-routers
 land-requires-clause-routers g c =
     let s = c.args.scene.now in
     let flies = (first_and_others (IsFlying s.scenario s.now) s.traffic.air (delivery_of c.in-Some.landed) c.take.new.self c.in-Some.ensures.first c.requires.sound.flying).0 in
-    later_routers s.scenario s.now c.in-Some.landed.moment (map g.R.NetworkRouter.state c.args.routers.now.items) flies.later c.requires.sound.are_routers
+    later_routers s.scenario s.now c.in-Some.landed.moment (map g.R.DeferringRouter.state c.args.routers.now.items) flies.later c.requires.sound.are_routers
 
 pub land-requires-clause-seed : goal.land-requires-clause-seed
 land-requires-clause-seed g c = c.requires.sound.seed
@@ -29,7 +29,7 @@ land-requires-clause-arc g c =
 pub returns : goal.returns
 returns g c =
     let s = c.args.scene.now in
-    let state = g.R.NetworkRouter.state in
+    let state = g.R.DeferringRouter.state in
     let d = delivery_of c.in-Some.landed in
     let soon : d.moment ≤ min s.due.moment s.scenario.end = rw (← c.min-limit.ensures) c.in-Some.ensures.limit in
     let old = map state c.args.routers.now.items in

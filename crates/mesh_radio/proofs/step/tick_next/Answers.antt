@@ -14,7 +14,7 @@ tick_one-requires-clause-ways g c = c.requires.sound.ways
 pub tick_one-requires-clause-routers : goal.tick_one-requires-clause-routers
 tick_one-requires-clause-routers g c =
     let s = c.args.scene.now in
-    let old = map g.R.NetworkRouter.state c.args.routers.now.items in
+    let old = map g.R.DeferringRouter.state c.args.routers.now.items in
     later_routers s.scenario s.now c.in-Some.tick.moment old (tick_later s old c.requires.sound c.requires.quiet c.in-Some.tick c.in-Some.ensures) c.requires.sound.are_routers
 
 pub tick_one-requires-clause-seed : goal.tick_one-requires-clause-seed
@@ -23,17 +23,17 @@ tick_one-requires-clause-seed g c = c.requires.sound.seed
 pub tick_one-requires-clause-early : goal.tick_one-requires-clause-early
 tick_one-requires-clause-early g c =
     let s = c.args.scene.now in
-    let in_time = tick_in_time s (map g.R.NetworkRouter.state c.args.routers.now.items) c.requires.sound c.requires.quiet c.in-Some.tick c.in-Some.ensures in
+    let in_time = tick_in_time s (map g.R.DeferringRouter.state c.args.routers.now.items) c.requires.sound c.requires.quiet c.in-Some.tick c.in-Some.ensures in
     let most = s.scenario.end_in_range.most in
     omega (arith, in_time, most)
 
 pub tick_one-requires-clause-router : goal.tick_one-requires-clause-router
 tick_one-requires-clause-router g c =
-    tick_within c.args.scene.now (map g.R.NetworkRouter.state c.args.routers.now.items) c.requires.sound c.requires.quiet c.in-Some.tick c.in-Some.ensures
+    tick_within c.args.scene.now (map g.R.DeferringRouter.state c.args.routers.now.items) c.requires.sound c.requires.quiet c.in-Some.tick c.in-Some.ensures
 
 pub returns : goal.returns
 returns g c =
-    let state = g.R.NetworkRouter.state in
+    let state = g.R.DeferringRouter.state in
     let s = c.args.scene.now in
     let old = map state c.args.routers.now.items in
     let new = map state c.tick_one.new.routers.items in
@@ -45,11 +45,11 @@ returns g c =
     (ticks_next s old c.requires.sound c.requires.quiet c.args.until new event after.outbox after.traffic due tick c.in-Some.ensures c.in_ok-event.ensures.ticks c.in_ok-event.ensures.seed c.first_due-scene.ensures)
 
 pub returns-in_default : goal.returns-in_default
-returns-in_default g c = nothing_left c.args.scene.now (map g.R.NetworkRouter.state c.args.routers.now.items) c.requires.sound c.requires.quiet c.in_default.ensures
+returns-in_default g c = nothing_left c.args.scene.now (map g.R.DeferringRouter.state c.args.routers.now.items) c.requires.sound c.requires.quiet c.in_default.ensures
 
 pub first_due-scene-requires : goal.first_due-scene-requires
 first_due-scene-requires g c =
-    let state = g.R.NetworkRouter.state in
+    let state = g.R.DeferringRouter.state in
     let first = c.requires.sound.due in
     let same = same_count c.in_ok-event.ensures.ticks.stepped in
     let below = slice_get_within (map state c.args.routers.now.items) c.args.scene.now.due.router first.state first.stands in

@@ -18,13 +18,13 @@ pub into_whole-whole-requires : goal.into_whole-whole-requires
 into_whole-whole-requires g c =
     sound_left c.args.setup.now c.args.turns c.in-Ok.ensures.done.0 c.in-Ok.ended (g.C.Clock.moments c.args.clock.now) (g.C.Clock.moments c.do_turns.new.clock)
     (g.A.Air.reports c.args.air.now) (g.A.Air.reports c.do_turns.new.air) c.in-Ok.ensures.done.1 c.if-ended-setup.false
-    (g.M.NetworkRouter.state c.do_turns.new.router) c.in-Ok.ensures.done.2
+    (g.M.DeferringRouter.state c.do_turns.new.router) c.in-Ok.ensures.done.2
 
 pub tell_report-requires : goal.tell_report-requires
 tell_report-requires g c = subst Sound (sym c.into_whole-whole.ensures)
     (sound_left c.args.setup.now c.args.turns c.in-Ok.ensures.done.0 c.in-Ok.ended (g.C.Clock.moments c.args.clock.now) (g.C.Clock.moments c.do_turns.new.clock)
     (g.A.Air.reports c.args.air.now) (g.A.Air.reports c.do_turns.new.air) c.in-Ok.ensures.done.1 c.if-ended-setup.false
-    (g.M.NetworkRouter.state c.do_turns.new.router) c.in-Ok.ensures.done.2)
+    (g.M.DeferringRouter.state c.do_turns.new.router) c.in-Ok.ensures.done.2)
 
 pub returns-in-Ok-tell_report-clause-ends : goal.returns-in-Ok-tell_report-clause-ends
 returns-in-Ok-tell_report-clause-ends g c =

@@ -5,7 +5,7 @@ use Rattle.mesh_machine.specs.declared.frame.Frame.{Frame}
 use Rattle.mesh_machine.specs.Machine.{Tick, Step}
 use Rattle.mesh_machine.specs.Sendable.{IsSendable}
 use Rattle.mesh_core.proofs.Emptied.{alone}
-use Rattle.mesh_core.proofs.machine.CoreMachine.tick_at.Goals as goal
+use Rattle.mesh_core.proofs.router_core.CoreRouterCore.tick_at.Goals as goal
 
 pub tick-requires-clause-now : goal.tick-requires-clause-now
 tick-requires-clause-now g c = c.requires.now

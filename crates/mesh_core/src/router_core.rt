@@ -12,8 +12,8 @@ use mesh_machine::{Arrival, Heard, RouterView};
 use std::alloc::{AllocError, Global};
 
 /// A router that runs: each event is one step of its machine. What lets routers run needs no more than this, and knows nothing of
-/// tables. After want of memory a router may only be dropped.
-pub trait Machine: RouterView + Sized + Drop {
+/// tables. After an allocation failure a router may only be dropped.
+pub trait RouterCore: RouterView + Sized + Drop {
     /// A router with these settings before its first event.
     fn make(alloc: Global, settings: RouterSettings) -> Result<Self, AllocError>
         ensures opening { IfOk result (λ router. IsOpening settings (Self.state router)) };
@@ -59,7 +59,7 @@ pub(crate) fn without_answer(came: Result<Heard, AllocError>) -> Result<(), Allo
     Ok(())
 }
 
-impl<B: Bases> Machine for Core<B> {
+impl<B: Bases> RouterCore for Core<B> {
     fn make(alloc: Global, settings: RouterSettings) -> Result<Core<B>, AllocError> {
         Core::new(alloc, settings)
     }

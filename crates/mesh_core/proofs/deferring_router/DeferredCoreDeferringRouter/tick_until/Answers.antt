@@ -2,7 +2,7 @@ use Rattle.std.proofs.Common.{refl}
 use Rattle.std.proofs.lemmas.Bool.{le-leb}
 use Rattle.mesh_core.proofs.Spent.{where_whole}
 use Rattle.mesh_core.proofs.Until.{tick_until}
-use Rattle.mesh_core.proofs.network_router.DeferredCoreNetworkRouter.tick_until.Goals as goal
+use Rattle.mesh_core.proofs.deferring_router.DeferredCoreDeferringRouter.tick_until.Goals as goal
 
 pub tick-came-requires-clause-now : goal.tick-came-requires-clause-now
 tick-came-requires-clause-now g c = c.requires.now

@@ -5,7 +5,7 @@ use Rattle.mesh_core.specs.Holding.{CoreValue}
 use Rattle.mesh_core.proofs.EventLemmas.Wholes.{current_of, sound_but}
 use Rattle.mesh_core.proofs.Spent.{where_unanswered, where_whole}
 use Rattle.mesh_core.proofs.Until.{hear_until, sound_whole, step_whole}
-use Rattle.mesh_core.proofs.machine.CoreMachine.hear_frame.Goals as goal
+use Rattle.mesh_core.proofs.router_core.CoreRouterCore.hear_frame.Goals as goal
 
 pub hear_frame-came-requires-clause-now : goal.hear_frame-came-requires-clause-now
 hear_frame-came-requires-clause-now g c = c.requires.now

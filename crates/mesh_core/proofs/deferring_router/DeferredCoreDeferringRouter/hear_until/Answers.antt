@@ -3,7 +3,7 @@ use Rattle.std.proofs.lemmas.Bool.{le-leb}
 use Rattle.mesh_core.specs.Holding.{CoreValue}
 use Rattle.mesh_core.proofs.Spent.{where_unanswered, where_whole}
 use Rattle.mesh_core.proofs.Until.{hear_until}
-use Rattle.mesh_core.proofs.network_router.DeferredCoreNetworkRouter.hear_until.Goals as goal
+use Rattle.mesh_core.proofs.deferring_router.DeferredCoreDeferringRouter.hear_until.Goals as goal
 
 pub hear_typed-came-requires-clause-now : goal.hear_typed-came-requires-clause-now
 hear_typed-came-requires-clause-now g c = c.requires.now

@@ -5,7 +5,7 @@ use Rattle.mesh_core.specs.Holding.{CoreValue}
 use Rattle.mesh_core.proofs.EventLemmas.Wholes.{current_of, sound_but}
 use Rattle.mesh_core.proofs.Spent.{where_unanswered, where_whole}
 use Rattle.mesh_core.proofs.Until.{hear_until, sound_whole}
-use Rattle.mesh_core.proofs.network_router.CoreNetworkRouter.hear_until.Goals as goal
+use Rattle.mesh_core.proofs.deferring_router.CoreDeferringRouter.hear_until.Goals as goal
 
 pub hear_typed-came-requires-clause-now : goal.hear_typed-came-requires-clause-now
 hear_typed-came-requires-clause-now g c = c.requires.now

@@ -1,4 +1,4 @@
-//! A router of an emulated network.
+//! A router that may put its relays and routes off.
 ghost use Rattle.std.specs.Prelude.{◌≡◌, ◌<◌, ◌≤◌, ◌^◌, length, All, OnOk};
 ghost use Rattle.mesh_atoms.specs.State.{State};
 ghost use Rattle.mesh_core.specs.Deferred.{IsKeptOf};
@@ -8,16 +8,16 @@ ghost use Rattle.mesh_machine.specs.Sendable.{IsSendable};
 use crate::deferred::DeferredCore;
 use crate::event::{EventWants, hear_typed, tick};
 use crate::held::Outbox;
-use crate::machine::without_answer;
 use crate::reading::TypedFrame;
 use crate::router::Core;
+use crate::router_core::without_answer;
 use mesh_expire::Bases;
 use mesh_machine::Arrival;
 use std::alloc::AllocError;
 
-/// A router of an emulated network: each event is one step of its machine. Of what follows from its bases it may put off relays and
-/// routes up to a moment. After want of memory it may only be dropped.
-pub trait NetworkRouter: Sized + Drop {
+/// A router that may put off relays and routes up to a moment, as those of an emulated network and of a run do: each event is one step
+/// of its machine. After an allocation failure it may only be dropped.
+pub trait DeferringRouter: Sized + Drop {
     ghost state: { Self → State };
 
     /// Hears a frame that was read before, at a moment below 2^62 that isn't before the last event. From the moment `until` on nothing
@@ -56,7 +56,7 @@ pub trait NetworkRouter: Sized + Drop {
 }
 
 // A core puts nothing off.
-impl<B: Bases> NetworkRouter for Core<B> {
+impl<B: Bases> DeferringRouter for Core<B> {
     ghost state = { λ c. c.state };
 
     fn hear_until(
@@ -92,7 +92,7 @@ impl<B: Bases> NetworkRouter for Core<B> {
     }
 }
 
-impl<B: Bases> NetworkRouter for DeferredCore<B> {
+impl<B: Bases> DeferringRouter for DeferredCore<B> {
     ghost state = { λ c. c.state };
 
     fn hear_until(

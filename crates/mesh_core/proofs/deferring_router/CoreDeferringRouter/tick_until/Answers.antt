@@ -5,8 +5,8 @@ use Rattle.mesh_machine.specs.declared.frame.Frame.{Frame}
 use Rattle.mesh_machine.specs.Machine.{Tick, Step}
 use Rattle.mesh_machine.specs.Sendable.{IsSendable}
 use Rattle.mesh_core.proofs.Emptied.{alone}
-use Rattle.mesh_core.proofs.EventLemmas.Wholes.{kept_whole}
-use Rattle.mesh_core.proofs.network_router.CoreNetworkRouter.tick_until.Goals as goal
+use Rattle.mesh_core.proofs.Kept.{kept_whole}
+use Rattle.mesh_core.proofs.deferring_router.CoreDeferringRouter.tick_until.Goals as goal
 
 pub tick-requires-clause-now : goal.tick-requires-clause-now
 tick-requires-clause-now g c = c.requires.now
