@@ -16,7 +16,8 @@ pub use deferred::DeferredCore;
 pub use deferring_router::DeferringRouter;
 pub use held::{InformationBases, Outbox, Quiet};
 pub use mesh_machine::{
-    ArcsOut, Arrival, Fate, Frame, Heard, Read, RouterView, Said, leaving_of, ways_of,
+    ArcsOut, Arrival, Draws, Fate, Frame, Heard, Read, RouterView, Said, leaving_of, loses,
+    sender_of, ways_of,
 };
 pub use mesh_routes::graph_of;
 pub use reading::TypedFrame;

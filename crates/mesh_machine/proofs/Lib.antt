@@ -6,6 +6,7 @@ pub use Rattle.mesh_wire.proofs.tlv
 pub use Rattle.mesh_topo.proofs as topo
 pub use Rattle.mesh_wire.proofs as wire
 -- Lemmas for crates above, each file with the crates that cite it.
+pub mod Arcs  -- radio, replay
 pub mod Effects  -- core, texts
 pub mod FirstDue  -- radio, replay
 pub mod Hops  -- core, trace, replay

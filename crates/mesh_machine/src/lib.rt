@@ -7,6 +7,7 @@ mod count;
 mod fate;
 mod frame;
 mod laws;
+mod losses;
 mod names;
 mod said;
 mod view;
@@ -19,7 +20,8 @@ pub use frame::Frame;
 pub use laws::{
     machines, routers_end_together, runs_are_sound, steps_keep_sound, steps_send_packets,
 };
+pub use losses::{Draws, loses, words_of};
 pub use names::router_name;
 pub use said::{Said, said_of};
 pub use view::RouterView;
-pub use ways::{ArcsOut, leaving_of, ways_of};
+pub use ways::{ArcsOut, leaving_of, sender_of, ways_of};

@@ -1,10 +1,11 @@
-//! The arcs of a scenario by the interfaces that they leave.
+//! The arcs of a scenario by the interfaces that they leave, and the address of such an interface.
 ghost use Rattle.std.specs.Prelude.{◌≡◌, ◌<◌, ℕ, length, map, IfOk, Some, slice_get};
 ghost use Rattle.mesh_atoms.specs.declared.settings.RouterSettings.{RouterSettings};
+ghost use Rattle.mesh_machine.specs.Net.{IsSender};
 ghost use Rattle.mesh_machine.specs.Traffic.{leaves, leaving};
-ghost use Rattle.mesh_machine.specs.Ways.{AreArcsOut, AreWaysOf};
+ghost use Rattle.mesh_machine.specs.Ways.{AreArcsOut, AreWaysOf, LeavesInterface};
 
-use mesh_atoms::{RadioArc, RouterSettings, Scenario, Seq};
+use mesh_atoms::{Addr4, RadioArc, RouterSettings, Scenario, Seq};
 use std::alloc::{AllocError, Global};
 
 /// Arcs with their numbers, in order.
@@ -39,6 +40,16 @@ pub fn leaving_of<'a>(
     let of_router = &ways.as_slice()[router];
     let of_interface = &of_router.as_slice()[iface];
     of_interface.as_slice()
+}
+
+/// The first address of the interface that an arc leaves.
+pub fn sender_of(scenario: &Scenario, arc: &RadioArc) -> Addr4
+    requires { LeavesInterface scenario.now.routers arc.now }
+    ensures { IsSender scenario.now.routers arc.now result }
+{
+    let router = &scenario.routers.as_slice()[arc.from];
+    let interface = &router.interfaces.as_slice()[arc.from_iface];
+    interface.addrs.as_slice()[0]
 }
 
 // The arcs that leave each of so many interfaces of a router.

@@ -26,7 +26,7 @@ use Rattle.mesh_machine.specs.Net.{NetState, NetStep, By_delivery, By_tick, By_l
 use Rattle.mesh_machine.specs.NetRun.{IsOver, IsOfScenario, IsOfPackets}
 use Rattle.mesh_radio.specs.Occurrences.{net_event_of}
 use Rattle.mesh_radio.specs.Scene.{IsSound, AreRouterStates, HadLastTicks, KeepsDue, IsAfterTick, Lands, TicksOne, Stepped, Happens, IsFlying, IsLeft, IsAirQuiet, IsNextTick, Due_first, At_end, HasNoTick, AllStays, TellsEvent, net_of}
-use Rattle.mesh_radio.proofs.Arcs.{arc_ends}
+use Rattle.mesh_machine.proofs.Arcs.{arc_ends}
 use Rattle.mesh_machine.proofs.Sent.{first_and_others, others_later, sent_lost}
 use Rattle.mesh_radio.proofs.Flying.{sent_flying, still_flying}
 use Rattle.mesh_radio.proofs.Keeping.{all_kept}

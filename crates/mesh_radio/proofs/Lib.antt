@@ -1,4 +1,3 @@
-mod Arcs
 mod Beginning
 mod Flying
 mod Happenings

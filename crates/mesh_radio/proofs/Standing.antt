@@ -9,7 +9,8 @@ use Rattle.mesh_atoms.specs.declared.settings.Scenario.{Scenario}
 use Rattle.mesh_machine.specs.declared.frame.Frame.{Frame}
 use Rattle.mesh_machine.specs.Machine.{Event}
 use Rattle.mesh_machine.specs.Sendable.{IsSendable}
-use Rattle.mesh_radio.specs.Scene.{AreRouterStates, Stepped, IsTo}
+use Rattle.mesh_machine.specs.Ways.{EntersInterface}
+use Rattle.mesh_radio.specs.Scene.{AreRouterStates, Stepped}
 use Rattle.mesh_machine.proofs.Places.{same_at}
 use Rattle.mesh_atoms.proofs.Lists.{item_at as stands}
 
@@ -17,7 +18,7 @@ pub router_at : (s : Scenario) (now : ℕ) (routers : List State) (x : ℕ) → 
 router_at s now routers x h lt = let there = stands routers x (rw h.count lt) in (there.0, there.1, h.lasts x there.0 there.1)
 
 -- the router to which an arc leads
-pub router_to : (s : Scenario) (now : ℕ) (routers : List State) (arc : RadioArc) → AreRouterStates s now routers → IsTo s.routers arc →
+pub router_to : (s : Scenario) (now : ℕ) (routers : List State) (arc : RadioArc) → AreRouterStates s now routers → EntersInterface s.routers arc →
     (was : State) × (slice_get routers arc.to ≡ Some was) × (was.last ≤ now) × (arc.to_iface < length was.settings.interfaces)
 router_to s now routers arc h to =
     let below : arc.to < length s.routers = slice_get_within s.routers arc.to to.router to.stands in

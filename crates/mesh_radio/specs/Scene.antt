@@ -3,7 +3,6 @@ use Rattle.std.specs.Prelude.{◌≡◌, ℕ, ◌+◌, ◌<◌, ◌≤◌, min, 
 use Rattle.mesh_atoms.specs.declared.settings.Scenario.{Scenario}
 use Rattle.mesh_atoms.specs.declared.addr.Addr4.{Addr4}
 use Rattle.mesh_atoms.specs.declared.settings.RadioArc.{RadioArc}
-use Rattle.mesh_atoms.specs.declared.settings.RouterSettings.{RouterSettings}
 use Rattle.mesh_atoms.specs.Sound.{Sound}
 use Rattle.mesh_atoms.specs.State.{State}
 use Rattle.mesh_machine.specs.declared.frame.Frame.{Frame}
@@ -80,18 +79,6 @@ pub record Stepped (until : ℕ) (old new : List State) (x now : ℕ) (event : E
   pub last : is.last ≤ now
   pub no_earlier : was.last ≤ is.last
   pub change : Change was is
-
--- an arc leaves an interface of a router
-pub record IsFrom (routers : List RouterSettings) (arc : RadioArc) : Type 0 where
-  pub router : RouterSettings
-  pub stands : slice_get routers arc.from ≡ Some router
-  pub iface : arc.from_iface < length router.interfaces
-
--- an arc leads to an interface of a router
-pub record IsTo (routers : List RouterSettings) (arc : RadioArc) : Type 0 where
-  pub router : RouterSettings
-  pub stands : slice_get routers arc.to ≡ Some router
-  pub iface : arc.to_iface < length router.interfaces
 
 -- what a frame that was in the air does, where the traffic is what is left
 pub record Lands (until : ℕ) (s : Scenario) (old new : List State) (d : Delivery) (event : NetEvent) (before after : Traffic) : Type 0 where

@@ -1,4 +1,3 @@
 pub mod Air
-pub mod Draws
 pub mod Flights
 pub mod Traffic

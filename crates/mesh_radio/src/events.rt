@@ -8,10 +8,11 @@ ghost use Rattle.mesh_radio.specs.Traffic.Traffic.{traffic_of};
 ghost use Rattle.mesh_machine.specs.Ways.{AreArcsOut};
 
 use crate::occurrences::Occurrence;
-use crate::routers::{hear, sender_of, tick};
+use crate::routers::{hear, tick};
 use crate::scene::Scene;
 use crate::traffic::{ArrivedFrame, send_all};
 use mesh_core::DeferringRouter;
+use mesh_machine::sender_of;
 use std::alloc::{AllocError, Global};
 
 /// A frame is heard by the router to which its arc leads, and what that sends goes into the air.

@@ -14,6 +14,6 @@ mod traffic;
 
 pub use mesh_atoms::{Counts, Emission, NetEvent};
 pub use mesh_core::{Core, RouterCore, RouterView};
-pub use mesh_machine::{machines, routers_end_together};
+pub use mesh_machine::{Draws, machines, routers_end_together, words_of};
 pub use net::Net;
-pub use traffic::{ArrivedFrame, Draws, FramesInAir, RadioTraffic, words_of};
+pub use traffic::{ArrivedFrame, FramesInAir, RadioTraffic};

@@ -7,11 +7,11 @@ ghost use Rattle.mesh_radio.specs.Value.{states_of};
 
 use crate::routers::{first_due, routers_of};
 use crate::scene::{Due, Scene};
-use crate::traffic::{Draws, FramesInAir, RadioTraffic};
+use crate::traffic::{FramesInAir, RadioTraffic};
 use mesh_atoms::{Counts, RouterSettings, Scenario, Seq};
 use mesh_core::{Core, Outbox};
 use mesh_expire::Bases;
-use mesh_machine::ways_of;
+use mesh_machine::{Draws, ways_of};
 use std::alloc::{AllocError, Global};
 
 /// The routers of a network, and what it has besides.

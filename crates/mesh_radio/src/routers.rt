@@ -2,9 +2,9 @@
 ghost use Rattle.std.specs.Prelude.{◌≡◌, ◌<◌, ◌≤◌, ◌^◌, length, map, slice_get, Some, IfOk, OnOk};
 ghost use Rattle.mesh_atoms.specs.State.{State};
 ghost use Rattle.mesh_machine.specs.Machine.{Hear, Tick};
-ghost use Rattle.mesh_machine.specs.Net.{IsFirstDue, IsSender};
+ghost use Rattle.mesh_machine.specs.Net.{IsFirstDue};
 ghost use Rattle.mesh_radio.specs.Opening.{AreOpening};
-ghost use Rattle.mesh_radio.specs.Scene.{Stepped, KeepsDue, IsAfterTick, IsFrom};
+ghost use Rattle.mesh_radio.specs.Scene.{Stepped, KeepsDue, IsAfterTick};
 
 use crate::scene::Due;
 use crate::traffic::ArrivedFrame;
@@ -83,14 +83,4 @@ pub(crate) fn first_due<R: DeferringRouter>(routers: &Vec<R>) -> Due
         }
     }
     first
-}
-
-/// The first address of the interface that an arc leaves.
-pub(crate) fn sender_of(scenario: &Scenario, arc: &RadioArc) -> Addr4
-    requires { IsFrom scenario.now.routers arc.now }
-    ensures { IsSender scenario.now.routers arc.now result }
-{
-    let router = &scenario.routers.as_slice()[arc.from];
-    let interface = &router.interfaces.as_slice()[arc.from_iface];
-    interface.addrs.as_slice()[0]
 }

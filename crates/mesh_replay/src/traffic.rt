@@ -2,7 +2,6 @@
 //! heard.
 
 mod air;
-mod draws;
 mod traffic;
 
 pub(crate) use crate::traffic::air::Delivered;

@@ -1,19 +1,18 @@
 //! The sending of frames.
-ghost use Rattle.std.specs.Prelude.{◌≡◌, ◌+◌, ◌≤◌, ◌<◌, ◌^◌, ◌↔◌, length, map, slice_get, All, IfOk, OnOk, IsTrue, Some};
+ghost use Rattle.std.specs.Prelude.{◌≡◌, ◌+◌, ◌≤◌, ◌<◌, ◌^◌, length, map, slice_get, All, IfOk, OnOk, Some};
 ghost use Rattle.mesh_atoms.specs.Settings.{one_hour};
 ghost use Rattle.mesh_atoms.specs.declared.settings.RouterSettings.{RouterSettings};
 ghost use Rattle.mesh_machine.specs.Sendable.{IsSendable};
-ghost use Rattle.mesh_machine.specs.Traffic.{IsLossy, IsLost, Spreads, Sends, SendsAll, frame_of, next_count};
+ghost use Rattle.mesh_machine.specs.Traffic.{Spreads, Sends, SendsAll, frame_of};
 ghost use Rattle.mesh_radio.specs.Occurrences.{emission_of};
 ghost use Rattle.mesh_radio.specs.Traffic.Traffic.{traffic_of};
 ghost use Rattle.mesh_machine.specs.Ways.{AreArcsOut};
 
 use crate::occurrences::SentFrame;
 use crate::traffic::air::FramesInAir;
-use crate::traffic::draws::Draws;
 use mesh_atoms::{Bytes, Counts, RadioArc, Scenario, Seq};
 use mesh_core::{Outbox, TypedFrame};
-use mesh_machine::{ArcsOut, leaving_of};
+use mesh_machine::{ArcsOut, Draws, leaving_of, loses};
 use std::alloc::{AllocError, Global};
 use std::rc::Rc;
 
@@ -110,26 +109,6 @@ fn spread(
         }
     }
     Ok(lost)
-}
-
-/// Whether the next draw loses what is sent now on an arc.
-fn loses(scenario: &Scenario, now: u64, arc: &RadioArc, draws: &mut Draws) -> bool
-    requires seed { draws.old.seed ≡ scenario.now.seed }
-    ensures lost { IsTrue result ↔ IsLost scenario.now now draws.old.drawn arc.now }
-    ensures drawn { draws.new ≡ record { seed = draws.old.seed; drawn = next_count draws.old.drawn } }
-{
-    let word = draws.draw();
-    is_lossy(scenario.loss_until, now) && word % 1000 < u32::from(arc.loss)
-}
-
-/// Whether frames may be lost.
-fn is_lossy(loss_until: Option<u64>, now: u64) -> bool
-    ensures { IsTrue result ↔ IsLossy loss_until now }
-{
-    match loss_until {
-        Some(until) => now < until,
-        None => true,
-    }
 }
 
 /// The same octets.

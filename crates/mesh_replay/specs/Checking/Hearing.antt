@@ -1,17 +1,10 @@
 -- Where a frame that is heard comes from and to.
-use Rattle.std.specs.Prelude.{◌≡◌, ◌<◌, List, length, Some, slice_get}
+use Rattle.std.specs.Prelude.{◌≡◌, ◌<◌, length, Some, slice_get}
 use Rattle.mesh_atoms.specs.declared.settings.RadioArc.{RadioArc}
-use Rattle.mesh_atoms.specs.declared.settings.RouterSettings.{RouterSettings}
 use Rattle.mesh_atoms.specs.declared.settings.Scenario.{Scenario}
 use Rattle.mesh_trace.specs.machine.Net.{IsSender}
 use Rattle.mesh_trace.specs.machine.Traffic.{Delivery}
 use Rattle.mesh_replay.specs.declared.checking.heard.Coming.{Coming}
-
--- an arc leaves an interface of a router
-pub record LeavesFrom (routers : List RouterSettings) (arc : RadioArc) : Type 0 where
-  pub router : RouterSettings
-  pub stands : slice_get routers arc.from ≡ Some router
-  pub iface : arc.from_iface < length router.interfaces
 
 -- a frame comes to an interface of the event's router, at its moment
 pub record IsComing (coming : Coming) : Type 0 where

@@ -3,12 +3,12 @@ ghost use Rattle.std.specs.Prelude.{◌≡◌, ◌<◌, ◌≤◌, ℕ, [], leng
 ghost use Rattle.mesh_atoms.specs.Settings.{one_hour};
 ghost use Rattle.mesh_packet.specs.Fields.{fields_of_packet};
 ghost use Rattle.mesh_packet.specs.Grammar.{Spells};
-ghost use Rattle.mesh_trace.specs.machine.Net.{NetState, IsSender};
+ghost use Rattle.mesh_trace.specs.machine.Net.{NetState};
 ghost use Rattle.mesh_trace.specs.Positions.Due.{HearsBy};
 ghost use Rattle.mesh_replay.specs.Checking.Cases.{IsCase, IsEventOf, IsProgress};
 ghost use Rattle.mesh_replay.specs.Checking.Ending.{EndsEvent, KeepsRouters, MayBegin};
 ghost use Rattle.mesh_replay.specs.Checking.Going.{at, FitsOrStops};
-ghost use Rattle.mesh_replay.specs.Checking.Hearing.{IsComing, LandsFrame, LeavesFrom};
+ghost use Rattle.mesh_replay.specs.Checking.Hearing.{IsComing, LandsFrame};
 ghost use Rattle.mesh_replay.specs.Checking.Kept.{AreAtRest};
 ghost use Rattle.mesh_replay.specs.Checking.Scenes.{IsNextHearing, IsReachedNet};
 ghost use Rattle.mesh_replay.specs.Traffic.Air.{delivery_of};
@@ -18,21 +18,11 @@ use crate::checking::events::tell_event;
 use crate::checking::lines::{DueLine, take_due};
 use crate::checking::router::CheckedRouter;
 use crate::traffic::Delivered;
-use mesh_atoms::{Addr4, DecodeFault, RadioArc, Scenario};
-use mesh_core::Arrival;
+use mesh_atoms::{DecodeFault, Scenario};
+use mesh_core::{Arrival, sender_of};
 use mesh_expire::Bases;
 use mesh_packet::{Decoded, decode};
 use std::alloc::{AllocError, Global};
-
-// The first address of the interface that an arc leaves.
-fn sender_of(scenario: &Scenario, arc: &RadioArc) -> Addr4
-    requires { LeavesFrom scenario.now.routers arc.now }
-    ensures { IsSender scenario.now.routers arc.now result }
-{
-    let router = &scenario.routers.as_slice()[arc.from];
-    let interface = &router.interfaces.as_slice()[arc.from_iface];
-    interface.addrs.as_slice()[0]
-}
 
 /// A frame that comes to a router: the event, how the frame comes, and its octets.
 #[derive(Clone, Copy)]

@@ -1,16 +1,15 @@
 //! The sending of frames.
-ghost use Rattle.std.specs.Prelude.{◌≡◌, ◌+◌, ◌≤◌, ◌<◌, ◌↔◌, [], length, slice_get, All, IfOk, OnOk, IsTrue, Some, MatchOption};
+ghost use Rattle.std.specs.Prelude.{◌≡◌, ◌+◌, ◌≤◌, ◌<◌, [], length, slice_get, All, IfOk, OnOk, Some, MatchOption};
 ghost use Rattle.mesh_atoms.specs.Settings.{one_hour};
 ghost use Rattle.mesh_atoms.specs.declared.settings.RouterSettings.{RouterSettings};
-ghost use Rattle.mesh_trace.specs.machine.Traffic.{Spreads, Sends, IsLost, IsLossy, next_count};
+ghost use Rattle.mesh_trace.specs.machine.Traffic.{Spreads, Sends};
 ghost use Rattle.mesh_replay.specs.Traffic.Air.{delivery_of};
 ghost use Rattle.mesh_replay.specs.Traffic.Traffic.{HasTaken};
 ghost use Rattle.mesh_trace.specs.machine.Ways.{AreArcsOut};
 
 use crate::traffic::air::{AwaitedFrames, Delivered};
-use crate::traffic::draws::WordStream;
 use mesh_atoms::{Bytes, Counts, RadioArc, Scenario, Seq};
-use mesh_core::{ArcsOut, leaving_of};
+use mesh_core::{ArcsOut, Draws, leaving_of, loses};
 use std::alloc::{AllocError, Global};
 use std::marker::Model;
 use std::rc::Rc;
@@ -20,7 +19,7 @@ use std::rc::Rc;
 pub(crate) struct TraceTraffic {
     air: AwaitedFrames,
     counts: Counts,
-    draws: WordStream,
+    draws: Draws,
 }
 
 impl Model for TraceTraffic {
@@ -44,7 +43,7 @@ impl TraceTraffic {
                 delivered: 0,
                 lost: 0,
             },
-            draws: WordStream::new(seed),
+            draws: Draws::new(seed),
         }
     }
 
@@ -112,25 +111,5 @@ impl TraceTraffic {
             }
         }
         Ok(lost)
-    }
-}
-
-// Whether the next draw loses what is sent now on an arc.
-fn loses(scenario: &Scenario, now: u64, arc: &RadioArc, draws: &mut WordStream) -> bool
-    requires seed { draws.old.seed ≡ scenario.now.seed }
-    ensures lost { IsTrue result ↔ IsLost scenario.now now draws.old.drawn arc.now }
-    ensures drawn { draws.new ≡ record { seed = draws.old.seed; drawn = next_count draws.old.drawn } }
-{
-    let word = draws.draw();
-    is_lossy(scenario.loss_until, now) && word % 1000 < u32::from(arc.loss)
-}
-
-// Whether frames may be lost.
-fn is_lossy(loss_until: Option<u64>, now: u64) -> bool
-    ensures { IsTrue result ↔ IsLossy loss_until now }
-{
-    match loss_until {
-        Some(until) => now < until,
-        None => true,
     }
 }

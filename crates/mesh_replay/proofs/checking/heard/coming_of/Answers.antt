@@ -1,5 +1,6 @@
 use Rattle.std.proofs.Common.{rules, ◌<◌, ◌∙◌, length, refl}
-use Rattle.mesh_replay.proofs.HeardLemmas.Arcs.{arc_ends, arc_face, arc_within, read_at}
+use Rattle.mesh_trace.proofs.machine.Arcs.{arc_ends}
+use Rattle.mesh_replay.proofs.HeardLemmas.Arcs.{arc_face, arc_within, read_at}
 use Rattle.mesh_replay.proofs.checking.heard.coming_of.Goals as goal
 
 pub sender_of-sender-requires : goal.sender_of-sender-requires

@@ -6,14 +6,14 @@ use Rattle.mesh_atoms.specs.declared.settings.RadioArc.{RadioArc}
 use Rattle.mesh_atoms.specs.declared.settings.RouterSettings.{RouterSettings}
 use Rattle.mesh_atoms.specs.declared.settings.Scenario.{Scenario}
 use Rattle.mesh_atoms.specs.Settings.{Ends, is_interface, joins_routers}
-use Rattle.mesh_radio.specs.Scene.{IsFrom, IsTo}
+use Rattle.mesh_machine.specs.Ways.{LeavesInterface, EntersInterface}
 use Rattle.mesh_machine.proofs.Places.{mapped_at}
 use Rattle.mesh_atoms.proofs.Lists.{all_at, item_counted as counted}
 
 ends_of : RadioArc → Ends
 ends_of a = record { from = a.from; from_iface = a.from_iface; to = a.to; to_iface = a.to_iface }
 
-pub arc_ends : (s : Scenario) (n : ℕ) (arc : RadioArc) → slice_get s.arcs n ≡ Some arc → IsFrom s.routers arc × IsTo s.routers arc
+pub arc_ends : (s : Scenario) (n : ℕ) (arc : RadioArc) → slice_get s.arcs n ≡ Some arc → LeavesInterface s.routers arc × EntersInterface s.routers arc
 unfolding ends_of
 arc_ends s n arc at =
     let counts : List ℕ = map (λ (r : RouterSettings). length r.interfaces) s.routers in

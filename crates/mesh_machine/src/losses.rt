@@ -1,15 +1,16 @@
-//! The draws of an emulated network.
-ghost use Rattle.std.specs.Prelude.{◌≡◌};
-ghost use Rattle.mesh_trace.specs.machine.Draws.{key_by};
-ghost use Rattle.mesh_trace.specs.machine.Traffic.{draw, next_count};
+//! The draws of an emulated network, which decide on which arcs a frame is lost.
+ghost use Rattle.std.specs.Prelude.{◌≡◌, ◌↔◌, IsTrue};
+ghost use Rattle.mesh_machine.specs.Draws.{key_by};
+ghost use Rattle.mesh_machine.specs.Traffic.{IsLossy, IsLost, draw, next_count};
 
+use mesh_atoms::{RadioArc, Scenario};
 use rand_chacha::ChaCha20Rng;
 use rand_core::SeedableRng;
 use rand_core::utils::NextWord;
 use std::marker::Model;
 
 /// The words of a stream of a seed, from the first on.
-pub(crate) fn words_of(seed: u64, stream: u64) -> ChaCha20Rng
+pub fn words_of(seed: u64, stream: u64) -> ChaCha20Rng
     ensures { result ≡ record { key = key_by seed; stream = stream; word_pos = 0 } }
 {
     let low = seed.to_le_bytes();
@@ -24,30 +25,29 @@ pub(crate) fn words_of(seed: u64, stream: u64) -> ChaCha20Rng
 
 /// The words of a seed's stream 0 in order, and how many were drawn, wrapping at 2^64.
 #[derive(Drop)]
-pub(crate) struct WordStream {
+pub struct Draws {
     seed: u64,
     drawn: u64,
     stream: ChaCha20Rng,
 }
 
-impl Model for WordStream {
+impl Model for Draws {
     ghost use Rattle.std.specs.Prelude.{◌≡◌};
-    ghost use Rattle.mesh_replay.specs.Traffic.Draws.{DrawnWords};
-    ghost use Rattle.mesh_trace.specs.machine.Draws.{key_by};
+    ghost use Rattle.mesh_machine.specs.Draws.{Drawing, key_by};
 
-    ghost Value = { DrawnWords };
+    ghost Value = { Drawing };
 
     ghost view = { λ d. record { seed = d.seed; drawn = d.drawn } };
 
     ghost invariant = { λ d. d.stream ≡ record { key = key_by d.seed; stream = 0; word_pos = d.drawn } };
 }
 
-impl WordStream {
+impl Draws {
     /// No draw yet.
-    pub(crate) fn new(seed: u64) -> WordStream
+    pub fn new(seed: u64) -> Draws
         ensures { result ≡ record { seed = seed; drawn = 0 } }
     {
-        WordStream {
+        Draws {
             seed,
             drawn: 0,
             stream: words_of(seed, 0),
@@ -55,7 +55,7 @@ impl WordStream {
     }
 
     /// The next word.
-    pub(crate) fn draw(&mut self) -> u32
+    pub fn draw(&mut self) -> u32
         ensures value { result ≡ draw self.old.seed self.old.drawn }
         ensures drawn { self.new ≡ record { seed = self.old.seed; drawn = next_count self.old.drawn } }
     {
@@ -65,5 +65,25 @@ impl WordStream {
             self.stream.set_word_pos(0);
         }
         word
+    }
+}
+
+/// Whether the next draw loses what is sent now on an arc.
+pub fn loses(scenario: &Scenario, now: u64, arc: &RadioArc, draws: &mut Draws) -> bool
+    requires seed { draws.old.seed ≡ scenario.now.seed }
+    ensures lost { IsTrue result ↔ IsLost scenario.now now draws.old.drawn arc.now }
+    ensures drawn { draws.new ≡ record { seed = draws.old.seed; drawn = next_count draws.old.drawn } }
+{
+    let word = draws.draw();
+    is_lossy(scenario.loss_until, now) && word % 1000 < u32::from(arc.loss)
+}
+
+// Whether frames may be lost.
+fn is_lossy(loss_until: Option<u64>, now: u64) -> bool
+    ensures { IsTrue result ↔ IsLossy loss_until now }
+{
+    match loss_until {
+        Some(until) => now < until,
+        None => true,
     }
 }

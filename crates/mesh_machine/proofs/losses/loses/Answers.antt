@@ -1,7 +1,7 @@
 use Rattle.std.proofs.Common.{◌≡◌, ℕ, ◌%◌, ◌<◌, ◌↔◌, nat_lt, IsTrue, sym, ◌∙◌, ap}
 use Rattle.std.proofs.lemmas.Bool.{false≢true, lt-ltb, ltb-true}
 use Rattle.mesh_machine.specs.Traffic.{draw}
-use Rattle.mesh_radio.proofs.traffic.traffic.loses.Goals as goal
+use Rattle.mesh_machine.proofs.losses.loses.Goals as goal
 
 below_so : {P : Type 0} (word drawn most loss : ℕ) → P → word ≡ drawn → most ≡ loss → (IsTrue (nat_lt (word % 1000) most) ↔ (P × (drawn % 1000 < loss)))
 below_so word drawn most loss p same is = rw (same, is) ((λ h. (p, ltb-true _ _ h)), (λ lost. lt-ltb _ _ lost.1))
