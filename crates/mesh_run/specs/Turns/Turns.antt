@@ -114,7 +114,7 @@ abbrev pub Turns : RunSetup → List ℕ → List Report → ℕ → State → T
 Turns setup moments reports now state =
     GoesTo setup moments reports (record { state = state; moment = now; next = length setup.ports })
 
--- Where memory is wanting
+-- Where an allocation fails
 
 -- what was told last and came to nothing: nothing; or the moment of a turn; or what the next interface heard
 pub data CameToNothing (count : ℕ) (position : Position) : List ℕ → List Report → Type 0 where

@@ -19,7 +19,7 @@ use Rattle.mesh_tool.specs.declared.jobs.ending.Ending.{Ending}
 use Rattle.mesh_tool.specs.declared.jobs.ending.Ending.TheVariants as ending
 use Rattle.mesh_tool.specs.declared.jobs.status.Status.{Status}
 use Rattle.mesh_tool.specs.declared.jobs.status.Status.TheVariants as status
-use Rattle.mesh_tool.specs.Answers.Answers.{FaultLine, Wrong_words, Read_fault, Refusal, Attach_fault, Turns_spent, Want_of_memory, Whole, All_well, Some_refused, Is_no_run, On_out, On_err, OutputStands, Is_whole, Is_told, Is_failed, Answers}
+use Rattle.mesh_tool.specs.Answers.Answers.{FaultLine, Wrong_words, Read_fault, Refusal, Attach_fault, Turns_spent, Allocation_failure, Whole, All_well, Some_refused, Is_no_run, On_out, On_err, OutputStands, Is_whole, Is_told, Is_failed, Answers}
 use Rattle.mesh_tool.specs.Jobs.Calls.{SourceUse, SinkUse, Call, UsesNoAir, Asks, ReadsNothing, IsInput, IsInputTooLong, IsWorkedOn, PutsText, PutsNothing}
 use Rattle.mesh_tool.specs.Jobs.Commands.{Command, RunsSoFar, wants_in, command_in}
 use Rattle.mesh_tool.specs.Jobs.Endings.{StopsReading, Leaves, DoesJob, Unread, Worked, Does, No_command, Did, TellsLine, TellsEnding}
@@ -56,7 +56,7 @@ ends_unread : (call : Call) (j : Job) (most : ℕ) (how : Ending) (answer : Stat
 ends_unread call j most ending.Read answer asks is stops keeps tells = told call read_line status.Read answer (Read_fault j asks stops.0 keeps) tells
 ends_unread call j most ending.TooLong answer asks is stops keeps tells =
     told call (refused_line 47 (codes "input")) status.Refused answer (Refusal 47 (codes "input") j asks (Too_long most is stops) keeps) tells
-ends_unread call j most ending.Memory answer asks is stops keeps tells = told call memory_line status.Memory answer (Want_of_memory j asks (Before_reading keeps)) tells
+ends_unread call j most ending.Memory answer asks is stops keeps tells = told call memory_line status.Memory answer (Allocation_failure j asks (Before_reading keeps)) tells
 ends_unread call j most other answer asks is stops keeps tells = absurd stops
 
 -- an interface couldn't be attached, or the turns are spent: the job is `run`
@@ -92,7 +92,7 @@ ends_worked call j octets (ending.Turns turns moment end) answer asks works (is,
 ends_worked call j octets ending.Write answer asks works (rose, text, is, size, stands) (same, quiet) =
     Is_failed same (On_out j asks (record { octets = octets; works_on = works; text = text; is_text = is; size = size; stands = stands }) rose quiet)
 ends_worked call j octets ending.Memory answer asks works (text, is, stands) tells =
-    told call memory_line status.Memory answer (Want_of_memory j asks (On_the_way octets text works is stands)) tells
+    told call memory_line status.Memory answer (Allocation_failure j asks (On_the_way octets text works is stands)) tells
 ends_worked call j octets other answer asks works leaves tells = absurd leaves
 
 ends : (call : Call) (how : Ending) (answer : Status) → Does call how → TellsEnding call.words call.err how answer → OutputStands call answer
@@ -109,7 +109,7 @@ no_done (Read_fault j asks rose keeps) same = cc
 no_done (Refusal number key j asks refuses keeps) same = cc
 no_done (Attach_fault turns interface octets asks works fails rose keeps) same = cc
 no_done (Turns_spent turns greatest end octets asks works spends keeps) same = cc
-no_done (Want_of_memory j asks stops) same = cc
+no_done (Allocation_failure j asks stops) same = cc
 
 whole_finishes : (call : Call) {answer : Status} (j : Job) → Whole call answer → answer ≡ status.Done → Asks call j → Finishes call j 0
 whole_finishes call j (All_well i asked fin) same asks = subst (λ (k : Job). Finishes call k 0) (same_ok {r = words_of call.words} {a = i} {b = j} asked asks) fin
@@ -155,7 +155,7 @@ no_unfit (Read_fault j asks rose keeps) same = cc
 no_unfit (Refusal number key j asks refuses keeps) same = cc
 no_unfit (Attach_fault turns interface octets asks works fails rose keeps) same = cc
 no_unfit (Turns_spent turns greatest end octets asks works spends keeps) same = cc
-no_unfit (Want_of_memory j asks stops) same = cc
+no_unfit (Allocation_failure j asks stops) same = cc
 
 not_a_run : (call : Call) (answer : Status) → OutputStands call answer → answer ≡ status.NotARun → Asks call job.Replay
     × (octets : List ℕ) × IsInput 67108864 call.input octets × (line : ℕ) × Replays octets (No line) × PutsText call.out (answer_line (No line)) × PutsText call.err []
@@ -179,7 +179,7 @@ refusal_told {call} (Refusal number key j asked refuses keeps) same asks stands 
     (number, key, subst (λ (k : Job). Refuses k call number key) (same_ok {r = words_of call.words} {a = j} {b = job.Replay} asked asks) refuses, keeps, stands)
 refusal_told (Attach_fault turns interface octets asked works fails rose keeps) same asks stands = let bad : ⊥ = cc in absurd bad
 refusal_told (Turns_spent turns greatest end octets asked works spends keeps) same asks stands = let bad : ⊥ = cc in absurd bad
-refusal_told (Want_of_memory j asked stops) same asks stands = let bad : ⊥ = cc in absurd bad
+refusal_told (Allocation_failure j asked stops) same asks stands = let bad : ⊥ = cc in absurd bad
 
 not_replayed : (call : Call) (answer : Status) → OutputStands call answer → answer ≡ status.Refused → Asks call job.Replay → Unreplayed call
 not_replayed call answer (Is_whole whole quiet) same asks = absurd (no_refusal whole same)
@@ -199,7 +199,7 @@ wrong_words {call} (Read_fault j asks rose keeps) wrong = absurd (none_asked (wo
 wrong_words {call} (Refusal number key j asks refuses keeps) wrong = absurd (none_asked (words_of call.words) j wrong asks)
 wrong_words {call} (Attach_fault turns interface octets asks works fails rose keeps) wrong = absurd (none_asked (words_of call.words) (job.Run turns) wrong asks)
 wrong_words {call} (Turns_spent turns greatest end octets asks works spends keeps) wrong = absurd (none_asked (words_of call.words) (job.Run turns) wrong asks)
-wrong_words {call} (Want_of_memory j asks stops) wrong = absurd (none_asked (words_of call.words) j wrong asks)
+wrong_words {call} (Allocation_failure j asks stops) wrong = absurd (none_asked (words_of call.words) j wrong asks)
 
 no_command : (call : Call) (answer : Status) → OutputStands call answer → IsErr (words_of call.words) → ((answer ≡ status.Words) ⊎ (answer ≡ status.Write)) × ReadsNothing call.input
 no_command call answer (Is_whole whole quiet) wrong = let asked = whole_asks whole in absurd (none_asked (words_of call.words) asked.0 wrong asked.1)
@@ -268,7 +268,7 @@ long_due j (Read_fault i asked rose keeps) asks none calm = absurd (calm rose)
 long_due j (Refusal n k i asked refuses keeps) asks none calm = inl refl
 long_due j (Attach_fault turns interface octets asked works fails rose keeps) asks none calm = absurd (none (job.Run turns) octets asked works)
 long_due j (Turns_spent turns greatest end octets asked works spends keeps) asks none calm = absurd (none (job.Run turns) octets asked works)
-long_due j (Want_of_memory i asked stops) asks none calm = inr (inr refl)
+long_due j (Allocation_failure i asked stops) asks none calm = inr (inr refl)
 
 too_long : (call : Call) (answer : Status) → OutputStands call answer → (j : Job) (most : ℕ) (all : List ℕ) → Asks call j → (command_in call j).most ≡ Some most → call.input.left ≡ Some all → most < length all
     → (Rose call.input.faults call.input.faults' → ⊥) → (answer ≡ status.Refused) ⊎ ((answer ≡ status.Write) ⊎ (answer ≡ status.Memory))
@@ -319,7 +319,7 @@ refusal_due {call} j all number key (Attach_fault turns interface octets asked w
     absurd (run_not_refused call turns j octets all number key asked asks works is fails.stated.clear refused)
 refusal_due {call} j all number key (Turns_spent turns greatest end octets asked works spends keeps) asks is refused calm =
     absurd (run_not_refused call turns j octets all number key asked asks works is spends.stated.clear refused)
-refusal_due j all number key (Want_of_memory i asked stops) asks is refused calm = inr (inr refl)
+refusal_due j all number key (Allocation_failure i asked stops) asks is refused calm = inr (inr refl)
 
 refuses : (call : Call) (answer : Status) → OutputStands call answer → (j : Job) (octets : List ℕ) (number : ℕ) (key : List ℕ) → Asks call j → call.input.left ≡ Some octets → (command_in call j).refuses octets number key
     → (Rose call.input.faults call.input.faults' → ⊥) → (answer ≡ status.Refused) ⊎ ((answer ≡ status.Write) ⊎ (answer ≡ status.Memory))
@@ -360,7 +360,7 @@ memory_due {call} j (Refusal number key i asked refused keeps) asks input takes 
     absurd (takes number key (subst (λ (k : Job). Refuses k call number key) (same_ok {r = words_of call.words} {a = i} {b = j} asked asks) refused))
 memory_due {call} j (Attach_fault turns interface octets asked works fails rose keeps) asks input takes calm = absurd (attached_all call turns j interface octets asked asks input works fails)
 memory_due j (Turns_spent turns greatest end octets asked works spends keeps) asks input takes calm = inl refl
-memory_due j (Want_of_memory i asked stops) asks input takes calm = inr refl
+memory_due j (Allocation_failure i asked stops) asks input takes calm = inr refl
 
 -- the statuses of a job that ran to its end, or for which memory was wanting
 abbrev pub IsThrough : Job → Status → Type 0

@@ -33,7 +33,7 @@ pub data FaultLine (call : Call) : Status → List ℕ → Type 0 where
       FaultLine call status.Attach (attach_line interface)
   Turns_spent : (turns greatest end : ℕ) (octets : List ℕ) → Asks call (Run turns) → IsInput LONGEST_SETTINGS call.input octets →
       SpendsTurns octets turns greatest end call.air.told → PutsNothing call.out → FaultLine call status.Turns (turns_line turns greatest end)
-  Want_of_memory : (job : Job) → Asks call job → StopsShort call job → FaultLine call status.Memory memory_line
+  Allocation_failure : (job : Job) → Asks call job → StopsShort call job → FaultLine call status.Memory memory_line
 
 -- the whole text stands on out, of which no line or some line tells a refusal, or which says that a trace is none of a run
 pub data Whole (call : Call) : Status → Type 0 where

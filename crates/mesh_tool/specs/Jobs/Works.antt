@@ -37,7 +37,7 @@ pub record Finishes (call : Call) (job : Job) (refused : ℕ) : Type 0 where
   pub is_text : (command_in call job).is_text octets refused text
   pub stands : PutsText call.out text
 
--- what stands on out where memory is wanting: nothing, where the input wasn't read whole; else a first part of the text
+-- what stands on out where an allocation failed: nothing, where the input wasn't read whole; else a first part of the text
 pub data StopsShort (call : Call) (job : Job) : Type 0 where
   Before_reading : PutsNothing call.out → StopsShort call job
   On_the_way : (octets text : List ℕ) → WorksOn job call octets → (command_in call job).is_first_text octets text →
