@@ -1,4 +1,4 @@
-//! What an event does to what a router holds and what follows from it: a frame is heard, the clock ticks.
+//! What an event does to what a router holds and what follows from it: a frame is heard, the clock ticks (RFC 6130 and RFC 7181).
 
 mod clock;
 mod ending;

@@ -1,4 +1,4 @@
-//! The bases of a router, what expiry and a message do to them, and the frames that it sends.
+//! The bases of a router, what expiry and a message do to them, and the frames that it sends (RFC 6130 and RFC 7181).
 
 mod answers;
 mod holding;

@@ -1,4 +1,5 @@
-//! The router core: a router that hears frames, whose clock ticks, and which sends frames, as one step of the machine for each.
+//! The router core: a router that hears frames, whose clock ticks, and which sends frames, as one step of the machine for each (RFC 6130
+//! and RFC 7181).
 #![tactic(auto)]
 
 mod deferred;

@@ -1,4 +1,4 @@
-//! The router core: a router with its bases, and what follows from them.
+//! The router core: a router with its bases, and what follows from them (RFC 6130 and RFC 7181).
 ghost use Rattle.std.specs.Prelude.{◌≡◌, IfOk, false};
 ghost use Rattle.mesh_atoms.specs.Sound.{Sound};
 ghost use Rattle.mesh_core.specs.Event.Holding.{state_of};

@@ -1,4 +1,5 @@
-//! What a router sends when its clock ticks: the HELLOs of its interfaces, and TCs for its rows.
+//! What a router sends when its clock ticks: the HELLOs of its interfaces, and TCs for its rows (RFC 6130, section 11, and RFC 7181,
+//! section 16).
 
 mod hellos;
 mod moments;

@@ -1,4 +1,4 @@
-//! One step of the machine a call: a router hears a frame, or its clock ticks.
+//! One step of the machine a call: a router hears a frame, or its clock ticks (RFC 6130 and RFC 7181).
 ghost use Rattle.std.specs.Prelude.{◌≡◌, ◌<◌, ◌≤◌, ◌^◌, ◌++◌, ℕ, length, is_err, All, IfOk, OnOk, OnErr, IsErr, IsTrue};
 ghost use Rattle.mesh_atoms.specs.Sound.{Sound};
 ghost use Rattle.mesh_machine.specs.Frames.{sent_since};

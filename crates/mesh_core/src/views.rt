@@ -1,4 +1,4 @@
-//! What a router shows.
+//! What a router shows (RFC 6130, sections 7 and 8, and RFC 7181, sections 8 to 11).
 ghost use Rattle.std.specs.Prelude.{◌≡◌};
 
 use crate::router::Core;

@@ -1,4 +1,4 @@
-//! All sets of a router.
+//! The Received Message Information Base of a router (RFC 7181, section 11).
 ghost use Rattle.std.specs.Prelude.{◌≡◌, ◌≢◌, ◌<◌, ◌≤◌, ◌^◌, ◌↔◌, ◌⊎◌, ℕ, Bool, Option, [], length, IfOk, OnOk, IsTrue};
 ghost use Rattle.mesh_atoms.specs.declared.addr.Addr4.{Addr4};
 ghost use Rattle.mesh_atoms.specs.Base.{base_of, Expires, HasDistinctKeys, flood_eq};

@@ -1,4 +1,4 @@
-//! One set of messages seen before.
+//! One set of messages seen before: a Received Set, the Processed Set or the Forwarded Set (RFC 7181, section 11).
 ghost use Rattle.std.specs.Prelude.{◌≡◌, ◌≤◌, ◌<◌, ◌↔◌, [], length, option_map, IfOk, OnOk, IsTrue, false};
 ghost use Rattle.mesh_atoms.specs.Base.{HasDistinctKeys, Expires, find, flood_eq};
 ghost use Rattle.mesh_flood.specs.Verdict.{is_full};

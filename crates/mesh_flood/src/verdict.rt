@@ -1,4 +1,4 @@
-//! What is asked of a message, and what is answered.
+//! What is asked of a message, and what is answered (RFC 7181, sections 14.2 and 14.3).
 ghost use Rattle.std.specs.Prelude.{◌≡◌};
 ghost use Rattle.mesh_flood.specs.Verdict.{key_of, has_no_hops, is_received, is_forwarded};
 

@@ -1,4 +1,4 @@
-//! Tests on lists of addresses.
+//! Tests on lists of addresses (RFC 6130, section 12.5).
 ghost use Rattle.std.specs.Prelude.{◌≡◌, ◌↔◌, ◌⊎◌, IsTrue};
 ghost use Rattle.mesh_atoms.specs.Words.{Meets, IsBeyond};
 

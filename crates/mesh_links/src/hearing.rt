@@ -1,4 +1,4 @@
-//! What a HELLO makes of the links of the interface that hears it.
+//! What a HELLO makes of the links of the interface that hears it (RFC 6130, section 12.5).
 ghost use Rattle.std.specs.Prelude.{◌≡◌, ◌≢◌, ◌<◌, ◌^◌, ℕ, OnOk, OnErr, IfSome, IfNone, Some, length, slice_get};
 ghost use Rattle.mesh_atoms.specs.declared.tuples.Link.{Link};
 ghost use Rattle.mesh_atoms.specs.declared.tuples.LinkKey.{LinkKey};

@@ -1,4 +1,4 @@
-//! The set of the links of one interface.
+//! The Link Set of one interface (RFC 6130, section 7.1).
 ghost use Rattle.std.specs.Prelude.{◌≡◌, ◌+◌, ◌<◌, ◌^◌, ◌↔◌, ℕ, [], length, slice_get, IsTrue, IfOk, IfSome, IfNone, OnOk, Some};
 ghost use Rattle.mesh_atoms.specs.Base.{Base, HasDistinctKeys, find, link_eq};
 ghost use Rattle.mesh_atoms.specs.Words.{IsAscending};

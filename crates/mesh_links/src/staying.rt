@@ -1,4 +1,4 @@
-//! Whether anything becomes of links at a moment.
+//! Whether anything becomes of links at a moment (RFC 6130, section 13).
 ghost use Rattle.std.specs.Prelude.{◌≡◌, ◌↔◌, ◌<◌, ◌^◌, ℕ, IsTrue, Some, slice_get};
 ghost use Rattle.mesh_atoms.specs.declared.tuples.LinkKey.{LinkKey};
 ghost use Rattle.mesh_atoms.specs.declared.tuples.Link.{Link};

@@ -1,4 +1,4 @@
-//! How a frame comes.
+//! How a frame comes (RFC 5444).
 use mesh_atoms::Addr4;
 
 /// How a frame comes: at that moment, in ticks of 1/8192 s, on that interface, from that sender.

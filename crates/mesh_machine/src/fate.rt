@@ -1,4 +1,4 @@
-//! What becomes of the messages of a frame.
+//! What becomes of the messages of a frame (RFC 7181, section 14).
 use mesh_atoms::{Base, Refusal, Seq};
 use mesh_flood::{Forward, Process};
 

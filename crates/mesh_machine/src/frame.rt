@@ -1,4 +1,4 @@
-//! The frames that a router sends.
+//! The frames that a router sends (RFC 5444).
 use mesh_atoms::Bytes;
 
 /// A frame, and the interface on which it is sent.

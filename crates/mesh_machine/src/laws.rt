@@ -1,4 +1,4 @@
-//! What every step of a router keeps and what it sends, and what the routers of an emulated network come through.
+//! What every step of a router keeps and what it sends, and what the routers of an emulated network come through (RFC 6130 and RFC 7181).
 ghost use Rattle.mesh_machine.specs.Laws.{KeepsSound, RunsAreSound, SendsPackets};
 ghost use Rattle.mesh_machine.specs.NetRun.{AreMachines, EndTogether};
 

@@ -1,4 +1,4 @@
-//! What the HELLO of a router's interface says of an address.
+//! What the HELLO of a router's interface says of an address (RFC 6130, section 11, and RFC 7181, section 15.1).
 ghost use Rattle.std.specs.Prelude.{◌≡◌, ◌↔◌, ◌||◌, IsTrue, Option, Some, None, is_some};
 ghost use Rattle.mesh_atoms.specs.declared.settings.RouterSettings.{RouterSettings};
 ghost use Rattle.mesh_atoms.specs.Base.{base_of};

@@ -1,4 +1,4 @@
-//! What a router shows.
+//! What a router shows (RFC 6130, sections 7 and 8, and RFC 7181, sections 8 to 11).
 ghost use Rattle.std.specs.Prelude.{◌≡◌, ◌↔◌, length, map, slice_get, IsTrue, IfSome, IfNone};
 ghost use Rattle.std.specs.List.{AllPairs, sum};
 ghost use Rattle.mesh_atoms.specs.Base.{base_of, find, link_eq, two_hop_eq, addr_eq, router_eq, address_eq, network_eq};

@@ -1,4 +1,4 @@
-//! Taking out the neighbours that no note is of.
+//! Taking out the neighbours that no note is of (RFC 6130, sections 12.3 and 13).
 ghost use Rattle.std.specs.Prelude.{◌≡◌, ◌+◌, ◌<◌, ◌≤◌, IfSome, IfNone, ℕ, length, slice_get, Some};
 ghost use Rattle.mesh_atoms.specs.Base.{find, HasDistinctKeys, addr_eq};
 ghost use Rattle.mesh_atoms.specs.Words.{IsKept};

@@ -1,4 +1,4 @@
-//! The set of lost addresses.
+//! The Lost Neighbor Set: the addresses that were a symmetric neighbour's (RFC 6130, section 8.2).
 ghost use Rattle.std.specs.Prelude.{◌≡◌, ◌+◌, ◌&&◌, [], length, not, IfOk, OnOk, None, Some, cond};
 ghost use Rattle.std.specs.List.{list_any};
 ghost use Rattle.indexmap.specs.IndexSet.{contains};

@@ -1,4 +1,4 @@
-//! The neighbourhood as whoever chooses relays and routes looks at it.
+//! The neighbourhood as whoever chooses relays and routes looks at it (RFC 6130, sections 7 and 8).
 ghost use Rattle.std.specs.Prelude.{◌≡◌, length, slice_get};
 ghost use Rattle.mesh_atoms.specs.Base.{base_of};
 ghost use Rattle.mesh_atoms.specs.State.{Neighbourhood};

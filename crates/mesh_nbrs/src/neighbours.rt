@@ -1,4 +1,4 @@
-//! The set of neighbours.
+//! The Neighbor Set (RFC 6130, section 8.1, and RFC 7181, section 9).
 ghost use Rattle.std.specs.Prelude.{◌≡◌, ◌≢◌, ◌+◌, ◌<◌, ◌↔◌, ℕ, [], List, length, Contains, IfOk, IfSome, IfNone, OnOk, Some};
 ghost use Rattle.std.specs.List.{IsDistinct};
 ghost use Rattle.mesh_atoms.specs.declared.tuples.Neighbour.{Neighbour};

@@ -1,4 +1,4 @@
-//! The map from each address to the originator of the neighbour that has it.
+//! The map from each address to the originator of the neighbour that has it (RFC 6130, section 8.1).
 ghost use Rattle.std.specs.Prelude.{◌≡◌, ◌≢◌, ◌↔◌, IfOk, IsSome, OnOk, OnErr, Contains, None, Some, length, ◌+◌, ◌&&◌, cond, true, is_some, if◌then◌else◌};
 ghost use Rattle.std.specs.List.{list_any};
 ghost use Rattle.indexmap.specs.IndexSet.{contains};

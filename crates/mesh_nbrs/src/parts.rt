@@ -1,4 +1,4 @@
-//! What the notes of links tell, by the addresses of their keys.
+//! What the notes of links tell, by the addresses of their keys (RFC 6130, sections 7.1 and 12.3).
 ghost use Rattle.std.specs.Prelude.{◌↔◌, ◌++◌, ◌∷◌, [], List, IfOk, OnOk, IsTrue, IsSome, Some};
 ghost use Rattle.std.specs.Option.{option_copied};
 ghost use Rattle.mesh_atoms.specs.declared.addr.Addr4.{Addr4};

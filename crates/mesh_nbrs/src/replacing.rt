@@ -1,4 +1,4 @@
-//! One neighbour in place of those that a HELLO speaks of.
+//! One neighbour in place of those that a HELLO speaks of (RFC 6130, section 12.3).
 ghost use Rattle.std.specs.Prelude.{◌≡◌, ◌≤◌, ◌<◌, ◌+◌, ◌&&◌, ◌↔◌, ℕ, IsTrue, OnOk, OnErr, Contains, None, Some, cond, not, length, is_some, if◌then◌else◌};
 ghost use Rattle.std.specs.List.{list_any};
 ghost use Rattle.mesh_atoms.specs.declared.addr.Addr4.{Addr4};

@@ -1,4 +1,4 @@
-//! What notes of links tell together.
+//! What notes of links tell together (RFC 6130, section 12.3).
 ghost use Rattle.std.specs.Prelude.{◌≡◌, ◌⊎◌, ◌||◌, Some, max};
 ghost use Rattle.mesh_atoms.specs.Words.{IsLeastMetric};
 ghost use Rattle.mesh_nbrs.specs.Neighbours.{IsNotesSummary};

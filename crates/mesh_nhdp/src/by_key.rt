@@ -1,4 +1,4 @@
-//! Tuples of a router's neighbourhood by their keys.
+//! Tuples of a router's neighbourhood by their keys (RFC 6130, sections 7 and 8).
 ghost use Rattle.std.specs.Prelude.{◌≡◌};
 ghost use Rattle.mesh_atoms.specs.Base.{base_of, find, link_eq, two_hop_eq, addr_eq};
 ghost use Rattle.mesh_expire.specs.Table.{value_of};

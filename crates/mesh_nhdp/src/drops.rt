@@ -1,4 +1,4 @@
-//! The end of 2-hop tuples whose link isn't SYMMETRIC.
+//! The end of 2-hop tuples whose link isn't SYMMETRIC (RFC 6130, section 13).
 ghost use Rattle.std.specs.Prelude.{◌≡◌, ◌<◌, ◌&&◌, length, not, cond, None};
 ghost use Rattle.mesh_atoms.specs.Base.{base_of, find, link_eq, two_hop_eq};
 ghost use Rattle.mesh_nhdp.specs.Calls.{is_symmetric_in, DropsEnded};

@@ -1,4 +1,4 @@
-//! Expiry.
+//! Expiry (RFC 6130, section 13, and RFC 7181, section 17).
 ghost use Rattle.std.specs.Prelude.{◌≡◌, ◌<◌, ◌^◌, ◌↔◌, ℕ, IsTrue, IfOk, OnOk};
 ghost use Rattle.mesh_atoms.specs.Live.{LiveNeighbourhood};
 ghost use Rattle.mesh_atoms.specs.Sound.{SoundNeighbourhood};

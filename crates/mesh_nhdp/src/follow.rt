@@ -1,4 +1,4 @@
-//! Neighbours and lost addresses follow the links.
+//! Neighbours and lost addresses follow the links (RFC 6130, sections 12.3, 12.4 and 13).
 ghost use Rattle.std.specs.Prelude.{◌<◌, length, OnOk};
 ghost use Rattle.mesh_atoms.specs.Words.{IsAscending};
 ghost use Rattle.mesh_hello.specs.Told.Telling.{told_of};

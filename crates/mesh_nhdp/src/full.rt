@@ -1,4 +1,4 @@
-//! Whether the addresses are too many.
+//! Whether the addresses are too many (RFC 6130, section 12).
 ghost use Rattle.std.specs.Prelude.{◌≡◌, ◌↔◌, ◌⊎◌, ◌++◌, ◌∷◌, [], Contains, IsTrue, IfOk, OnOk};
 ghost use Rattle.std.specs.Map.{keys_of};
 ghost use Rattle.mesh_atoms.specs.State.{Neighbourhood};

@@ -1,4 +1,5 @@
-//! What a HELLO that isn't refused makes of the links, the 2-hop tuples, the neighbours and the lost addresses.
+//! What a HELLO that isn't refused makes of the links, the 2-hop tuples, the neighbours and the lost addresses (RFC 6130, sections 12.3 to
+//! 12.6).
 ghost use Rattle.std.specs.Prelude.{◌≡◌, ◌<◌, ◌^◌, ◌↔◌, Contains, Some, None, length, slice_get, true, IsTrue, IfOk, OnOk};
 ghost use Rattle.mesh_atoms.specs.AfterHello.{AfterHello};
 ghost use Rattle.mesh_atoms.specs.Base.{base_of};

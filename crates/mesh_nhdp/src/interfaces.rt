@@ -1,4 +1,4 @@
-//! What expiry and a HELLO make of the links and the 2-hop tuples, interface by interface.
+//! What expiry and a HELLO make of the links and the 2-hop tuples, interface by interface (RFC 6130, sections 12.5, 12.6 and 13).
 ghost use Rattle.std.specs.Prelude.{◌≡◌, ◌<◌, ◌^◌, ℕ, true, false, nat_eq, Some, length, slice_get, IfOk, OnOk};
 ghost use Rattle.mesh_atoms.specs.Base.{Base, HasDistinctKeys, base_of, link_eq};
 ghost use Rattle.mesh_atoms.specs.declared.tuples.LinkKey.{LinkKey};

@@ -1,4 +1,4 @@
-//! What is judged of a HELLO before anything changes.
+//! What is judged of a HELLO before anything changes (RFC 6130, section 12.1).
 ghost use Rattle.std.specs.Prelude.{◌≡◌, ◌<◌, ◌≤◌, ◌↔◌, List, Contains, length, IfOk};
 ghost use Rattle.mesh_atoms.specs.Base.{Base as Links, base_of};
 ghost use Rattle.mesh_atoms.specs.State.{HasAddress};

@@ -1,4 +1,4 @@
-//! The keys of links.
+//! The keys of links (RFC 6130, section 7.1).
 ghost use Rattle.std.specs.Prelude.{◌≡◌, ◌⊎◌, ◌++◌, map, Contains, IfOk, OnOk};
 ghost use Rattle.mesh_atoms.specs.declared.addr.Addr4.{Addr4};
 ghost use Rattle.mesh_nhdp.specs.Calls.{key_at};

@@ -1,4 +1,4 @@
-//! A router's neighbourhood, tuple by tuple.
+//! A router's neighbourhood, tuple by tuple (RFC 6130, sections 7 and 8).
 use crate::nhdp::Nhdp;
 use mesh_atoms::{Addr4, Link, LinkKey, Neighbour, TwoHop, TwoHopKey};
 use mesh_expire::{Bases, Table};

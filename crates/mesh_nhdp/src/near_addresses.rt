@@ -1,4 +1,4 @@
-//! Addresses of neighbours.
+//! Addresses of neighbours (RFC 6130, section 8.1).
 ghost use Rattle.std.specs.Prelude.{◌≡◌, ◌↔◌, Contains, IsTrue, IfOk, OnOk};
 ghost use Rattle.mesh_atoms.specs.declared.addr.Addr4.{Addr4};
 ghost use Rattle.mesh_atoms.specs.Base.{find, addr_eq};

@@ -1,4 +1,4 @@
-//! The neighbourhood of a router, and what it is made of.
+//! The neighbourhood of a router, and what it is made of (RFC 6130, sections 7 and 8, and RFC 7181, sections 8 and 9).
 ghost use Rattle.std.specs.Prelude.{◌≡◌, ℕ, [], length, replicate, IfOk};
 ghost use Rattle.mesh_atoms.specs.Sound.{SoundNeighbourhood};
 ghost use Rattle.mesh_nhdp.specs.NhdpState.{NhdpState, empty_near};

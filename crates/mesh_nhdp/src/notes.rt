@@ -1,4 +1,4 @@
-//! What neighbours are to know of the links of all interfaces.
+//! What neighbours are to know of the links of all interfaces (RFC 6130, section 12.3).
 ghost use Rattle.std.specs.Prelude.{◌≡◌, ℕ, IfOk, OnOk, Some};
 ghost use Rattle.mesh_atoms.specs.declared.tuples.Link.{Link};
 ghost use Rattle.mesh_atoms.specs.Base.{find, link_eq};

@@ -1,4 +1,5 @@
-//! Whether what a HELLO tells of its link and its neighbour is held already, so that its taking changes nothing of them but moments.
+//! Whether what a HELLO tells of its link and its neighbour is held already, so that its taking changes nothing of them but moments (RFC
+//! 6130, section 12).
 ghost use Rattle.std.specs.Prelude.{◌≡◌, ◌↔◌, ◌<◌, ◌&&◌, List, length, IsTrue};
 ghost use Rattle.mesh_atoms.specs.Base.{Base};
 ghost use Rattle.mesh_hello.specs.Told.Telling.{told_of};

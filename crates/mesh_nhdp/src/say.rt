@@ -1,4 +1,5 @@
-//! The HELLO that a router sends, and whether a sender has chosen it as a flooding relay.
+//! The HELLO that a router sends, and whether a sender has chosen it as a flooding relay (RFC 6130, section 11, and RFC 7181, section
+//! 15.1).
 ghost use Rattle.std.specs.Prelude.{◌≡◌, ◌<◌, ◌≤◌, length, IfOk};
 ghost use Rattle.mesh_atoms.specs.Base.{base_of};
 ghost use Rattle.mesh_atoms.specs.Hello.{IsHelloNow};

@@ -1,4 +1,4 @@
-//! The 2-hop tuples of the link that a HELLO came over.
+//! The 2-hop tuples of the link that a HELLO came over (RFC 6130, section 12.6).
 ghost use Rattle.std.specs.Prelude.{◌≡◌, ◌≢◌, ◌↔◌, ◌<◌, ℕ, length, Contains, Some, IsTrue, true, false, IfOk, OnOk};
 ghost use Rattle.mesh_atoms.specs.Base.{base_of, find, link_eq};
 ghost use Rattle.mesh_atoms.specs.State.{HasAddress};

@@ -1,4 +1,4 @@
-//! Expiry where nothing becomes of links.
+//! Expiry where nothing becomes of links (RFC 6130, section 13).
 ghost use Rattle.std.specs.Prelude.{◌≡◌, ◌↔◌, ◌<◌, ◌^◌, ◌&&◌, ℕ, List, IsTrue, true, false, nat_eq, length};
 ghost use Rattle.mesh_atoms.specs.declared.addr.Addr4.{Addr4};
 ghost use Rattle.mesh_atoms.specs.declared.tuples.LinkKey.{LinkKey};

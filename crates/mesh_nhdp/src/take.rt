@@ -1,4 +1,4 @@
-//! The taking of a HELLO.
+//! The taking of a HELLO (RFC 6130, section 12, and RFC 7181, section 15.3).
 ghost use Rattle.std.specs.Prelude.{◌≡◌, ◌<◌, ◌^◌, false, length, IfOk, OnOk};
 ghost use Rattle.mesh_atoms.specs.TakesHello.{HelloAnswer, TakesHello};
 ghost use Rattle.mesh_atoms.specs.Sound.{SoundNeighbourhood};

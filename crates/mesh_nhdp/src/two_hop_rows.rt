@@ -1,4 +1,4 @@
-//! What the rows of a HELLO tell of the sender's neighbours.
+//! What the rows of a HELLO tell of the sender's neighbours (RFC 6130, section 12.6, and RFC 7181, section 15.3).
 ghost use Rattle.std.specs.Prelude.{◌≡◌, ◌↔◌, Contains, IsTrue, IfOk, OnOk};
 ghost use Rattle.mesh_atoms.specs.Base.{SetsOnly, two_hop_eq};
 ghost use Rattle.mesh_atoms.specs.State.{HasAddress};

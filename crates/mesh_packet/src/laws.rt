@@ -1,4 +1,4 @@
-//! Laws of the definitions.
+//! Laws of the definitions (RFC 5444, section 5).
 ghost use Rattle.mesh_packet.specs.Laws.{HasOnePacket, HasOneFault, SpellsOrHasFault, HasNoFaultToo, HasOneLeastForm, ZeroBeginsPackets};
 
 /// Each list of octets either spells one packet, with its messages at one list of places, or has one first fault. A packet

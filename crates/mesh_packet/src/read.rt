@@ -1,4 +1,4 @@
-//! Reading a packet: the value that the whole frame spells, or its first fault.
+//! Reading a packet: the value that the whole frame spells, or its first fault (RFC 5444, section 5).
 ghost use Rattle.std.specs.Prelude.{◌≡◌, ◌≤◌, ◌<◌, ◌-◌, ◌+◌, ◌*◌, ℕ, List, length, map, slice_range, Some, None, Ok, Err, Result, IfOk, IfErr};
 ghost use Rattle.std.specs.Option.{option_copied};
 ghost use Rattle.mesh_atoms.specs.Reading.{Gives, IfRefused, refuse, octet_at, short_at, piece_at};

@@ -1,4 +1,4 @@
-//! Writing a packet in its least form.
+//! Writing a packet in its least form (RFC 5444, section 5).
 ghost use Rattle.std.specs.Prelude.{◌≡◌, ◌≤◌, ◌<◌, ◌+◌, ◌++◌, ◌∷◌, [], List, All, length, map, Ok, Err, IfOk, OnOk};
 ghost use Rattle.mesh_addr.specs.Grammar.{IsWritable};
 ghost use Rattle.mesh_tlv.specs.Fields.{fields};

@@ -1,4 +1,4 @@
-//! The test of a certificate: whether its rows are those of the least walks.
+//! The test of a certificate: whether its rows are those of the least walks (RFC 7181, section 19).
 ghost use Rattle.std.specs.Prelude.{IsTrue, ◌↔◌, IfSome, IfNone, Contains, ◌≡◌, ◌≢◌, ◌+◌};
 ghost use Rattle.mesh_atoms.specs.declared.graphs.PathRow.{PathRow};
 ghost use Rattle.mesh_atoms.specs.declared.graphs.Arc4.{Arc4};

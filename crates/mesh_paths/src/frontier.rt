@@ -1,4 +1,5 @@
-//! The search for least walks: a frontier ordered by metric, then node, of which the least step is taken at each turn.
+//! The search for least walks: a frontier ordered by metric, then node, of which the least step is taken at each turn (RFC 7181, section
+//! 19).
 ghost use Rattle.std.specs.Prelude.{IsTrue, ◌↔◌, IfOk, IfSome, IfNone, OnOk, Contains, ◌≡◌, ◌≢◌, ◌+◌, ◌*◌, ◌<◌, ◌≤◌, ◌^◌, length, slice_index_or, Some, None};
 ghost use Rattle.std.specs.List.{slice_range};
 ghost use Rattle.std.specs.List.Sorted.{IsNonDecreasingBy};

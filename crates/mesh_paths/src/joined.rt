@@ -1,4 +1,4 @@
-//! Which routers are joined.
+//! Which routers are joined (RFC 6130, section 14).
 ghost use Rattle.std.specs.Prelude.{◌≡◌, ◌≢◌, ◌↔◌, IsTrue};
 ghost use Rattle.mesh_atoms.specs.declared.settings.Scenario.{Scenario};
 ghost use Rattle.mesh_atoms.specs.Radio.{IsRadioGraph, Joined};

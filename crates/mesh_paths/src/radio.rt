@@ -1,4 +1,4 @@
-//! The radio graph of a scenario: which interfaces hear and admit each other, and which routers are joined.
+//! The radio graph of a scenario: which interfaces hear and admit each other, and which routers are joined (RFC 6130, section 14).
 ghost use Rattle.std.specs.Prelude.{IfOk, Contains, ◌≡◌, ◌<◌, length, map, filter};
 ghost use Rattle.std.specs.Option.{option_copied};
 ghost use Rattle.std.specs.List.{range_with_len};

@@ -1,4 +1,4 @@
-//! The plain search for least walks: by rounds over all arcs, until none makes a row better.
+//! The plain search for least walks: by rounds over all arcs, until none makes a row better (RFC 7181, section 19).
 ghost use Rattle.std.specs.Prelude.{IsTrue, ◌↔◌, IfOk, OnOk, Contains, ◌≡◌, ◌+◌, ◌<◌, ◌≤◌, ◌^◌, length, Some};
 ghost use Rattle.std.specs.BTreeMap.{get};
 ghost use Rattle.mesh_atoms.specs.declared.graphs.PathRow.{PathRow};

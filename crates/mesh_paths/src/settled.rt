@@ -1,4 +1,4 @@
-//! The law of settled routes, over the definitions of a router and of the radio graph.
+//! The law of settled routes, over the definitions of a router and of the radio graph (RFC 7181, section 19).
 ghost use Rattle.mesh_paths.specs.SettledRoutes.{RowsAreLeast, NextHopsLead, TripsEnd, EveryScenarioIsSound};
 
 /// The law of settled routes. In a network of sound routers that hold exactly what their neighbours' HELLOs and the TCs say at

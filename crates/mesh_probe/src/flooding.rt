@@ -1,4 +1,4 @@
-//! A flood: frames are heard one after the other, until none waits.
+//! A flood: frames are heard one after the other, until none waits (RFC 7181, section 14.3).
 ghost use Rattle.std.specs.Prelude.{◌≡◌, ◌<◌, ◌≤◌, ◌^◌, ℕ, List, All, map, length, IfOk, OnOk};
 ghost use Rattle.mesh_atoms.specs.Settled.{At};
 ghost use Rattle.mesh_atoms.specs.State.{State};

@@ -1,4 +1,4 @@
-//! The laws of a flood.
+//! The laws of a flood (RFC 7181, section 14.3).
 ghost use Rattle.mesh_probe.specs.Laws.{FloodReaches, FloodSendsOnce};
 ghost use Rattle.mesh_probe.specs.Probes.{ProbesReach, ProbesSendOnce};
 

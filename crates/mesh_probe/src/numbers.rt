@@ -1,4 +1,4 @@
-//! The sequence number of a probe's TC.
+//! The sequence number of a probe's TC (RFC 7181, section 16).
 ghost use Rattle.std.specs.Prelude.{◌↔◌, map, IsTrue};
 ghost use Rattle.mesh_flood.specs.Verdict.{key_of};
 ghost use Rattle.mesh_probe.specs.Hearing.{IsLeastUnknown};

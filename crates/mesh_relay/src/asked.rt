@@ -1,4 +1,4 @@
-//! Whether a set of relays that someone else chose serves.
+//! Whether a set of relays that someone else chose serves (RFC 7181, section 18.3).
 ghost use Rattle.std.specs.Prelude.{◌≡◌, ◌<◌, ◌↔◌, ◌≢◌, IfOk, IsTrue, MatchOption, Contains, AllPairs, length, replicate, nat_lt, true, false};
 ghost use Rattle.std.specs.List.Sorted.{IsPartitionPoint};
 ghost use Rattle.mesh_atoms.specs.Relays.{Covers, Needed, HasDistinctIds};

@@ -1,4 +1,4 @@
-//! Leaving out relays that the others make up for.
+//! Leaving out relays that the others make up for (RFC 7181, section 18.6).
 ghost use Rattle.std.specs.Prelude.{◌≡◌, ◌+◌, ◌<◌, ◌⊎◌, All, length, slice_set, true, false};
 ghost use Rattle.mesh_atoms.specs.Relays.{Covers, Needed, HasDistinctIds};
 ghost use Rattle.mesh_relay.specs.Ways.{AreWilling, AreWays};

@@ -1,4 +1,4 @@
-//! Whether neighbours that are taken cover, and each of them is needed, in one pass over the ways.
+//! Whether neighbours that are taken cover, and each of them is needed, in one pass over the ways (RFC 7181, section 18.3).
 ghost use Rattle.std.specs.Prelude.{◌≡◌, ◌<◌, ◌↔◌, ℕ, IfOk, IsTrue, MatchBool, All, not, ◌&&◌, List, ◌∷◌, length, replicate, slice_set, slice_index_or, false};
 ghost use Rattle.mesh_atoms.specs.Relays.{Covers, Needed, HasDistinctIds};
 ghost use Rattle.mesh_relay.specs.Ways.{AreWilling, AreWays};

@@ -1,4 +1,4 @@
-//! What a router advertises of its neighbours.
+//! What a router advertises of its neighbours (RFC 7181, section 16.1).
 ghost use Rattle.std.specs.Prelude.{◌≡◌, [], OnOk, IfOk};
 ghost use Rattle.mesh_atoms.specs.Advertised.{AreTcRows};
 ghost use Rattle.mesh_atoms.specs.State.{State};

@@ -1,4 +1,4 @@
-//! What follows from the bases of a router at the end of each event, and what the router counts.
+//! What follows from the bases of a router at the end of each event, and what the router counts (RFC 7181, sections 16.1, 18 and 19).
 ghost use Rattle.std.specs.Prelude.{◌≡◌, OnOk};
 ghost use Rattle.mesh_atoms.specs.Advertised.{AreTcRows};
 ghost use Rattle.mesh_atoms.specs.State.{State};

@@ -1,4 +1,4 @@
-//! Laws of the definitions.
+//! Laws of the definitions (RFC 7181, section 18).
 ghost use Rattle.mesh_renewal.specs.Existing.{RoutersHaveRelays};
 
 /// A router whose neighbourhood is sound at a moment has relays at that moment (RFC 7181, section 18): for flooding on each interface and

@@ -1,4 +1,5 @@
-//! What follows from the bases of a router at the end of an event: its relays, the rows that it advertises, and its routes.
+//! What follows from the bases of a router at the end of an event: its relays, the rows that it advertises, and its routes (RFC 7181,
+//! section 17).
 #![tactic(auto)]
 
 mod advertise;

@@ -1,4 +1,4 @@
-//! The relays that a router chooses.
+//! The relays that a router chooses (RFC 7181, section 18).
 ghost use Rattle.std.specs.Prelude.{◌≡◌, ℕ, Some, None, IfOk};
 ghost use Rattle.mesh_atoms.specs.declared.graphs.NeighbourGraph.{NeighbourGraph as Graph};
 ghost use Rattle.mesh_atoms.specs.RelayGraphs.{AreRelays, AreRelaysOf, IsFloodingGraph, IsRoutingGraph};

@@ -1,4 +1,4 @@
-//! What a router has before its first event.
+//! What a router has before its first event (RFC 7181, section 7).
 ghost use Rattle.std.specs.Prelude.{◌≡◌, length, IfOk};
 ghost use Rattle.mesh_atoms.specs.State.{State};
 ghost use Rattle.mesh_machine.specs.Machine.{IsOpening, no_bases};

@@ -1,4 +1,4 @@
-//! How a HELLO or a TC reads, as the last line of its message.
+//! How a HELLO or a TC reads, as the last line of its message (RFC 6130, section 10, and RFC 7181, section 13).
 ghost use Rattle.std.specs.Prelude.{◌≡◌, ◌++◌, ◌+◌, ◌≤◌, length, codes, OnOk};
 ghost use Rattle.mesh_packet.specs.Fields.{fields_of_message};
 ghost use Rattle.mesh_packet.specs.Least.{Wrote};

@@ -1,4 +1,4 @@
-//! Laws of the definitions.
+//! Laws of the definitions (RFC 7181, sections 18 and 19).
 ghost use Rattle.mesh_routes.specs.Existing.{RoutersHaveRoutes};
 ghost use Rattle.mesh_routes.specs.Staying.{BasesGiveSame, GraphsStay, RoutesStay};
 

@@ -1,4 +1,4 @@
-//! The routes of a router.
+//! The routes of a router (RFC 7181, section 19.2).
 ghost use Rattle.std.specs.Prelude.{◌≡◌, ℕ, IfOk};
 ghost use Rattle.mesh_atoms.specs.declared.addr.Addr4.{Addr4};
 ghost use Rattle.mesh_atoms.specs.Routes.{AreRoutes};

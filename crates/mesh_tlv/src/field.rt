@@ -1,4 +1,5 @@
-//! Reading the fields of one TLV, each with the place after it. A fault's place is that of the field's first octet.
+//! Reading the fields of one TLV, each with the place after it (RFC 5444, section 5.4.1). A fault's place is that of the field's first
+//! octet.
 ghost use Rattle.std.specs.Prelude.{◌≡◌, ◌≤◌, ◌<◌, ◌-◌, ◌+◌, length, Ok, Err, IfOk};
 ghost use Rattle.std.specs.Option.{option_copied};
 ghost use Rattle.mesh_atoms.specs.Reading.{Reads};

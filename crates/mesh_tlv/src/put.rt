@@ -1,4 +1,4 @@
-//! One TLV in its least form: how long it is, and putting it behind other octets.
+//! One TLV in its least form: how long it is, and putting it behind other octets (RFC 5444, section 5.4.1).
 ghost use Rattle.std.specs.Prelude.{◌≡◌, ◌≤◌, ◌<◌, ◌++◌, ◌∷◌, [], length, OnOk};
 ghost use Rattle.std.specs.Option.{option_copied};
 ghost use Rattle.mesh_tlv.specs.Fields.{fields, addr_fields, indexed};

@@ -1,4 +1,4 @@
-//! Reading TLV blocks: the value that the octets spell, or their first fault.
+//! Reading TLV blocks: the value that the octets spell, or their first fault (RFC 5444, section 5.4).
 ghost use Rattle.std.specs.Prelude.{◌≡◌, ◌≤◌, ◌<◌, ◌-◌, ◌+◌, ◌++◌, ℕ, List, length, map, slice_range, All, Ok, Err, IfOk, IfErr};
 ghost use Rattle.mesh_atoms.specs.Reading.{Gives, IfRefused, Reads};
 ghost use Rattle.mesh_atoms.specs.declared.refusal.Refusal.{Refusal};

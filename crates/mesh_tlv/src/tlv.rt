@@ -1,4 +1,4 @@
-//! The values of TLVs, and why reading or writing them fails.
+//! The values of TLVs, and why reading or writing them fails (RFC 5444, section 5.4.1).
 use std::alloc::AllocError;
 
 /// A TLV of a packet or a message (RFC 5444, section 5.4.1). `ext` is its type extension, 0 where none is written. A

@@ -1,4 +1,4 @@
-//! Writing TLV blocks in their least form.
+//! Writing TLV blocks in their least form (RFC 5444, section 5.4).
 ghost use Rattle.std.specs.Prelude.{◌≡◌, ◌≤◌, ◌<◌, ◌+◌, ◌++◌, length, map, Err, ◌↔◌, All, OnOk};
 ghost use Rattle.std.specs.List.{flat_map};
 ghost use Rattle.mesh_tlv.specs.Fields.{fields, addr_fields};

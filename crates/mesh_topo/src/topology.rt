@@ -1,4 +1,4 @@
-//! The topology bases of a router.
+//! The Topology Information Base of a router (RFC 7181, section 10).
 ghost use Rattle.std.specs.Prelude.{◌≡◌, [], ℕ, ◌<◌, ◌^◌, false, IfOk, OnOk};
 ghost use Rattle.mesh_atoms.specs.declared.settings.RouterSettings.{RouterSettings};
 ghost use Rattle.mesh_atoms.specs.AfterTc.{TakesTc};

@@ -1,4 +1,4 @@
-//! Why a message has no reading.
+//! Why a message has no reading (RFC 6130, section 12.1, and RFC 7181, section 16.3.1).
 use mesh_atoms::NetAddr;
 use std::alloc::AllocError;
 

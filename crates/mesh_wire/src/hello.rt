@@ -1,4 +1,4 @@
-//! HELLO messages read as typed values.
+//! HELLO messages read as typed values (RFC 6130, section 10, and RFC 7181, section 15).
 ghost use Rattle.std.specs.Prelude.{◌≡◌, ◌↔◌, ◌<◌, ◌^◌, ℕ, Option, map, IsTrue, IfOk, IfErr, Some, None};
 ghost use Rattle.std.specs.Option.{option_map};
 ghost use Rattle.mesh_atoms.specs.declared.addr.NetAddr.{NetAddr};

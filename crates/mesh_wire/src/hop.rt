@@ -1,4 +1,4 @@
-//! A message that is forwarded as it came, but for its hop limit and hop count.
+//! A message that is forwarded as it came, but for its hop limit and hop count (RFC 7181, section 14.3).
 ghost use Rattle.std.specs.Prelude.{◌≡◌, ◌≤◌, ◌+◌, ℕ, length, slice_get, slice_index, IsTrue};
 ghost use Rattle.mesh_packet.specs.Fields.{MessageFields};
 ghost use Rattle.mesh_packet.specs.Grammar.{SpellsMessage};

@@ -1,4 +1,4 @@
-//! Laws of the definitions, and small messages that they are tried on.
+//! Laws of the definitions, and small messages that they are tried on (RFC 6130, section 10, and RFC 7181, section 13).
 ghost use Rattle.std.specs.Prelude.{◌∷◌, [], None, Some};
 ghost use Rattle.mesh_wire.specs.Laws.{ReadsAsOneHello, ReadsAsOneTc, BreaksOneHelloRule, BreaksOneTcRule, ReadsAsHelloOrNot, ReadsAsTcOrNot, TellsAtEachDistance, KeepsAtEachDistance};
 ghost use Rattle.mesh_wire.specs.Examples.{lone, lone_hello, bare, two_near, near_net, odd_types, own_net};

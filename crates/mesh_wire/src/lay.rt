@@ -1,4 +1,4 @@
-//! The values of all address TLVs of a message, laid in one buffer.
+//! The values of all address TLVs of a message, laid in one buffer (RFC 5444, section 5.4).
 ghost use Rattle.std.specs.Prelude.{◌≡◌, ◌+◌, ◌*◌, ◌++◌, OnOk};
 ghost use Rattle.mesh_wire.specs.Lines.{octets_of, columns, column_text, columns_text};
 

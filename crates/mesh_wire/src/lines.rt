@@ -1,4 +1,4 @@
-//! What is written of each address of a message, whichever message it is.
+//! What is written of each address of a message, whichever message it is (RFC 6130, section 10, and RFC 7181, section 13.3).
 ghost use Rattle.std.specs.Prelude.{◌≡◌, ◌+◌, ◌*◌, ◌<◌, ◌≤◌, IfOk, map};
 ghost use Rattle.std.specs.Option.{option_map};
 ghost use Rattle.mesh_wire.specs.Hello.{local_value, link_value, other_value};

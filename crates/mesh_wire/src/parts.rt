@@ -1,4 +1,4 @@
-//! What is kept of all that the TLVs of a message say of one address.
+//! What is kept of all that the TLVs of a message say of one address (RFC 6130, section 10, and RFC 7181, section 13.3).
 ghost use Rattle.std.specs.Prelude.{◌≡◌, true, ◌<◌, ◌||◌};
 ghost use Rattle.mesh_wire.specs.KeptParts.{also, is_octet_in, octets_also, octet_also, code_also, has_other_length, is_flag_set, take_part, no_parts};
 

@@ -1,4 +1,4 @@
-//! The rows of a message, made of what is kept of its addresses.
+//! The rows of a message, made of what is kept of its addresses (RFC 6130, section 10, and RFC 7181, section 13.3).
 ghost use Rattle.std.specs.Prelude.{◌≡◌, map, IfOk, IfErr, None};
 ghost use Rattle.mesh_packet.specs.Fields.{fields_of_block};
 ghost use Rattle.mesh_wire.specs.Answers.{IfBroken};

@@ -1,4 +1,4 @@
-//! The rules on the addresses of a message, by what is kept of each.
+//! The rules on the addresses of a message, by what is kept of each (RFC 6130, section 12.1, and RFC 7181, section 16.3.1).
 ghost use Rattle.std.specs.Prelude.{◌≡◌};
 ghost use Rattle.mesh_wire.specs.RowRules.{is_several, is_said, is_undefined, has_two, has_status, has_wrong_type, has_wrong_gateway, has_wrong_metric, hello_rule, tc_rule};
 ghost use Rattle.mesh_wire.specs.HelloRows.{number_from, MetricFrom};

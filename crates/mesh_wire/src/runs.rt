@@ -1,4 +1,4 @@
-//! Address blocks, whose TLVs cover runs of addresses that have the same kind of part.
+//! Address blocks, whose TLVs cover runs of addresses that have the same kind of part (RFC 5444, sections 5.3 and 5.4).
 ghost use Rattle.std.specs.Prelude.{◌≡◌, ◌+◌, ◌++◌, ◌*◌, ◌<◌, ◌≤◌, length, map, drop, slice_range, IfOk, OnOk};
 ghost use Rattle.mesh_tlv.specs.Fields.{addr_fields};
 ghost use Rattle.mesh_packet.specs.Fields.{fields_of_block};

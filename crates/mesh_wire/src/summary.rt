@@ -1,4 +1,4 @@
-//! HELLO and TC messages read but for their rows, which are only counted.
+//! HELLO and TC messages read but for their rows, which are only counted (RFC 6130, section 10, and RFC 7181, section 13).
 ghost use Rattle.std.specs.Prelude.{◌≡◌, ◌/◌, ◌%◌, ℕ, Option, map, IfOk, IfErr, Some, None};
 ghost use Rattle.mesh_atoms.specs.declared.addr.NetAddr.{NetAddr};
 ghost use Rattle.mesh_atoms.specs.declared.hello.Hello.{Hello};

@@ -1,4 +1,4 @@
-//! TC messages read as typed values.
+//! TC messages read as typed values (RFC 7181, sections 13 and 16).
 ghost use Rattle.std.specs.Prelude.{◌≡◌, ◌/◌, ◌<◌, ◌^◌, ℕ, Bool, Option, map, IfSome, IfNone, IfOk, IfErr, Some, None};
 ghost use Rattle.std.specs.Option.{option_map};
 ghost use Rattle.mesh_atoms.specs.declared.addr.NetAddr.{NetAddr};

@@ -1,4 +1,5 @@
-//! What the TLVs of a message's header say: its times and how willing its sender is to be a relay.
+//! What the TLVs of a message's header say: its times and how willing its sender is to be a relay (RFC 5497, section 7, and RFC 7181,
+//! section 13.3.1).
 ghost use Rattle.std.specs.Prelude.{◌≡◌, ◌≤◌, ◌<◌, ◌^◌, ℕ, List, [], ◌∷◌, Option, map, IfSome, IfNone};
 ghost use Rattle.mesh_tlv.specs.Fields.{fields};
 ghost use Rattle.mesh_packet.specs.Fields.{fields_of_message};

@@ -1,4 +1,4 @@
-//! Writing HELLO and TC messages, each as a packet of its own.
+//! Writing HELLO and TC messages, each as a packet of its own (RFC 6130, section 10, and RFC 7181, sections 15 and 16).
 ghost use Rattle.std.specs.Prelude.{◌≡◌, ◌<◌, ◌≤◌, ◌++◌, [], ℕ, length, map, slice_index, List, IfOk, OnOk};
 ghost use Rattle.std.specs.Option.{option_map};
 ghost use Rattle.mesh_atoms.specs.declared.limits.TheConstants.{LONGEST_DATAGRAM};

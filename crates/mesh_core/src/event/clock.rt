@@ -1,4 +1,4 @@
-//! What the clock's tick does to what a router holds.
+//! What the clock's tick does to what a router holds (RFC 6130, sections 11 and 13, and RFC 7181, section 16).
 ghost use Rattle.std.specs.Prelude.{◌≡◌, ◌<◌, ◌^◌, ◌++◌, List, OnOk, OnErr, IsTrue};
 ghost use Rattle.mesh_core.specs.Deferred.{IsSoundButForDerived};
 ghost use Rattle.mesh_core.specs.Event.Holding.{state_of};

@@ -1,4 +1,5 @@
-//! How an event ends: what follows from the bases is renewed, but for relays and routes that aren't wanted.
+//! How an event ends: what follows from the bases is renewed, but for relays and routes that aren't wanted (RFC 7181, sections 16.1, 18 and
+//! 19).
 ghost use Rattle.std.specs.Prelude.{◌≡◌, ◌⊎◌, ℕ, false, IfOk, OnOk, IsTrue};
 ghost use Rattle.mesh_atoms.specs.Sound.{SoundNeighbourhood, SoundTopology};
 ghost use Rattle.mesh_atoms.specs.State.{State};

@@ -1,4 +1,4 @@
-//! What a frame that is heard does to what a router holds.
+//! What a frame that is heard does to what a router holds (RFC 6130, section 12, and RFC 7181, section 14).
 ghost use Rattle.std.specs.Prelude.{◌≡◌, ◌<◌, ◌≤◌, ◌^◌, ℕ, length, IfOk, OnErr};
 ghost use Rattle.mesh_core.specs.Deferred.{IsSoundButForDerived};
 ghost use Rattle.mesh_core.specs.Event.Holding.{state_of};

@@ -1,4 +1,4 @@
-//! What of relays and routes is outdated, and what is wanted of an event.
+//! What of relays and routes is outdated, and what is wanted of an event (RFC 7181, section 17).
 
 /// Which of relays and routes may no longer be those of the bases.
 #[derive(Clone, Copy)]

@@ -1,4 +1,4 @@
-//! What becomes of a message, by what the bases answered.
+//! What becomes of a message, by what the bases answered (RFC 7181, section 14).
 ghost use Rattle.std.specs.Prelude.{◌≡◌};
 ghost use Rattle.mesh_atoms.specs.declared.tc.Tc.{Tc as TcValue};
 ghost use Rattle.mesh_atoms.specs.TakesHello.{HelloAnswer};

@@ -1,4 +1,4 @@
-//! The bases of a router, with its settings.
+//! The bases of a router, with its settings (RFC 6130, sections 7 and 8, and RFC 7181, sections 8 to 11).
 ghost use Rattle.std.specs.Prelude.{◌≡◌, ◌<◌, ◌^◌, length, IfOk, OnOk, IsTrue};
 ghost use Rattle.mesh_atoms.specs.Live.{Live};
 ghost use Rattle.mesh_machine.specs.Laws.{SoundBases};

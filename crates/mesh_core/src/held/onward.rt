@@ -1,4 +1,4 @@
-//! Whether a message is sent on, and the sending.
+//! Whether a message is sent on, and the sending (RFC 7181, section 14.3).
 ghost use Rattle.std.specs.Prelude.{◌≡◌, ◌<◌, ◌++◌, ◌∷◌, Option, Bool, length, OnOk};
 ghost use Rattle.mesh_atoms.specs.declared.addr.Addr4.{Addr4};
 ghost use Rattle.mesh_atoms.specs.Base.{base_of};

@@ -1,4 +1,4 @@
-//! The frames that a router sends.
+//! The frames that a router sends (RFC 5444).
 ghost use Rattle.std.specs.Prelude.{◌≡◌, ◌++◌, ◌∷◌, [], ◌<◌, ◌≤◌, ℕ, length, slice_get, OnOk, OnErr};
 ghost use Rattle.mesh_core.specs.Held.Outbox.{frame_of};
 ghost use Rattle.mesh_machine.specs.Frames.{on_each};

@@ -1,4 +1,4 @@
-//! What an event has left as it was.
+//! What an event has left as it was (RFC 7181, section 17).
 ghost use Rattle.std.specs.Prelude.{◌≡◌, ◌&&◌, true};
 
 /// What an event has left as it was: the neighbourhood but for moments, and what others advertise.

@@ -1,4 +1,4 @@
-//! What a message does to the bases of a router.
+//! What a message does to the bases of a router (RFC 6130, section 12, and RFC 7181, sections 14 to 16).
 ghost use Rattle.std.specs.Prelude.{◌≡◌, ◌<◌, ◌≤◌, ◌+◌, ◌^◌, ◌++◌, ◌∷◌, ℕ, [], map, List, length, IfOk, OnOk, IsTrue};
 ghost use Rattle.mesh_atoms.specs.declared.addr.Addr4.{Addr4};
 ghost use Rattle.mesh_atoms.specs.Sound.{SoundNeighbourhood};

@@ -1,4 +1,4 @@
-//! What a frame reads as.
+//! What a frame reads as (RFC 5444).
 ghost use Rattle.std.specs.Prelude.{ℕ, List, map, IfOk};
 ghost use Rattle.mesh_atoms.specs.Reading.{IfRefused};
 ghost use Rattle.mesh_core.specs.Reading.Content.{IsContentOf, AreReadAs};

@@ -1,4 +1,4 @@
-//! What of a message's header flooding looks at.
+//! What of a message's header flooding looks at (RFC 5444, section 5.2).
 ghost use Rattle.std.specs.Prelude.{◌≡◌, IfSome, IsNone};
 ghost use Rattle.mesh_flood.specs.declared.verdict.Heading.{Heading};
 ghost use Rattle.mesh_packet.specs.Fields.{fields_of_message};

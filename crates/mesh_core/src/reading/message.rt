@@ -1,4 +1,4 @@
-//! What one message of a frame reads as.
+//! What one message of a frame reads as (RFC 6130, section 10, and RFC 7181, section 13).
 ghost use Rattle.std.specs.Prelude.{◌≡◌, IfOk};
 ghost use Rattle.mesh_core.specs.Reading.Message.{IsReadAs, IsReadAsBroken};
 ghost use Rattle.mesh_packet.specs.Fields.{MessageFields, fields_of_message};

@@ -1,4 +1,4 @@
-//! A frame with what it reads as.
+//! A frame with what it reads as (RFC 5444).
 ghost use Rattle.std.specs.Prelude.{◌≡◌, IfOk};
 ghost use Rattle.mesh_machine.specs.Sendable.{AreOctets};
 ghost use Rattle.mesh_core.specs.Reading.Content.{IsContentOf};

@@ -1,4 +1,4 @@
-//! The HELLOs that a router sends when its clock ticks.
+//! The HELLOs that a router sends when its clock ticks (RFC 6130, section 11).
 ghost use Rattle.std.specs.Prelude.{◌≡◌, ◌<◌, ◌^◌, ◌++◌, List, length, IfOk, OnOk};
 ghost use Rattle.mesh_atoms.specs.declared.hello.Hello.{Hello as HelloValue};
 ghost use Rattle.mesh_atoms.specs.Hello.{IsHelloNow};

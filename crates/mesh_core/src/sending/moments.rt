@@ -1,4 +1,4 @@
-//! The moments at which a router sends.
+//! The moments at which a router sends (RFC 6130, section 11, and RFC 7181, section 16.2).
 ghost use Rattle.std.specs.Prelude.{◌<◌, ◌≤◌, ◌^◌};
 ghost use Rattle.mesh_machine.specs.Sending.{IsNextMoment};
 

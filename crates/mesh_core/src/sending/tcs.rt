@@ -1,4 +1,4 @@
-//! The TCs that a router sends when its clock ticks, one for each part of its rows.
+//! The TCs that a router sends when its clock ticks, one for each part of its rows (RFC 7181, sections 16.1 and 16.2).
 ghost use Rattle.std.specs.Prelude.{◌≡◌, ◌<◌, ◌≤◌, ◌+◌, ◌%◌, ◌^◌, ◌++◌, ◌↔◌, ℕ, List, Some, length, map, nat_eq, slice_get, IfOk, OnOk, IsTrue};
 ghost use Rattle.std.specs.List.{AllPairs};
 ghost use Rattle.mesh_atoms.specs.declared.limits.TheConstants.{MOST_TC_ROWS};

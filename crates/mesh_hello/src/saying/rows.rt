@@ -1,4 +1,4 @@
-//! The rows of a HELLO.
+//! The rows of a HELLO (RFC 6130, section 11).
 ghost use Rattle.std.specs.Prelude.{◌≡◌, ◌↔◌, IsTrue, Contains, IfOk, map};
 ghost use Rattle.mesh_atoms.specs.Base.{Has, HasDistinctKeys, addr_eq, host};
 ghost use Rattle.mesh_hello.specs.Saying.Said.{AreDisjoint, IsHelloRowOf, said_addresses};

@@ -1,4 +1,4 @@
-//! Of which addresses a HELLO says something.
+//! Of which addresses a HELLO says something (RFC 6130, section 11).
 ghost use Rattle.std.specs.Prelude.{◌≡◌, ◌++◌, ◌↔◌, List, Contains, IfOk, OnOk};
 ghost use Rattle.std.specs.List.{flat_map};
 ghost use Rattle.mesh_atoms.specs.declared.addr.Addr4.{Addr4};

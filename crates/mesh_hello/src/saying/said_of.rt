@@ -1,4 +1,4 @@
-//! What a HELLO says of an address.
+//! What a HELLO says of an address (RFC 6130, section 11, and RFC 7181, section 15.1).
 ghost use Rattle.std.specs.Prelude.{◌≡◌, ◌↔◌, ◌<◌, IsTrue, Option, Some, None};
 ghost use Rattle.mesh_atoms.specs.Words.{IsValue};
 ghost use Rattle.mesh_atoms.specs.Base.{HasDistinctKeys, addr_eq};

@@ -1,4 +1,4 @@
-//! The HELLO of an interface.
+//! The HELLO of an interface (RFC 6130, section 11, and RFC 7181, section 15.1).
 ghost use Rattle.std.specs.Prelude.{◌≡◌, IfOk};
 ghost use Rattle.mesh_atoms.specs.Hello.{IsHelloNow};
 ghost use Rattle.mesh_atoms.specs.State.{State};

@@ -1,4 +1,4 @@
-//! Which HELLOs their receiver refuses.
+//! Which HELLOs their receiver refuses (RFC 6130, section 12.1).
 ghost use Rattle.std.specs.Prelude.{◌≢◌, ◌↔◌, IsTrue, IfSome, IfNone, Contains, Any, Some};
 ghost use Rattle.mesh_atoms.specs.Words.{IsValue};
 ghost use Rattle.mesh_atoms.specs.HelloTold.{TellsLocal};

@@ -1,4 +1,4 @@
-//! What a HELLO tells its receiver.
+//! What a HELLO tells its receiver (RFC 6130, section 12, and RFC 7181, section 15.3).
 ghost use Rattle.std.specs.Prelude.{◌≡◌, ◌<◌, ◌↔◌, ◌⊎◌, None, Some, length, slice_get, Contains, IfOk};
 ghost use Rattle.mesh_atoms.specs.State.{HasAddress};
 ghost use Rattle.mesh_atoms.specs.HelloTold.{Tells};

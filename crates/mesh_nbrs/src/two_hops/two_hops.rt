@@ -1,4 +1,4 @@
-//! The set of the 2-hop tuples of one interface.
+//! The 2-Hop Set of one interface (RFC 6130, section 7.2, and RFC 7181, section 8.2).
 ghost use Rattle.std.specs.Prelude.{◌≡◌, ◌+◌, ◌↔◌, [], length, false, if◌then◌else◌, is_some, option_map, IfOk, OnOk, OnErr, IsTrue, IsSome, Some, None};
 ghost use Rattle.mesh_atoms.specs.Base.{Base, HasDistinctKeys, find, SetsOnly, Expires, two_hop_eq};
 ghost use Rattle.mesh_nbrs.specs.TwoHops.TwoHops.{DropsLink, KnowsLinks};

@@ -1,4 +1,4 @@
-//! What a neighbour costs in the choice of relays.
+//! What a neighbour costs in the choice of relays (RFC 7181, sections 18.4 and 18.5).
 ghost use Rattle.std.specs.Prelude.{◌≡◌, ℕ, IfSome, IfNone, Option};
 ghost use Rattle.mesh_atoms.specs.declared.addr.Addr4.{Addr4};
 ghost use Rattle.mesh_atoms.specs.declared.codes.metric.Metric.{Metric};

@@ -1,4 +1,4 @@
-//! A neighbour by one of its addresses.
+//! A neighbour by one of its addresses (RFC 7181, section 9).
 ghost use Rattle.std.specs.Prelude.{◌≡◌};
 ghost use Rattle.mesh_routes.specs.Hops.Owners.{owner_at, owner_by};
 

@@ -1,4 +1,4 @@
-//! The routing set of a router.
+//! The routing set of a router (RFC 7181, section 10.5).
 ghost use Rattle.std.specs.Prelude.{◌≡◌, ◌≢◌, [], Contains, IfOk, IfErr, IfSome, IfNone};
 ghost use Rattle.std.specs.List.{AllPairs};
 ghost use Rattle.mesh_atoms.specs.declared.graphs.Route.{Route};

@@ -1,4 +1,4 @@
-//! The ways to neighbours: their links with a known metric.
+//! The ways to neighbours: their links with a known metric (RFC 7181, sections 18.2 and 19.1).
 ghost use Rattle.std.specs.Prelude.{◌≡◌, ◌↔◌, IsTrue, IfSome, IfNone};
 ghost use Rattle.mesh_routes.specs.Hops.Ways.{way_of, IsBestLink, IsCutOff};
 

@@ -1,4 +1,4 @@
-//! Gaps among the neighbours of a router.
+//! Gaps among the neighbours of a router (RFC 6130, section 8.1).
 ghost use Rattle.std.specs.Prelude.{◌≡◌, ◌↔◌, ◌+◌, ◌*◌, List, Some, IsTrue, Contains, length};
 ghost use Rattle.mesh_atoms.specs.declared.addr.Addr4.{Addr4};
 ghost use Rattle.mesh_atoms.specs.Hello.{Says, Routing};

@@ -1,4 +1,4 @@
-//! The senders of the TCs that a router takes, and stray routers.
+//! The senders of the TCs that a router takes, and stray routers (RFC 7181, section 10.1).
 ghost use Rattle.std.specs.Prelude.{◌≡◌, ◌↔◌, IsTrue};
 ghost use Rattle.mesh_atoms.specs.Words.{IsValue};
 ghost use Rattle.mesh_atoms.specs.Settled.{IsStray};

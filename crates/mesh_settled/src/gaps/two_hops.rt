@@ -1,4 +1,4 @@
-//! Gaps among the 2-hop tuples of a router.
+//! Gaps among the 2-hop tuples of a router (RFC 6130, section 7.2).
 ghost use Rattle.std.specs.Prelude.{◌≡◌, List, Some, None, Contains, option_map};
 ghost use Rattle.mesh_machine.specs.expire.Table.{value_of};
 ghost use Rattle.mesh_settled.specs.Gaps.Fields.{Field, two_hop_fields};

@@ -1,4 +1,4 @@
-//! The tuples of an originator with another number.
+//! The tuples of an originator with another number (RFC 7181, section 16.3.3).
 ghost use Rattle.std.specs.Prelude.{◌≡◌, ◌≤◌, false, length, IfOk, OnOk, None, cond};
 ghost use Rattle.std.specs.List.{list_any};
 ghost use Rattle.mesh_atoms.specs.Base.{HasDistinctKeys, find};
