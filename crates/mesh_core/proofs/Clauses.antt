@@ -1,5 +1,5 @@
 -- What the clauses of an event say of a core to which all is kept, put together.
-use Rattle.std.proofs.Common.{◌≡◌, ◌<◌, ◌≤◌, ◌++◌, ℕ, List, Result, Ok, Err, IsTrue, Bool, true, refl, sym, subst, ap, ◌∙◌}
+use Rattle.std.proofs.Common.{◌≡◌, ◌<◌, ◌≤◌, ◌++◌, ℕ, List, Result, Ok, Err, Bool, true, sym, subst, ap, ◌∙◌}
 use Rattle.std.specs.Prelude.{All, IfOk, OnOk, OnErr}
 use Rattle.mesh_atoms.specs.declared.graphs.Route.{Route}
 use Rattle.mesh_atoms.specs.declared.tuples.Relays.{Relays}

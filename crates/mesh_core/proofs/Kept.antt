@@ -1,6 +1,6 @@
 -- What is kept of a router, and its steps: a step looks at no relays and routes of the state before it, so that what happens to what is kept of a
 -- router happens to it too.
-use Rattle.std.proofs.Common.{◌≡◌, ℕ, ◌≤◌, ◌∙◌, List, refl, sym, ap, subst, arith}
+use Rattle.std.proofs.Common.{◌≡◌, ℕ, ◌∙◌, List, refl, sym, ap, subst, arith}
 use Rattle.mesh_atoms.specs.State.{State, Bases}
 use Rattle.mesh_atoms.specs.declared.tuples.Relays.{Relays}
 use Rattle.mesh_atoms.specs.declared.graphs.Route.{Route}

@@ -1,6 +1,6 @@
 -- What the clauses of an event say of a router that may put off relays and routes, put together.
-use Rattle.std.proofs.Common.{◌≡◌, ◌<◌, ◌≤◌, ℕ, List, [], Result, Ok, Err, true, refl, sym, subst, ap, arith, ◌∙◌}
-use Rattle.std.specs.Prelude.{All, IfOk, OnOk, is_err}
+use Rattle.std.proofs.Common.{◌≡◌, ◌<◌, ◌≤◌, ℕ, List, [], Result, Ok, Err, true, subst, arith}
+use Rattle.std.specs.Prelude.{All, OnOk}
 use Rattle.mesh_atoms.specs.Sound.{Sound}
 use Rattle.mesh_atoms.specs.State.{State}
 use Rattle.mesh_machine.specs.declared.arrival.Arrival.{Arrival}
@@ -13,12 +13,12 @@ use Rattle.mesh_core.specs.declared.event.outdated.EventWants.{EventWants}
 use Rattle.mesh_core.specs.declared.event.outdated.Outdated.{Outdated}
 use Rattle.mesh_core.specs.Deferred.{IsKeptOf, IsSoundButForDerived}
 use Rattle.mesh_core.specs.Event.Outdated.{IsCurrent, IsKeptFor}
-use Rattle.mesh_core.specs.Event.Promises.{HearsAndKeeps, HearsTo, TicksTo}
+use Rattle.mesh_core.specs.Event.Promises.{HearsTo, TicksTo}
 use Rattle.mesh_core.specs.Holding.{CoreValue}
 use Rattle.mesh_core.proofs.Clauses.{all_kept}
 
 -- a router has heard a frame, or met an allocation failure
-pub record HearUntil {E : Type 0} (came : Result Heard E) (until : ℕ) (old : State) (arrival : Arrival) (bytes : List ℕ) (sent : List Frame) (outdated : Outdated) (new : State) : Type 0 where
+pub record HearUntil {A E : Type 0} (came : Result A E) (until : ℕ) (old : State) (arrival : Arrival) (bytes : List ℕ) (sent : List Frame) (outdated : Outdated) (new : State) : Type 0 where
   pub step : OnOk came ((whole : State) × Step old (Hear arrival bytes) sent whole × IsKeptOf until whole new)
   pub sendable : OnOk came (All (IsSendable old.settings) sent)
   pub settings : OnOk came (new.settings ≡ old.settings)
@@ -27,17 +27,13 @@ pub record HearUntil {E : Type 0} (came : Result Heard E) (until : ℕ) (old : S
   pub due : OnOk came (due new ≡ due old)
   pub rest : OnOk came (IsSoundButForDerived new × IsCurrent outdated new)
 
--- a router that puts nothing off takes the machine's step, and stays sound
-module _ {E : Type 0} (old : State) (arrival : Arrival) (bytes : List ℕ) (sent : List Frame) (outdated : Outdated) (new : State) where
-  pub step_whole : (came : Result Heard E) → HearUntil came 0 old arrival bytes sent outdated new → OnOk came (Step old (Hear arrival bytes) sent new)
-  step_whole (Ok kept) heard =
-      let (whole, step, kept) = heard.step in
-      let then : 0 ≤ new.last = omega arith in subst (λ (s : State). Step old (Hear arrival bytes) sent s) (kept.from_then then) step
-  step_whole (Err e) heard = tt
-
-  pub sound_whole : (came : Result Heard E) → Sound old → HearUntil came 0 old arrival bytes sent outdated new → OnOk came (Sound new)
-  sound_whole (Ok kept) sound heard = step_sound old (Hear arrival bytes) sent new sound (step_whole (Ok kept) heard)
-  sound_whole (Err e) sound heard = tt
+-- a router that puts nothing off stays sound
+pub sound_whole : {A E : Type 0} (old : State) (arrival : Arrival) (bytes : List ℕ) (sent : List Frame) (outdated : Outdated) (new : State) (came : Result A E) → Sound old → HearUntil came 0 old arrival bytes sent outdated new → OnOk came (Sound new)
+sound_whole old arrival bytes sent outdated new (Ok kept) sound heard =
+    let (whole, step, kept) = heard.step in
+    let then : 0 ≤ new.last = omega arith in
+    step_sound old (Hear arrival bytes) sent new sound (subst (λ (s : State). Step old (Hear arrival bytes) sent s) (kept.from_then then) step)
+sound_whole old arrival bytes sent outdated new (Err e) sound heard = tt
 
 -- its clock has ticked, or it met an allocation failure
 pub record TickUntil {A E : Type 0} (came : Result A E) (until : ℕ) (old : State) (now : ℕ) (sent : List Frame) (outdated : Outdated) (new : State) : Type 0 where
@@ -55,27 +51,24 @@ module _ (wants : EventWants) (until now : ℕ) (relays : until ≤ now → want
     from_then = λ late. let then : until ≤ now = omega (arith, late, before) in all_kept wants whole new (relays then) (routes then) kept;
   }
 
-module _ {E : Type 0} (wants : EventWants) (until : ℕ) (arrival : Arrival) (bytes : List ℕ) (outdated : Outdated) (new : State)
+module _ {A E : Type 0} (wants : EventWants) (until : ℕ) (arrival : Arrival) (bytes : List ℕ) (outdated : Outdated) (new : State)
     (relays : until ≤ arrival.now → wants.relays ≡ true) (routes : until ≤ arrival.now → wants.routes ≡ true) where
-  heard_until : (came : Result Heard E) (old : State) (sent : List Frame) → IfOk came (λ kept. HearsAndKeeps wants old arrival bytes kept [] sent outdated new) → HearUntil came until old arrival bytes sent outdated new
-  heard_until (Ok kept) old sent heard =
-      let to : HearsTo wants old arrival bytes heard.answer [] sent outdated new = heard.hears in
-      record {
-        step = (to.leaves.whole, Heard_frame heard.answer to.leaves.leads, kept_until wants until arrival.now relays routes to.leaves.whole new to.last to.leaves.rest);
-        sendable = to.sendable;
-        settings = to.settings;
-        last = to.last;
-        no_earlier = to.no_earlier;
-        due = to.due;
-        rest = (to.sound, to.leaves.current);
-      }
+  heard_until : (came : Result A E) (old : State) (sent : List Frame) → OnOk came ((answer : Heard) × HearsTo wants old arrival bytes answer [] sent outdated new) → HearUntil came until old arrival bytes sent outdated new
+  heard_until (Ok kept) old sent (answer, to) = record {
+    step = (to.leaves.whole, Heard_frame answer to.leaves.leads, kept_until wants until arrival.now relays routes to.leaves.whole new to.last to.leaves.rest);
+    sendable = to.sendable;
+    settings = to.settings;
+    last = to.last;
+    no_earlier = to.no_earlier;
+    due = to.due;
+    rest = (to.sound, to.leaves.current);
+  }
   heard_until (Err e) old sent to = record { step = tt; sendable = tt; settings = tt; last = tt; no_earlier = tt; due = tt; rest = tt }
 
-  pub hear_until : {shown core : CoreValue} (came : Result Heard E) (before sent : List Frame) → before ≡ [] → shown ≡ core → IfOk came (λ kept. HearsAndKeeps wants shown.state arrival bytes kept before sent outdated new) →
+  pub hear_until : {shown core : CoreValue} (came : Result A E) (sent : List Frame) → shown ≡ core → OnOk came ((answer : Heard) × HearsTo wants shown.state arrival bytes answer [] sent outdated new) →
       HearUntil came until core.state arrival bytes sent outdated new
-  hear_until {shown} {core} came before sent none is to =
-      subst (λ (v : CoreValue). HearUntil came until v.state arrival bytes sent outdated new) is
-      (heard_until came shown.state sent (subst (λ (b : List Frame). IfOk came (λ kept. HearsAndKeeps wants shown.state arrival bytes kept b sent outdated new)) none to))
+  hear_until {shown} {core} came sent is to =
+      subst (λ (v : CoreValue). HearUntil came until v.state arrival bytes sent outdated new) is (heard_until came shown.state sent to)
 
 module _ {A E : Type 0} (wants : EventWants) (until now : ℕ) (outdated : Outdated) (new : State) (relays : until ≤ now → wants.relays ≡ true) (routes : until ≤ now → wants.routes ≡ true) where
   ticked_until : (came : Result A E) (old : State) (sent : List Frame) → OnOk came (TicksTo wants old now [] sent outdated new) → TickUntil came until old now sent outdated new

@@ -1,7 +1,6 @@
 //! A router that may put off relays and routes.
 ghost use Rattle.std.specs.Prelude.{◌≡◌};
 ghost use Rattle.mesh_atoms.specs.Sound.{Sound};
-ghost use Rattle.mesh_machine.specs.Machine.{due};
 
 use crate::router::{Core, RouterState};
 use mesh_expire::Bases;
@@ -47,12 +46,5 @@ impl<B: Bases> DeferredCore<B> {
     {
         let DeferredCore { router, spent } = self;
         Core { router, spent }
-    }
-
-    // The moment at which the next HELLO or TC is due.
-    pub(crate) fn due(&self) -> u64
-        ensures { result ≡ due self.now.state }
-    {
-        self.router.due()
     }
 }

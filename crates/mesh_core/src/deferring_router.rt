@@ -6,11 +6,10 @@ ghost use Rattle.mesh_machine.specs.Machine.{Event, Step, due};
 ghost use Rattle.mesh_machine.specs.Sendable.{IsSendable};
 
 use crate::deferred::DeferredCore;
-use crate::event::{EventWants, hear_typed, tick};
+use crate::event::{EventWants, hear_into, tick};
 use crate::held::Outbox;
 use crate::reading::TypedFrame;
 use crate::router::Core;
-use crate::router_core::without_answer;
 use mesh_expire::Bases;
 use mesh_machine::Arrival;
 use std::alloc::AllocError;
@@ -67,7 +66,6 @@ impl<B: Bases> DeferringRouter for Core<B> {
         out: &mut Outbox,
     ) -> Result<(), AllocError> {
         let _ = until;
-        out.clear();
         if self.spent {
             return Err(AllocError);
         }
@@ -76,9 +74,9 @@ impl<B: Bases> DeferringRouter for Core<B> {
             routes: true,
             fates: false,
         };
-        let came = hear_typed(&mut self.router, wants, arrival, frame, out);
+        let came = hear_into(&mut self.router, wants, arrival, frame, out);
         self.spent = came.is_err();
-        without_answer(came)
+        came
     }
 
     fn tick_until(&mut self, until: u64, now: u64, out: &mut Outbox) -> Result<(), AllocError> {
@@ -102,7 +100,6 @@ impl<B: Bases> DeferringRouter for DeferredCore<B> {
         frame: &TypedFrame,
         out: &mut Outbox,
     ) -> Result<(), AllocError> {
-        out.clear();
         if self.spent {
             return Err(AllocError);
         }
@@ -111,9 +108,9 @@ impl<B: Bases> DeferringRouter for DeferredCore<B> {
             routes: until <= arrival.now,
             fates: false,
         };
-        let came = hear_typed(&mut self.router, wants, arrival, frame, out);
+        let came = hear_into(&mut self.router, wants, arrival, frame, out);
         self.spent = came.is_err();
-        without_answer(came)
+        came
     }
 
     fn tick_until(&mut self, until: u64, now: u64, out: &mut Outbox) -> Result<(), AllocError> {
@@ -132,6 +129,6 @@ impl<B: Bases> DeferringRouter for DeferredCore<B> {
     }
 
     fn due_next(&self) -> u64 {
-        self.due()
+        self.router.due()
     }
 }

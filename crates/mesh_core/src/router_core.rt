@@ -1,14 +1,13 @@
 //! A router that runs, whatever tables it has.
-ghost use Rattle.std.specs.Prelude.{◌≡◌, ◌<◌, ◌≤◌, ◌^◌, length, is_err, All, IfOk, OnOk};
+ghost use Rattle.std.specs.Prelude.{◌≡◌, ◌<◌, ◌≤◌, ◌^◌, length, All, IfOk, OnOk};
 ghost use Rattle.mesh_machine.specs.Machine.{Event, Step, IsOpening, due};
 ghost use Rattle.mesh_machine.specs.Sendable.{IsSendable};
 
-use crate::event::{EventWants, hear_frame};
 use crate::held::Outbox;
 use crate::router::Core;
 use mesh_atoms::RouterSettings;
 use mesh_expire::Bases;
-use mesh_machine::{Arrival, Heard, RouterView};
+use mesh_machine::{Arrival, RouterView};
 use std::alloc::{AllocError, Global};
 
 /// A router that runs: each event is one step of its machine. What lets routers run needs no more than this, and knows nothing of
@@ -51,14 +50,6 @@ pub trait RouterCore: RouterView + Sized + Drop {
         ensures { result ≡ due (Self.state self.now) };
 }
 
-// Whether a frame was heard, whatever is answered to it.
-pub(crate) fn without_answer(came: Result<Heard, AllocError>) -> Result<(), AllocError>
-    ensures { is_err result ≡ is_err came }
-{
-    let _ = came?;
-    Ok(())
-}
-
 impl<B: Bases> RouterCore for Core<B> {
     fn make(alloc: Global, settings: RouterSettings) -> Result<Core<B>, AllocError> {
         Core::new(alloc, settings)
@@ -71,17 +62,8 @@ impl<B: Bases> RouterCore for Core<B> {
         out: &mut Outbox,
     ) -> Result<(), AllocError> {
         out.clear();
-        if self.spent {
-            return Err(AllocError);
-        }
-        let wants = EventWants {
-            relays: true,
-            routes: true,
-            fates: false,
-        };
-        let came = hear_frame(&mut self.router, wants, arrival, bytes, out);
-        self.spent = came.is_err();
-        without_answer(came)
+        let _ = self.hear(arrival.now, arrival.iface, arrival.sender, bytes, out)?;
+        Ok(())
     }
 
     fn tick_at(&mut self, now: u64, out: &mut Outbox) -> Result<(), AllocError> {

@@ -6,9 +6,8 @@ ghost use Rattle.mesh_machine.specs.Machine.{Event, Step, Hears, due};
 ghost use Rattle.mesh_machine.specs.Sendable.{IsSendable};
 ghost use Rattle.mesh_packet.specs.Grammar.{FirstFault};
 
-use crate::event::{EventWants, hear_frame, hear_typed, tick};
+use crate::event::{EventWants, hear_frame, tick};
 use crate::held::Outbox;
-use crate::reading::TypedFrame;
 use crate::router::Core;
 use mesh_atoms::Addr4;
 use mesh_expire::Bases;
@@ -56,48 +55,6 @@ impl<B: Bases> Core<B> {
             fates: true,
         };
         let came = hear_frame(&mut self.router, wants, arrival, bytes, out);
-        self.spent = came.is_err();
-        came
-    }
-
-    /// Hears a frame that was read before, as `hear` does.
-    pub fn hear_typed(
-        &mut self,
-        now: u64,
-        iface: usize,
-        sender: Addr4,
-        frame: &TypedFrame,
-        out: &mut Outbox,
-    ) -> Result<Heard, AllocError>
-        requires now { now < 2 ^ 62 }
-        requires later { self.old.state.last ≤ now }
-        requires iface { iface < length self.old.state.settings.interfaces }
-        // One step of the router.
-        ensures step { IfOk result (λ answer. Step self.old.state (Event.Hear (record { now = now; iface = iface; sender = sender }) frame.now) (sent_since out.old out.new) self.new.state) }
-        // What is answered.
-        ensures answer { IfOk result (λ answer. Hears self.old.state (record { now = now; iface = iface; sender = sender }) frame.now answer (sent_since out.old out.new) self.new.state) }
-        ensures refused { (place reason : ℕ) → FirstFault frame.now place reason → IfOk result (λ answer. answer ≡ Heard.Refused (record { place = place; reason = reason })) }
-        ensures appended { out.new ≡ out.old ++ sent_since out.old out.new }
-        // Each frame that is sent is a packet, on an interface.
-        ensures sendable { OnOk result (All (IsSendable self.old.state.settings) (sent_since out.old out.new)) }
-        ensures settings { OnOk result (self.new.state.settings ≡ self.old.state.settings) }
-        ensures last { OnOk result (self.new.state.last ≤ now) }
-        ensures due { OnOk result (due self.new.state ≡ due self.old.state) }
-        ensures sound { OnOk result (Sound self.new.state) }
-        ensures spent { self.new.is_spent ≡ is_err result }
-        ensures stays { IsTrue self.old.is_spent → IsErr result }
-        ensures wanting { OnErr result (out.new ≡ out.old) }
-    {
-        if self.spent {
-            return Err(AllocError);
-        }
-        let arrival = Arrival { now, iface, sender };
-        let wants = EventWants {
-            relays: true,
-            routes: true,
-            fates: true,
-        };
-        let came = hear_typed(&mut self.router, wants, arrival, frame, out);
         self.spent = came.is_err();
         came
     }

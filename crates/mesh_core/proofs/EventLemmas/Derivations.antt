@@ -1,7 +1,7 @@
 -- What a router has before an event, at its end and after a tick.
 use Rattle.std.proofs.Common.{◌≡◌, ℕ, IsTrue, ap, refl, subst, ◌∙◌}
 use Rattle.mesh_atoms.specs.Advertised.{AreTcRows}
-use Rattle.mesh_atoms.specs.State.{Bases, State}
+use Rattle.mesh_atoms.specs.State.{State}
 use Rattle.mesh_core.specs.declared.event.outdated.EventWants.{EventWants}
 use Rattle.mesh_core.specs.declared.event.outdated.Outdated.{Outdated}
 use Rattle.mesh_core.specs.declared.held.quiet.Quiet.{Quiet}

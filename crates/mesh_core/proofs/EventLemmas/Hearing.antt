@@ -18,7 +18,7 @@ use Rattle.mesh_core.specs.declared.event.outdated.Outdated.{Outdated}
 use Rattle.mesh_core.specs.declared.event.outdated.EventWants.{EventWants}
 use Rattle.mesh_core.specs.Deferred.{IsSoundButForDerived}
 use Rattle.mesh_core.specs.Event.Outdated.{IsCurrent, KeepsWanted}
-use Rattle.mesh_core.specs.Event.Promises.{HearsTo}
+use Rattle.mesh_core.specs.Event.Promises.{HearsAndKeeps, HearsTo}
 use Rattle.mesh_core.proofs.EventLemmas.Wholes.{bases_but, but_through, sound_but}
 
 -- a frame leaves a router sound but for relays and routes
@@ -64,3 +64,12 @@ pub refused_to : (wants : EventWants) (s : State) (arrival : Arrival) (bytes : L
 refused_to wants s arrival bytes out outdated sound later octets current refusal fault =
     hears_to wants s arrival bytes out out outdated s sound later octets (heard.Refused refusal) [] (sym (append-nil out))
     (record { whole = s; leads = (fault, refl, refl); rest = record { same = refl; relays = λ wanted. refl; routes = λ wanted. refl }; current = current })
+
+-- a frame that was read before, whose octets are these, of which what is sent stands alone
+pub alone_to : (wants : EventWants) (old : State) (arrival : Arrival) {read bytes : List ℕ} {kept : Heard} {before after : List Frame} {outdated : Outdated} {new : State} → read ≡ bytes → before ≡ [] →
+    HearsAndKeeps wants old arrival read kept before after outdated new → (answer : Heard) × HearsTo wants old arrival bytes answer [] after outdated new
+alone_to wants old arrival {read} {bytes} {kept} {before} {after} {outdated} {new} are none heard = (
+  heard.answer,
+  subst (λ (o : List ℕ). HearsTo wants old arrival o heard.answer [] after outdated new) are
+      (subst (λ (f : List Frame). HearsTo wants old arrival read heard.answer f after outdated new) none heard.hears),
+)

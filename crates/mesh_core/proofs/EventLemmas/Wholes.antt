@@ -1,5 +1,5 @@
 -- A state of which relays and routes are outdated is one with some relays and routes but for those.
-use Rattle.std.proofs.Common.{◌≡◌, ℕ, Bool, true, false, IsTrue, List, refl, sym, subst, ◌∙◌, ap}
+use Rattle.std.proofs.Common.{◌≡◌, Bool, true, false, List, refl, subst}
 use Rattle.std.proofs.lemmas.Bool.{true≢false}
 use Rattle.mesh_atoms.specs.declared.addr.Addr4.{Addr4}
 use Rattle.mesh_atoms.specs.declared.graphs.Route.{Route}
@@ -17,9 +17,8 @@ use Rattle.mesh_renewal.proofs.Existing.{relays_exist}
 use Rattle.mesh_renewal.proofs.RowMoments.{rows_stay}
 use Rattle.mesh_renewal.proofs.Staying.{relays_kept, routes_kept}
 use Rattle.mesh_core.specs.declared.event.outdated.Outdated.{Outdated}
-use Rattle.mesh_core.specs.declared.event.outdated.EventWants.{EventWants}
 use Rattle.mesh_core.specs.Deferred.{IsButForDerived, IsSoundButForDerived}
-use Rattle.mesh_core.specs.Event.Outdated.{IsCurrent, IsKeptFor}
+use Rattle.mesh_core.specs.Event.Outdated.{IsCurrent}
 use Rattle.mesh_core.proofs.HeldLemmas.Quiet.{advertised_equal, near_equal}
 
 -- What is sound but for relays and routes
@@ -45,6 +44,9 @@ sound_but s sound = (s, sound, refl)
 
 pub current_of : (outdated : Outdated) (s : State) → Sound s → IsCurrent outdated s
 current_of outdated s sound = record { relays = λ current. sound.relays; routes = λ current. (sound.self, sound.routes) }
+
+pub whole_but : (outdated : Outdated) (s : State) → Sound s → IsSoundButForDerived s × IsCurrent outdated s
+whole_but outdated s sound = (sound_but s sound, current_of outdated s sound)
 
 -- Relays and routes that there are
 

@@ -1,7 +1,7 @@
 -- What a router sends can be written.
 use Rattle.mesh_atoms.specs.Writable.{IsSentTime, IsSentIfSome, IsAlone, HaveSenderAlone, HaveStatusWhole, AreOneType, HaveTypeWhole}
-use Rattle.std.proofs.Common.{◌≡◌, ℕ, ◌⊎◌, inl, inr, sym, ap, subst, ◌∙◌, List, [], ◌∷◌, ◌++◌, length, Option, Some, None, Contains, IsTrue, Result, Ok, Err}
-use Rattle.std.specs.Prelude.{slice_get, IsSome, OnOk, IfOk}
+use Rattle.std.proofs.Common.{◌≡◌, ℕ, ◌⊎◌, inl, inr, sym, ap, subst, ◌∙◌, List, [], ◌∷◌, ◌++◌, length, Option, Some, None, Contains, IsTrue}
+use Rattle.std.specs.Prelude.{slice_get, IsSome}
 use Rattle.mesh_atoms.specs.declared.addr.NetAddr.{NetAddr}
 use Rattle.mesh_atoms.specs.declared.hello.Hello.{Hello}
 use Rattle.mesh_atoms.specs.declared.hello.HelloRow.{HelloRow}

@@ -1,10 +1,11 @@
 //! What a frame that is heard does to what a router holds (RFC 6130, section 12, and RFC 7181, section 14).
-ghost use Rattle.std.specs.Prelude.{◌≡◌, ◌<◌, ◌≤◌, ◌^◌, ℕ, length, IfOk, OnErr};
+ghost use Rattle.std.specs.Prelude.{◌≡◌, ◌<◌, ◌≤◌, ◌^◌, ℕ, [], length, IfOk, OnOk, OnErr};
 ghost use Rattle.mesh_core.specs.Deferred.{IsSoundButForDerived};
 ghost use Rattle.mesh_core.specs.Event.Holding.{state_of};
 ghost use Rattle.mesh_core.specs.Event.Outdated.{IsCurrent};
-ghost use Rattle.mesh_core.specs.Event.Promises.{HearsAndKeeps};
+ghost use Rattle.mesh_core.specs.Event.Promises.{HearsAndKeeps, HearsTo};
 ghost use Rattle.mesh_core.specs.Reading.Content.{IsContentOf, IsPacketOf};
+ghost use Rattle.mesh_machine.specs.declared.fate.Heard.{Heard as HeardValue};
 ghost use Rattle.mesh_packet.specs.Grammar.{FirstFault};
 
 use crate::event::ending::end_event;
@@ -46,26 +47,26 @@ pub(crate) fn hear_frame<B: Bases>(
     hear_content(router, wants, arrival, bytes, &content, out)
 }
 
-/// A router hears a frame that was read before, as `hear_frame` does.
-pub(crate) fn hear_typed<B: Bases>(
+/// A router hears a frame that was read before, as `hear_frame` does. What is sent stands in `out` alone, and nothing is answered.
+pub(crate) fn hear_into<B: Bases>(
     router: &mut RouterState<B>,
     wants: EventWants,
     arrival: Arrival,
     frame: &TypedFrame,
     out: &mut Outbox,
-) -> Result<Heard, AllocError>
+) -> Result<(), AllocError>
     requires now { arrival.now < 2 ^ 62 }
     requires later { router.old.derived.last ≤ arrival.now }
     requires iface { arrival.iface < length router.old.holding.settings.interfaces }
     requires sound { IsSoundButForDerived (state_of router.old.holding router.old.derived) }
     requires current { IsCurrent router.old.outdated (state_of router.old.holding router.old.derived) }
-    ensures hears { IfOk result (λ kept. HearsAndKeeps wants (state_of router.old.holding router.old.derived) arrival frame.now kept out.old out.new
+    ensures { OnOk result ((answer : HeardValue) × HearsTo wants (state_of router.old.holding router.old.derived) arrival frame.now answer [] out.new
         router.new.outdated (state_of router.new.holding router.new.derived)) }
-    ensures refused { (place reason : ℕ) → FirstFault frame.now place reason → IfOk result (λ kept. kept ≡ Heard.Refused (record { place = place; reason = reason })) }
-    ensures wanting { OnErr result (out.new ≡ out.old) }
 {
+    out.clear();
     let octets = frame.octets().as_slice();
-    hear_content(router, wants, arrival, octets, frame.content(), out)
+    let _ = hear_content(router, wants, arrival, octets, frame.content(), out)?;
+    Ok(())
 }
 
 // A router hears a frame that reads so, as `hear_frame` does.

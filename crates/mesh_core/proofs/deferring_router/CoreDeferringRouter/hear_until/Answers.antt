@@ -3,57 +3,51 @@ use Rattle.mesh_atoms.specs.Sound.{Sound}
 use Rattle.mesh_core.specs.Event.Holding.{state_of}
 use Rattle.mesh_core.specs.Holding.{CoreValue}
 use Rattle.mesh_core.proofs.EventLemmas.Wholes.{current_of, sound_but}
-use Rattle.mesh_core.proofs.Spent.{where_unanswered, where_whole}
+use Rattle.mesh_core.proofs.Spent.{where_whole}
 use Rattle.mesh_core.proofs.Until.{hear_until, sound_whole}
 use Rattle.mesh_core.proofs.deferring_router.CoreDeferringRouter.hear_until.Goals as goal
 
-pub hear_typed-came-requires-clause-now : goal.hear_typed-came-requires-clause-now
-hear_typed-came-requires-clause-now g c = c.requires.now
+pub hear_into-came-requires-clause-now : goal.hear_into-came-requires-clause-now
+hear_into-came-requires-clause-now g c = c.requires.now
 
-pub hear_typed-came-requires-clause-later : goal.hear_typed-came-requires-clause-later
-hear_typed-came-requires-clause-later g c = subst (λ (v : CoreValue). v.state.last ≤ c.args.arrival.now) (sym c.self.view_is) c.requires.later
+pub hear_into-came-requires-clause-later : goal.hear_into-came-requires-clause-later
+hear_into-came-requires-clause-later g c = subst (λ (v : CoreValue). v.state.last ≤ c.args.arrival.now) (sym c.self.view_is) c.requires.later
 
-pub hear_typed-came-requires-clause-iface : goal.hear_typed-came-requires-clause-iface
-hear_typed-came-requires-clause-iface g c = subst (λ (v : CoreValue). c.args.arrival.iface < length v.state.settings.interfaces) (sym c.self.view_is) c.requires.iface
+pub hear_into-came-requires-clause-iface : goal.hear_into-came-requires-clause-iface
+hear_into-came-requires-clause-iface g c = subst (λ (v : CoreValue). c.args.arrival.iface < length v.state.settings.interfaces) (sym c.self.view_is) c.requires.iface
 
-pub hear_typed-came-requires-clause-sound : goal.hear_typed-came-requires-clause-sound
-hear_typed-came-requires-clause-sound g c = sound_but (state_of c.self.inside.router.holding c.self.inside.router.derived) (c.self.invariant c.if-self.false)
+pub hear_into-came-requires-clause-sound : goal.hear_into-came-requires-clause-sound
+hear_into-came-requires-clause-sound g c = sound_but (state_of c.self.inside.router.holding c.self.inside.router.derived) (c.self.invariant c.if-self.false)
 
-pub hear_typed-came-requires-clause-current : goal.hear_typed-came-requires-clause-current
-hear_typed-came-requires-clause-current g c = current_of c.self.inside.router.outdated (state_of c.self.inside.router.holding c.self.inside.router.derived) (c.self.invariant c.if-self.false)
+pub hear_into-came-requires-clause-current : goal.hear_into-came-requires-clause-current
+hear_into-came-requires-clause-current g c = current_of c.self.inside.router.outdated (state_of c.self.inside.router.holding c.self.inside.router.derived) (c.self.invariant c.if-self.false)
 
 pub returns-clause-step : goal.returns-clause-step
 returns-clause-step g c =
-    where_unanswered _ c.hear_typed-came.result c.without_answer.result c.without_answer.ensures
-    (hear_until _ c.args.until _ _ _ _ (λ late. refl) (λ late. refl) c.hear_typed-came.result c.clear.new.self _ c.clear.ensures c.self.view_is c.hear_typed-came.ensures.hears).step
+    (hear_until _ c.args.until _ _ _ _ (λ late. refl) (λ late. refl) c.hear_into-came.result _ c.self.view_is c.hear_into-came.ensures).step
 
 pub returns-clause-sendable : goal.returns-clause-sendable
 returns-clause-sendable g c =
-    where_unanswered _ c.hear_typed-came.result c.without_answer.result c.without_answer.ensures
-    (hear_until _ c.args.until _ _ _ _ (λ late. refl) (λ late. refl) c.hear_typed-came.result c.clear.new.self _ c.clear.ensures c.self.view_is c.hear_typed-came.ensures.hears).sendable
+    (hear_until _ c.args.until _ _ _ _ (λ late. refl) (λ late. refl) c.hear_into-came.result _ c.self.view_is c.hear_into-came.ensures).sendable
 
 pub returns-clause-settings : goal.returns-clause-settings
 returns-clause-settings g c =
-    where_unanswered _ c.hear_typed-came.result c.without_answer.result c.without_answer.ensures
-    (hear_until _ c.args.until _ _ _ _ (λ late. refl) (λ late. refl) c.hear_typed-came.result c.clear.new.self _ c.clear.ensures c.self.view_is c.hear_typed-came.ensures.hears).settings
+    (hear_until _ c.args.until _ _ _ _ (λ late. refl) (λ late. refl) c.hear_into-came.result _ c.self.view_is c.hear_into-came.ensures).settings
 
 pub returns-clause-last : goal.returns-clause-last
 returns-clause-last g c =
-    where_unanswered _ c.hear_typed-came.result c.without_answer.result c.without_answer.ensures
-    (hear_until _ c.args.until _ _ _ _ (λ late. refl) (λ late. refl) c.hear_typed-came.result c.clear.new.self _ c.clear.ensures c.self.view_is c.hear_typed-came.ensures.hears).last
+    (hear_until _ c.args.until _ _ _ _ (λ late. refl) (λ late. refl) c.hear_into-came.result _ c.self.view_is c.hear_into-came.ensures).last
 
 pub returns-clause-no_earlier : goal.returns-clause-no_earlier
 returns-clause-no_earlier g c =
-    where_unanswered _ c.hear_typed-came.result c.without_answer.result c.without_answer.ensures
-    (hear_until _ c.args.until _ _ _ _ (λ late. refl) (λ late. refl) c.hear_typed-came.result c.clear.new.self _ c.clear.ensures c.self.view_is c.hear_typed-came.ensures.hears).no_earlier
+    (hear_until _ c.args.until _ _ _ _ (λ late. refl) (λ late. refl) c.hear_into-came.result _ c.self.view_is c.hear_into-came.ensures).no_earlier
 
 pub returns-clause-due : goal.returns-clause-due
 returns-clause-due g c =
-    where_unanswered _ c.hear_typed-came.result c.without_answer.result c.without_answer.ensures
-    (hear_until _ c.args.until _ _ _ _ (λ late. refl) (λ late. refl) c.hear_typed-came.result c.clear.new.self _ c.clear.ensures c.self.view_is c.hear_typed-came.ensures.hears).due
+    (hear_until _ c.args.until _ _ _ _ (λ late. refl) (λ late. refl) c.hear_into-came.result _ c.self.view_is c.hear_into-came.ensures).due
 
 pub invariant_of-self : goal.invariant_of-self
 invariant_of-self g c =
-    where_whole c.hear_typed-came.result c.is_err-self-inside.ensures.value
-    (sound_whole _ _ _ _ _ _ c.hear_typed-came.result (subst (λ (v : CoreValue). Sound v.state) c.self.view_is (c.self.invariant c.if-self.false))
-    (hear_until _ 0 _ _ _ _ (λ late. refl) (λ late. refl) c.hear_typed-came.result c.clear.new.self _ c.clear.ensures c.self.view_is c.hear_typed-came.ensures.hears))
+    where_whole c.hear_into-came.result c.is_err-self-inside.ensures.value
+    (sound_whole _ _ _ _ _ _ c.hear_into-came.result (subst (λ (v : CoreValue). Sound v.state) c.self.view_is (c.self.invariant c.if-self.false))
+    (hear_until _ 0 _ _ _ _ (λ late. refl) (λ late. refl) c.hear_into-came.result _ c.self.view_is c.hear_into-came.ensures))

@@ -1,56 +1,50 @@
 use Rattle.std.proofs.Common.{length, subst, sym, ◌<◌, ◌≤◌}
 use Rattle.std.proofs.lemmas.Bool.{le-leb}
 use Rattle.mesh_core.specs.Holding.{CoreValue}
-use Rattle.mesh_core.proofs.Spent.{where_unanswered, where_whole}
+use Rattle.mesh_core.proofs.Spent.{where_whole}
 use Rattle.mesh_core.proofs.Until.{hear_until}
 use Rattle.mesh_core.proofs.deferring_router.DeferredCoreDeferringRouter.hear_until.Goals as goal
 
-pub hear_typed-came-requires-clause-now : goal.hear_typed-came-requires-clause-now
-hear_typed-came-requires-clause-now g c = c.requires.now
+pub hear_into-came-requires-clause-now : goal.hear_into-came-requires-clause-now
+hear_into-came-requires-clause-now g c = c.requires.now
 
-pub hear_typed-came-requires-clause-later : goal.hear_typed-came-requires-clause-later
-hear_typed-came-requires-clause-later g c = subst (λ (v : CoreValue). v.state.last ≤ c.args.arrival.now) (sym c.self.view_is) c.requires.later
+pub hear_into-came-requires-clause-later : goal.hear_into-came-requires-clause-later
+hear_into-came-requires-clause-later g c = subst (λ (v : CoreValue). v.state.last ≤ c.args.arrival.now) (sym c.self.view_is) c.requires.later
 
-pub hear_typed-came-requires-clause-iface : goal.hear_typed-came-requires-clause-iface
-hear_typed-came-requires-clause-iface g c = subst (λ (v : CoreValue). c.args.arrival.iface < length v.state.settings.interfaces) (sym c.self.view_is) c.requires.iface
+pub hear_into-came-requires-clause-iface : goal.hear_into-came-requires-clause-iface
+hear_into-came-requires-clause-iface g c = subst (λ (v : CoreValue). c.args.arrival.iface < length v.state.settings.interfaces) (sym c.self.view_is) c.requires.iface
 
-pub hear_typed-came-requires-clause-sound : goal.hear_typed-came-requires-clause-sound
-hear_typed-came-requires-clause-sound g c = (c.self.invariant c.if-self.false).0
+pub hear_into-came-requires-clause-sound : goal.hear_into-came-requires-clause-sound
+hear_into-came-requires-clause-sound g c = (c.self.invariant c.if-self.false).0
 
-pub hear_typed-came-requires-clause-current : goal.hear_typed-came-requires-clause-current
-hear_typed-came-requires-clause-current g c = (c.self.invariant c.if-self.false).1
+pub hear_into-came-requires-clause-current : goal.hear_into-came-requires-clause-current
+hear_into-came-requires-clause-current g c = (c.self.invariant c.if-self.false).1
 
 pub returns-clause-step : goal.returns-clause-step
 returns-clause-step g c =
-    where_unanswered _ c.hear_typed-came.result c.without_answer.result c.without_answer.ensures
-    (hear_until _ c.args.until _ _ _ _ (le-leb c.args.until c.args.arrival.now) (le-leb c.args.until c.args.arrival.now) c.hear_typed-came.result c.clear.new.self _ c.clear.ensures c.self.view_is c.hear_typed-came.ensures.hears).step
+    (hear_until _ c.args.until _ _ _ _ (le-leb c.args.until c.args.arrival.now) (le-leb c.args.until c.args.arrival.now) c.hear_into-came.result _ c.self.view_is c.hear_into-came.ensures).step
 
 pub returns-clause-sendable : goal.returns-clause-sendable
 returns-clause-sendable g c =
-    where_unanswered _ c.hear_typed-came.result c.without_answer.result c.without_answer.ensures
-    (hear_until _ c.args.until _ _ _ _ (le-leb c.args.until c.args.arrival.now) (le-leb c.args.until c.args.arrival.now) c.hear_typed-came.result c.clear.new.self _ c.clear.ensures c.self.view_is c.hear_typed-came.ensures.hears).sendable
+    (hear_until _ c.args.until _ _ _ _ (le-leb c.args.until c.args.arrival.now) (le-leb c.args.until c.args.arrival.now) c.hear_into-came.result _ c.self.view_is c.hear_into-came.ensures).sendable
 
 pub returns-clause-settings : goal.returns-clause-settings
 returns-clause-settings g c =
-    where_unanswered _ c.hear_typed-came.result c.without_answer.result c.without_answer.ensures
-    (hear_until _ c.args.until _ _ _ _ (le-leb c.args.until c.args.arrival.now) (le-leb c.args.until c.args.arrival.now) c.hear_typed-came.result c.clear.new.self _ c.clear.ensures c.self.view_is c.hear_typed-came.ensures.hears).settings
+    (hear_until _ c.args.until _ _ _ _ (le-leb c.args.until c.args.arrival.now) (le-leb c.args.until c.args.arrival.now) c.hear_into-came.result _ c.self.view_is c.hear_into-came.ensures).settings
 
 pub returns-clause-last : goal.returns-clause-last
 returns-clause-last g c =
-    where_unanswered _ c.hear_typed-came.result c.without_answer.result c.without_answer.ensures
-    (hear_until _ c.args.until _ _ _ _ (le-leb c.args.until c.args.arrival.now) (le-leb c.args.until c.args.arrival.now) c.hear_typed-came.result c.clear.new.self _ c.clear.ensures c.self.view_is c.hear_typed-came.ensures.hears).last
+    (hear_until _ c.args.until _ _ _ _ (le-leb c.args.until c.args.arrival.now) (le-leb c.args.until c.args.arrival.now) c.hear_into-came.result _ c.self.view_is c.hear_into-came.ensures).last
 
 pub returns-clause-no_earlier : goal.returns-clause-no_earlier
 returns-clause-no_earlier g c =
-    where_unanswered _ c.hear_typed-came.result c.without_answer.result c.without_answer.ensures
-    (hear_until _ c.args.until _ _ _ _ (le-leb c.args.until c.args.arrival.now) (le-leb c.args.until c.args.arrival.now) c.hear_typed-came.result c.clear.new.self _ c.clear.ensures c.self.view_is c.hear_typed-came.ensures.hears).no_earlier
+    (hear_until _ c.args.until _ _ _ _ (le-leb c.args.until c.args.arrival.now) (le-leb c.args.until c.args.arrival.now) c.hear_into-came.result _ c.self.view_is c.hear_into-came.ensures).no_earlier
 
 pub returns-clause-due : goal.returns-clause-due
 returns-clause-due g c =
-    where_unanswered _ c.hear_typed-came.result c.without_answer.result c.without_answer.ensures
-    (hear_until _ c.args.until _ _ _ _ (le-leb c.args.until c.args.arrival.now) (le-leb c.args.until c.args.arrival.now) c.hear_typed-came.result c.clear.new.self _ c.clear.ensures c.self.view_is c.hear_typed-came.ensures.hears).due
+    (hear_until _ c.args.until _ _ _ _ (le-leb c.args.until c.args.arrival.now) (le-leb c.args.until c.args.arrival.now) c.hear_into-came.result _ c.self.view_is c.hear_into-came.ensures).due
 
 pub invariant_of-self : goal.invariant_of-self
 invariant_of-self g c =
-    where_whole c.hear_typed-came.result c.is_err-self-inside.ensures.value
-    (hear_until _ c.args.until _ _ _ _ (le-leb c.args.until c.args.arrival.now) (le-leb c.args.until c.args.arrival.now) c.hear_typed-came.result c.clear.new.self _ c.clear.ensures c.self.view_is c.hear_typed-came.ensures.hears).rest
+    where_whole c.hear_into-came.result c.is_err-self-inside.ensures.value
+    (hear_until _ c.args.until _ _ _ _ (le-leb c.args.until c.args.arrival.now) (le-leb c.args.until c.args.arrival.now) c.hear_into-came.result _ c.self.view_is c.hear_into-came.ensures).rest

@@ -1,5 +1,5 @@
 use Rattle.std.proofs.lemmas.Result.{on_ok_weaker}
-use Rattle.std.proofs.Common.{◌≡◌, ◌++◌, length, arith, refl, sym, ap, subst, List, ◌∙◌}
+use Rattle.std.proofs.Common.{◌++◌, length, arith, refl, sym, ap, subst, List, ◌∙◌}
 use Rattle.std.proofs.lemmas.List.{append_assoc}
 use Rattle.mesh_atoms.specs.declared.tc.TcRow.{TcRow}
 use Rattle.mesh_atoms.specs.Advertised.{AreTcRows}

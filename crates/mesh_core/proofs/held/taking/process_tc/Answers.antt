@@ -1,4 +1,4 @@
-use Rattle.std.proofs.Common.{arith, subst, ap, List, length}
+use Rattle.std.proofs.Common.{subst, ap, List, length}
 use Rattle.mesh_atoms.specs.declared.settings.Times.{Times}
 use Rattle.mesh_atoms.specs.declared.settings.RouterSettings.{RouterSettings}
 use Rattle.mesh_atoms.specs.State.{Bases}

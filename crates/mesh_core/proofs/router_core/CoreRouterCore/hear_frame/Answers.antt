@@ -1,54 +1,33 @@
-use Rattle.std.proofs.Common.{length, refl, subst, sym, ◌<◌, ◌≤◌}
-use Rattle.mesh_atoms.specs.Sound.{Sound}
-use Rattle.mesh_core.specs.Event.Holding.{state_of}
-use Rattle.mesh_core.specs.Holding.{CoreValue}
-use Rattle.mesh_core.proofs.EventLemmas.Wholes.{current_of, sound_but}
-use Rattle.mesh_core.proofs.Spent.{where_unanswered, where_whole}
-use Rattle.mesh_core.proofs.Until.{hear_until, sound_whole, step_whole}
+use Rattle.std.proofs.Common.{List}
+use Rattle.std.specs.Prelude.{All}
+use Rattle.mesh_machine.specs.declared.frame.Frame.{Frame}
+use Rattle.mesh_machine.specs.Machine.{Hear, Step}
+use Rattle.mesh_machine.specs.Sendable.{IsSendable}
+use Rattle.mesh_core.proofs.Emptied.{alone}
 use Rattle.mesh_core.proofs.router_core.CoreRouterCore.hear_frame.Goals as goal
 
-pub hear_frame-came-requires-clause-now : goal.hear_frame-came-requires-clause-now
-hear_frame-came-requires-clause-now g c = c.requires.now
+pub hear-requires-clause-now : goal.hear-requires-clause-now
+hear-requires-clause-now g c = c.requires.now
 
-pub hear_frame-came-requires-clause-later : goal.hear_frame-came-requires-clause-later
-hear_frame-came-requires-clause-later g c = subst (λ (v : CoreValue). v.state.last ≤ c.args.arrival.now) (sym c.self.view_is) c.requires.later
+pub hear-requires-clause-later : goal.hear-requires-clause-later
+hear-requires-clause-later g c = c.requires.later
 
-pub hear_frame-came-requires-clause-iface : goal.hear_frame-came-requires-clause-iface
-hear_frame-came-requires-clause-iface g c = subst (λ (v : CoreValue). c.args.arrival.iface < length v.state.settings.interfaces) (sym c.self.view_is) c.requires.iface
-
-pub hear_frame-came-requires-clause-sound : goal.hear_frame-came-requires-clause-sound
-hear_frame-came-requires-clause-sound g c = sound_but (state_of c.self.inside.router.holding c.self.inside.router.derived) (c.self.invariant c.if-self.false)
-
-pub hear_frame-came-requires-clause-current : goal.hear_frame-came-requires-clause-current
-hear_frame-came-requires-clause-current g c = current_of c.self.inside.router.outdated (state_of c.self.inside.router.holding c.self.inside.router.derived) (c.self.invariant c.if-self.false)
+pub hear-requires-clause-iface : goal.hear-requires-clause-iface
+hear-requires-clause-iface g c = c.requires.iface
 
 pub returns-clause-step : goal.returns-clause-step
 returns-clause-step g c =
-    where_unanswered _ c.hear_frame-came.result c.without_answer.result c.without_answer.ensures
-    (step_whole _ _ _ _ _ _ c.hear_frame-came.result (hear_until _ 0 _ _ _ _ (λ late. refl) (λ late. refl) c.hear_frame-came.result c.clear.new.self _ c.clear.ensures c.self.view_is c.hear_frame-came.ensures.hears))
+    alone (λ (sent : List Frame). Step c.args.self.now.state (Hear c.args.arrival c.args.bytes.now) sent c.hear.new.self.state) c.clear.new.self c.hear.new.out c.clear.ensures c.in_ok-hear.ensures.step
 
 pub returns-clause-sendable : goal.returns-clause-sendable
 returns-clause-sendable g c =
-    where_unanswered _ c.hear_frame-came.result c.without_answer.result c.without_answer.ensures
-    (hear_until _ 0 _ _ _ _ (λ late. refl) (λ late. refl) c.hear_frame-came.result c.clear.new.self _ c.clear.ensures c.self.view_is c.hear_frame-came.ensures.hears).sendable
+    alone (λ (sent : List Frame). All (IsSendable c.args.self.now.state.settings) sent) c.clear.new.self c.hear.new.out c.clear.ensures c.in_ok-hear.ensures.sendable
 
 pub returns-clause-settings : goal.returns-clause-settings
-returns-clause-settings g c =
-    where_unanswered _ c.hear_frame-came.result c.without_answer.result c.without_answer.ensures
-    (hear_until _ 0 _ _ _ _ (λ late. refl) (λ late. refl) c.hear_frame-came.result c.clear.new.self _ c.clear.ensures c.self.view_is c.hear_frame-came.ensures.hears).settings
+returns-clause-settings g c = c.in_ok-hear.ensures.settings
 
 pub returns-clause-last : goal.returns-clause-last
-returns-clause-last g c =
-    where_unanswered _ c.hear_frame-came.result c.without_answer.result c.without_answer.ensures
-    (hear_until _ 0 _ _ _ _ (λ late. refl) (λ late. refl) c.hear_frame-came.result c.clear.new.self _ c.clear.ensures c.self.view_is c.hear_frame-came.ensures.hears).last
+returns-clause-last g c = c.in_ok-hear.ensures.last
 
 pub returns-clause-due : goal.returns-clause-due
-returns-clause-due g c =
-    where_unanswered _ c.hear_frame-came.result c.without_answer.result c.without_answer.ensures
-    (hear_until _ 0 _ _ _ _ (λ late. refl) (λ late. refl) c.hear_frame-came.result c.clear.new.self _ c.clear.ensures c.self.view_is c.hear_frame-came.ensures.hears).due
-
-pub invariant_of-self : goal.invariant_of-self
-invariant_of-self g c =
-    where_whole c.hear_frame-came.result c.is_err-self-inside.ensures.value
-    (sound_whole _ _ _ _ _ _ c.hear_frame-came.result (subst (λ (v : CoreValue). Sound v.state) c.self.view_is (c.self.invariant c.if-self.false))
-    (hear_until _ 0 _ _ _ _ (λ late. refl) (λ late. refl) c.hear_frame-came.result c.clear.new.self _ c.clear.ensures c.self.view_is c.hear_frame-came.ensures.hears))
+returns-clause-due g c = c.in_ok-hear.ensures.due

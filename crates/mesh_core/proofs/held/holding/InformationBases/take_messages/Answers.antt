@@ -1,7 +1,5 @@
-use Rattle.std.proofs.Common.{List, subst, sym, map}
+use Rattle.std.proofs.Common.{map}
 use Rattle.mesh_packet.specs.Fields.{fields_of_message}
-use Rattle.mesh_core.specs.declared.reading.message.TypedMessage.{TypedMessage}
-use Rattle.mesh_core.specs.Reading.Content.{AreReadAs}
 use Rattle.mesh_core.proofs.held.holding.InformationBases.take_messages.Goals as goal
 
 pub take_typed-requires-clause-messages : goal.take_typed-requires-clause-messages

@@ -1,0 +1,11 @@
+use Rattle.std.proofs.Common.{◌∙◌}
+use Rattle.mesh_core.specs.Event.Holding.{state_of}
+use Rattle.mesh_core.proofs.EventLemmas.Hearing.{alone_to}
+use Rattle.mesh_core.proofs.event.hear.hear_into.Goals as goal
+
+pub hear_content-requires-clause-content : goal.hear_content-requires-clause-content
+hear_content-requires-clause-content g c = rw (c.as_slice-octets.ensures, c.octets.ensures) c.content.ensures.content
+
+pub returns : goal.returns
+returns g c =
+    alone_to c.args.wants (state_of c.args.router.now.holding c.args.router.now.derived) c.args.arrival (c.as_slice-octets.ensures ∙ c.octets.ensures) c.clear.ensures c.in_ok-hear_content.ensures.hears
