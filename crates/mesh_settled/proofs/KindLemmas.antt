@@ -1,7 +1,7 @@
 -- From the least gap of each kind to the first gap.
 use Rattle.std.proofs.Common.{◌≡◌, ◌≢◌, ℕ, ◌+◌, ◌<◌, ◌≤◌, ◌⊎◌, inl, inr, refl, sym, ◌∙◌, ap, subst, arith, length, List, Option, Some, None, true, false, map}
 use Rattle.std.specs.Prelude.{◌↔◌, is_some, IfSome, IsNone}
-use Rattle.std.proofs.lemmas.Bool.{false≢true, cases_eq}
+use Rattle.std.proofs.lemmas.Bool.{false≢true}
 use Rattle.mesh_atoms.specs.declared.graphs.RadioGraph.{RadioGraph}
 use Rattle.mesh_atoms.specs.declared.settings.Scenario.{Scenario}
 use Rattle.mesh_atoms.specs.Base.{host}
@@ -19,7 +19,7 @@ use Rattle.mesh_settled.specs.Gaps.Links.{IsLinkKey}
 use Rattle.mesh_settled.specs.Gaps.Neighbours.{IsNeighbourKey}
 use Rattle.mesh_settled.specs.Gaps.TwoHops.{IsTwoHopKey}
 use Rattle.mesh_settled.proofs.GapsLemmas.GapLaw.{law}
-use Rattle.mesh_settled.proofs.GapsLemmas.JointLemmas.{same_state}
+use Rattle.mesh_settled.proofs.GapsLemmas.JointLemmas.{same_state, next_place}
 use Rattle.mesh_settled.proofs.GapsLemmas.Leasts.{before_cases}
 use Rattle.mesh_settled.proofs.GapsLemmas.PeerLemmas.{within}
 use Rattle.mesh_settled.proofs.GapsLemmas.Sides.{gaps_differ}
@@ -80,10 +80,7 @@ module _ (s : Scenario) (states : List State) (now : ℕ) where
 
   pub next_router : (x : ℕ) (g : Option Gap) → false ≡ is_some g → IsFirstAt s states now x g → NoneBefore x → NoneBefore (x + 1)
   next_router x (Some g) none first before = absurd (false≢true none)
-  next_router x None none first before = λ y less p at. elim (cases_eq y x) [
-    | inl same ↦ subst (λ (n : ℕ). (q : State) → At states n q → HasNoGap (look s states now n q)) (sym same) first p at
-    | inr other ↦ before y (omega (arith, other)) p at
-  ]
+  next_router x None none first before = next_place (λ n. (p : State) → At states n p → HasNoGap (look s states now n p)) x before first
 
   pub this_router : (x : ℕ) (g : Option Gap) → true ≡ is_some g → IsFirstAt s states now x g → NoneBefore x → IsFirstOf s states now g
   this_router x None some first before = absurd (false≢true (sym some))

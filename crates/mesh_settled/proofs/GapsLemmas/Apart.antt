@@ -76,8 +76,15 @@ none_missing ms ns e least = subst (IsLeastMissing (λ a. Contains ms a) ns) e l
 some_missing : (ms ns : List Addr4) {o : Option Addr4} (c : Addr4) → o ≡ Some c → IsLeastMissing (λ a. Contains ms a) ns o → IsLeastMissing (λ a. Contains ms a) ns (Some c)
 some_missing ms ns c e least = subst (IsLeastMissing (λ a. Contains ms a) ns) e least
 
+apart_swap : {ms ns : List Addr4} {m n : Option ℕ} → AreApart ms ns m n → AreApart ns ms n m
+apart_swap w = record {
+  least = w.least;
+  apart = elim w.apart [ inl h ↦ inr (h.0, h.2, h.1) | inr g ↦ inl (g.0, g.2, g.1) ];
+  none_less = λ a x. w.none_less a (elim x [ inl h ↦ inr h | inr g ↦ inl g ]);
+}
+
 module _ {ms ns : List Addr4} {h p : Option Addr4} (first : IsLeastMissing (λ a. Contains ms a) ns h) (second : IsLeastMissing (λ a. Contains ns a) ms p) where
-  pub held_apart : (a : Addr4) (m : Option ℕ) → h ≡ Some a → m ≡ Some a.0 → p ≡ None ⊎ ((b : Addr4) × (p ≡ Some b) × (a.0 < b.0)) → AreApart ms ns m None
+  pub held_apart : (a : Addr4) (m : Option ℕ) → h ≡ Some a → m ≡ Some a.0 → p ≡ None ⊎ ((b : Addr4) × (p ≡ Some b) × (a.0 ≤ b.0)) → AreApart ms ns m None
   held_apart a m is number other =
       let f = some_missing ms ns a is first in record {
         least = a;
@@ -86,21 +93,11 @@ module _ {ms ns : List Addr4} {h p : Option Addr4} (first : IsLeastMissing (λ a
           | inl here ↦ f.2 x here.0 here.1
           | inr there ↦ elim other [
             | inl none ↦ absurd (there.1 (none_missing ns ms none second x there.0))
-            | inr some ↦ let low : some.0.0 ≤ x.0 = (some_missing ns ms some.0 some.1 second).2 x there.0 there.1 in let less = some.2 in omega arith
+            | inr some ↦ let low : some.0.0 ≤ x.0 = (some_missing ns ms some.0 some.1 second).2 x there.0 there.1 in let more = some.2 in omega arith
           ]
         ];
       }
 
-  pub present_apart : (b : Addr4) (n : Option ℕ) → p ≡ Some b → n ≡ Some b.0 → h ≡ None ⊎ ((a : Addr4) × (h ≡ Some a) × (b.0 ≤ a.0)) → AreApart ms ns None n
-  present_apart b n is number other =
-      let f = some_missing ns ms b is second in record {
-        least = b;
-        apart = inr ((f.0, f.1), refl, number);
-        none_less = λ x apart. elim apart [
-          | inr here ↦ f.2 x here.0 here.1
-          | inl there ↦ elim other [
-            | inl none ↦ absurd (there.1 (none_missing ms ns none first x there.0))
-            | inr some ↦ let low : some.0.0 ≤ x.0 = (some_missing ms ns some.0 some.1 first).2 x there.0 there.1 in let less = some.2 in omega arith
-          ]
-        ];
-      }
+pub present_apart : {ms ns : List Addr4} {h p : Option Addr4} → IsLeastMissing (λ a. Contains ms a) ns h → IsLeastMissing (λ a. Contains ns a) ms p → (b : Addr4) (n : Option ℕ) → p ≡ Some b → n ≡ Some b.0 →
+    h ≡ None ⊎ ((a : Addr4) × (h ≡ Some a) × (b.0 ≤ a.0)) → AreApart ms ns None n
+present_apart {ms} {ns} {h} {p} first second b n is number other = apart_swap (held_apart {ms = ns} {ns = ms} {h = p} {p = h} second first b n is number other)

@@ -19,17 +19,14 @@ use Rattle.mesh_atoms.specs.declared.tuples.LinkKey.{LinkKey}
 use Rattle.mesh_atoms.specs.declared.tuples.Neighbour.{Neighbour as NeighbourTuple}
 use Rattle.mesh_atoms.specs.declared.tuples.TwoHop.{TwoHop as TwoHopTuple}
 use Rattle.mesh_atoms.specs.declared.tuples.TwoHopKey.{TwoHopKey}
-use Rattle.mesh_atoms.specs.declared.tuples.RouterKey.{RouterKey}
 use Rattle.mesh_atoms.specs.declared.tuples.RouterTuple.{RouterTuple}
-use Rattle.mesh_atoms.specs.declared.tuples.AddressKey.{AddressKey}
 use Rattle.mesh_atoms.specs.declared.tuples.AddressTuple.{AddressTuple}
-use Rattle.mesh_atoms.specs.declared.tuples.NetworkKey.{NetworkKey}
 use Rattle.mesh_atoms.specs.declared.tuples.NetworkTuple.{NetworkTuple}
 use Rattle.mesh_atoms.specs.Base.{Has}
 use Rattle.mesh_atoms.specs.Codes.Codes.{metric_value}
 use Rattle.mesh_atoms.specs.Hello.{Says, Flooding, Routing}
 use Rattle.mesh_atoms.specs.Radio.{Joins, Adjacent, IsMetric}
-use Rattle.mesh_atoms.specs.Settled.{At, IsLeastAddress, IsLinkTo, IsNeighbourOf, IsTwoHopBy, IsPeer, IsStray, IsRouterBy, IsAddressBy, IsNetworkBy, IsSettledAt}
+use Rattle.mesh_atoms.specs.Settled.{At, IsLeastAddress, IsLinkTo, IsNeighbourOf, IsTwoHopBy, IsPeer, IsRouterBy, IsAddressBy, IsNetworkBy, IsSettledAt}
 use Rattle.mesh_atoms.specs.declared.tuples.LinkState.TheVariants.{Symmetric as Is_symmetric}
 use Rattle.mesh_atoms.specs.State.{State, state_of, HasLink, HasTwoHop, HasSymmetric, HasAddress}
 use Rattle.mesh_atoms.proofs.CodesLemmas.CodeLaws.{cost-injective}
@@ -37,7 +34,7 @@ use Rattle.mesh_atoms.proofs.Deciding.{Decides-some}
 use Rattle.mesh_paths.proofs.Admitted.{joins_back}
 use Rattle.mesh_paths.proofs.Scenarios.{sound_scenario}
 use Rattle.mesh_atoms.specs.declared.gap.GapKey.TheVariants.{Link, Neighbour, TwoHop, Router, Address, Network}
-use Rattle.mesh_settled.specs.Gaps.Fields.{Field, AllSame, link_fields, neighbour_fields, two_hop_fields, router_fields, address_fields, network_fields, known_cost}
+use Rattle.mesh_settled.specs.Gaps.Fields.{Field, AllSame, link_fields, neighbour_fields, two_hop_fields, topology_fields, router_fields, address_fields, network_fields, known_cost}
 use Rattle.mesh_settled.specs.Gaps.Gaps.{Look, look, AreSame, HasNoGap}
 use Rattle.mesh_settled.specs.Gaps.Joints.{all_addresses}
 use Rattle.mesh_settled.specs.Gaps.Network.{IsNetwork}
@@ -90,6 +87,26 @@ same_willing a b e =
       flooding_within = is_prop→PathP (λ j. m j ≤ 15) (λ j. le_prop) a.flooding_within b.flooding_within i;
       routing_within = is_prop→PathP (λ j. n j ≤ 15) (λ j. le_prop) a.routing_within b.routing_within i;
     }
+
+-- what holds of a tuple holds of each that has the same fields, where these tell it
+told : {V : Type 0} (fields : V → List Field) → ((t u : V) → AllSame (fields t) (fields u) → u ≡ t) → (P : V → Type 0) (t u : V) (gs : List Field) → P u → gs ≡ fields u → AllSame (fields t) gs → P t
+told fields one P t u gs p is all = subst P (one t u (subst (AllSame (fields t)) is all)) p
+
+-- and topology tuples are told so
+topology_told : {m n : ℕ} {a b : Metric} {d e : Option ℕ} → AllSame (topology_fields m a d) (topology_fields n b e) → (n ≡ m) × (b ≡ a) × (e ≡ d)
+topology_told {m} {n} {a} {b} all = (sym (some_nat m n all.0), sym (same_metric a b (same_some refl all.1.0)), sym all.1.1.0)
+
+router_is : (t u : RouterTuple) → AllSame (router_fields t) (router_fields u) → u ≡ t
+router_is t u all = let e = topology_told all in λ d. record { ansn = e.0 d; metric = e.1 d }
+
+address_is : (t u : AddressTuple) → AllSame (address_fields t) (address_fields u) → u ≡ t
+address_is t u all = let e = topology_told all in λ d. record { ansn = e.0 d; metric = e.1 d }
+
+network_is : (t u : NetworkTuple) → AllSame (network_fields t) (network_fields u) → u ≡ t
+network_is t u all =
+    let e = topology_told all in
+    let distance : u.distance ≡ t.distance = some_nat u.distance t.distance e.2 in
+    λ d. record { ansn = e.0 d; distance = distance d; metric = e.1 d }
 
 in_all : (faces : List Interface) (a : Addr4) → Contains (all_addresses faces) a → (k : ℕ) × (f : Interface) × (slice_get faces k ≡ Some f) × Contains f.addrs a
 in_all [] a w = absurd (omega (arith, w.1))
@@ -257,16 +274,14 @@ module _ (s : Scenario) (graph : RadioGraph) (states : List State) (now x : ℕ)
         (y j : ℕ) × (q : State) × (there back : Metric) × At states y q × Joins s x i y j there back × IsTwoHopBy p q j now key t
     two_hop_from i key t has = elim ((same (TwoHop i key)).held (two_hop_fields t) (t, has, refl)) [
       | inl none ↦ absurd none
-      | inr g ↦ let w = g.1 in
-          (w.0, w.1, w.2, w.3, w.4, w.6, w.7, subst (λ (u : TwoHopTuple). IsTwoHopBy p w.2 w.1 now key u) (tuple_is t w.5 (subst (λ (fs : List Field). AllSame (two_hop_fields t) fs) w.9 g.2)) w.8)
+      | inr g ↦ let w = g.1 in (w.0, w.1, w.2, w.3, w.4, w.6, w.7, told two_hop_fields tuple_is (λ u. IsTwoHopBy p w.2 w.1 now key u) t w.5 g.0 w.8 w.9 g.2)
     ]
 
     two_hop_to : (i y j : ℕ) (q : State) (there back : Metric) (key : TwoHopKey) (t : TwoHopTuple) → At states y q → Joins s x i y j there back →
         IsTwoHopBy p q j now key t → HasTwoHop p i key t
     two_hop_to i y j q there back key t at_y joins by =
         let g = (same (TwoHop i key)).present (two_hop_fields t) (y, j, q, there, back, t, at_y, joins, by, refl) in
-        let h = g.1 in
-        subst (λ (u : TwoHopTuple). HasTwoHop p i key u) (tuple_is t h.0 (subst (λ (fs : List Field). AllSame (two_hop_fields t) fs) h.2 g.2)) h.1
+        told two_hop_fields tuple_is (λ u. HasTwoHop p i key u) t g.1.0 g.0 g.1.1 g.1.2 g.2
 
     -- Neighbours
 
@@ -312,60 +327,19 @@ module _ (s : Scenario) (graph : RadioGraph) (states : List State) (now x : ℕ)
 
     -- Topology
 
-    router_is : (t t' : RouterTuple) → AllSame (router_fields t) (router_fields t') → t' ≡ t
-    router_is t t' all =
-        let m = sym (some_nat t.ansn t'.ansn all.0) in
-        let n = sym (same_metric t.metric t'.metric (same_some refl all.1.0)) in
-        λ d. record { ansn = m d; metric = n d }
+    -- of a key, the router holds tuples, and the TCs of the routers joined with it say some
+    module _ {V : Type 0} (fields : V → List Field) (one : (t u : V) → AllSame (fields t) (fields u) → u ≡ t) (Holds : V → Type 0) (By : State → V → Type 0) where
+      abbrev Held : List Field → Type 0
+      Held fs = (t : V) × Holds t × (fs ≡ fields t)
 
-    router_from : (key : RouterKey) (t : RouterTuple) → Has p.bases.topology.routers key t → IsStray s x key.from ⊎ ((w : ℕ) × (q : State) × IsPeer s states x w q × IsRouterBy q key t)
-    router_from key t has = elim ((same (Router key.from key.to)).held (router_fields t) (t, has, refl)) [
-      | inl stray ↦ inl stray
-      | inr g ↦ let w = g.1 in inr (w.0, w.1, w.3, subst (λ (u : RouterTuple). IsRouterBy w.1 key u) (router_is t w.2 (subst (λ (fs : List Field). AllSame (router_fields t) fs) w.5 g.2)) w.4)
-    ]
+      abbrev Present : List Field → Type 0
+      Present gs = (w : ℕ) × (q : State) × (t : V) × IsPeer s states x w q × By q t × (gs ≡ fields t)
 
-    router_to : (w : ℕ) (q : State) (key : RouterKey) (t : RouterTuple) → IsPeer s states x w q → IsRouterBy q key t → Has p.bases.topology.routers key t
-    router_to w q key t peer by =
-        let g = (same (Router key.from key.to)).present (router_fields t) (w, q, t, peer, by, refl) in
-        let h = g.1 in
-        subst (λ (u : RouterTuple). Has p.bases.topology.routers key u) (router_is t h.0 (subst (λ (fs : List Field). AllSame (router_fields t) fs) h.2 g.2)) h.1
+      said : {E : Type 0} → ((fs : List Field) → Held fs → E ⊎ ((gs : List Field) × Present gs × AllSame fs gs)) → (t : V) → Holds t → E ⊎ ((w : ℕ) × (q : State) × IsPeer s states x w q × By q t)
+      said all t has = elim (all (fields t) (t, has, refl)) [ inl e ↦ inl e | inr g ↦ let w = g.1 in inr (w.0, w.1, w.3, told fields one (By w.1) t w.2 g.0 w.4 w.5 g.2) ]
 
-    address_is : (t t' : AddressTuple) → AllSame (address_fields t) (address_fields t') → t' ≡ t
-    address_is t t' all =
-        let m = sym (some_nat t.ansn t'.ansn all.0) in
-        let n = sym (same_metric t.metric t'.metric (same_some refl all.1.0)) in
-        λ d. record { ansn = m d; metric = n d }
-
-    address_from : (key : AddressKey) (t : AddressTuple) → Has p.bases.topology.addresses key t → IsStray s x key.from ⊎ ((w : ℕ) × (q : State) × IsPeer s states x w q × IsAddressBy q key t)
-    address_from key t has = elim ((same (Address key.from key.addr)).held (address_fields t) (t, has, refl)) [
-      | inl stray ↦ inl stray
-      | inr g ↦ let w = g.1 in inr (w.0, w.1, w.3, subst (λ (u : AddressTuple). IsAddressBy w.1 key u) (address_is t w.2 (subst (λ (fs : List Field). AllSame (address_fields t) fs) w.5 g.2)) w.4)
-    ]
-
-    address_to : (w : ℕ) (q : State) (key : AddressKey) (t : AddressTuple) → IsPeer s states x w q → IsAddressBy q key t → Has p.bases.topology.addresses key t
-    address_to w q key t peer by =
-        let g = (same (Address key.from key.addr)).present (address_fields t) (w, q, t, peer, by, refl) in
-        let h = g.1 in
-        subst (λ (u : AddressTuple). Has p.bases.topology.addresses key u) (address_is t h.0 (subst (λ (fs : List Field). AllSame (address_fields t) fs) h.2 g.2)) h.1
-
-    network_is : (t t' : NetworkTuple) → AllSame (network_fields t) (network_fields t') → t' ≡ t
-    network_is t t' all =
-        let m = sym (some_nat t.ansn t'.ansn all.0) in
-        let n = sym (same_metric t.metric t'.metric (same_some refl all.1.0)) in
-        let k = sym (some_nat t.distance t'.distance all.1.1.0) in
-        λ d. record { ansn = m d; distance = k d; metric = n d }
-
-    network_from : (key : NetworkKey) (t : NetworkTuple) → Has p.bases.topology.networks key t → IsStray s x key.from ⊎ ((w : ℕ) × (q : State) × IsPeer s states x w q × IsNetworkBy q key t)
-    network_from key t has = elim ((same (Network key.from key.net)).held (network_fields t) (t, has, refl)) [
-      | inl stray ↦ inl stray
-      | inr g ↦ let w = g.1 in inr (w.0, w.1, w.3, subst (λ (u : NetworkTuple). IsNetworkBy w.1 key u) (network_is t w.2 (subst (λ (fs : List Field). AllSame (network_fields t) fs) w.5 g.2)) w.4)
-    ]
-
-    network_to : (w : ℕ) (q : State) (key : NetworkKey) (t : NetworkTuple) → IsPeer s states x w q → IsNetworkBy q key t → Has p.bases.topology.networks key t
-    network_to w q key t peer by =
-        let g = (same (Network key.from key.net)).present (network_fields t) (w, q, t, peer, by, refl) in
-        let h = g.1 in
-        subst (λ (u : NetworkTuple). Has p.bases.topology.networks key u) (network_is t h.0 (subst (λ (fs : List Field). AllSame (network_fields t) fs) h.2 g.2)) h.1
+      held : ((gs : List Field) → Present gs → (fs : List Field) × Held fs × AllSame gs fs) → (w : ℕ) (q : State) (t : V) → IsPeer s states x w q → By q t → Holds t
+      held all w q t peer by = let g = all (fields t) (w, q, t, peer, by, refl) in told fields one Holds t g.1.0 g.0 g.1.1 g.1.2 g.2
 
     settled_of : IsSettledAt s states now x p
     settled_of = record {
@@ -375,12 +349,12 @@ module _ (s : Scenario) (graph : RadioGraph) (states : List State) (now x : ℕ)
       neighbour_to = neighbour_to;
       two_hop_from = two_hop_from;
       two_hop_to = two_hop_to;
-      router_from = router_from;
-      router_to = router_to;
-      address_from = address_from;
-      address_to = address_to;
-      network_from = network_from;
-      network_to = network_to;
+      router_from = λ key. said router_fields router_is (Has p.bases.topology.routers key) (λ q. IsRouterBy q key) (same (Router key.from key.to)).held;
+      router_to = λ w q key. held router_fields router_is (Has p.bases.topology.routers key) (λ r. IsRouterBy r key) (same (Router key.from key.to)).present w q;
+      address_from = λ key. said address_fields address_is (Has p.bases.topology.addresses key) (λ q. IsAddressBy q key) (same (Address key.from key.addr)).held;
+      address_to = λ w q key. held address_fields address_is (Has p.bases.topology.addresses key) (λ r. IsAddressBy r key) (same (Address key.from key.addr)).present w q;
+      network_from = λ key. said network_fields network_is (Has p.bases.topology.networks key) (λ q. IsNetworkBy q key) (same (Network key.from key.net)).held;
+      network_to = λ w q key. held network_fields network_is (Has p.bases.topology.networks key) (λ r. IsNetworkBy r key) (same (Network key.from key.net)).present w q;
     }
 
   no_gap : IsSettledAt s states now x p → HasNoGap l

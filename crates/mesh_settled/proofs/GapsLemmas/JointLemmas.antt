@@ -4,6 +4,7 @@ use Rattle.std.specs.Prelude.{◌↔◌, IsTrue, is_some}
 use Rattle.std.specs.Option.{option_map}
 use Rattle.std.proofs.lemmas.Bool.{false≢true, eqb-true, eq-eqb, ltb-true, ltb-false, cases_eq}
 use Rattle.std.proofs.lemmas.Option.{slice_get-map, none-some, slice_get_read, slice_get_past, slice_get_within}
+use Rattle.std.specs.Borrow.{Bor}
 use Rattle.mesh_atoms.specs.declared.addr.Addr4.{Addr4}
 use Rattle.mesh_atoms.specs.declared.graphs.Pair.{Pair}
 use Rattle.mesh_atoms.specs.declared.graphs.RadioGraph.{RadioGraph}
@@ -49,6 +50,14 @@ module _ {A : Type 0} (f : A → State) where
   pub none_router : (routers : List A) (y : ℕ) (b : Bool) → b ≡ false → b ≡ nat_lt y (length routers) → None ≡ slice_get (map f routers) y
   none_router routers y b e past = sym (slice_get-map f routers y ∙ ap (option_map f) (slice_get_past routers y (ltb-false y (length routers) (sym past ∙ e))))
 
+-- what the look-up of a router finds
+module _ {A : Type 0} (f : A → State) {states : List State} {y : ℕ} {o : Option (Bor A)} (is : option_map (λ (r : Bor A). f r.now) o ≡ slice_get states y) where
+  pub router_found : {r : Bor A} → o ≡ Some r → At states y (f r.now)
+  router_found some = record { is = sym is ∙ ap (option_map (λ (r : Bor A). f r.now)) some }
+
+  pub no_router_found : o ≡ None → (q : State) → At states y q → ⊥
+  no_router_found none q at = none-some q (sym (sym is ∙ ap (option_map (λ (r : Bor A). f r.now)) none) ∙ at.is)
+
 pub same_state : {states : List State} {y : ℕ} {p q : State} → At states y p → At states y q → p ≡ q
 same_state at at' = same_some at.is at'.is
 
@@ -58,9 +67,6 @@ least_there states y j p a b at settings same test = (
   λ e. (p, at, subst (λ (r : RouterSettings). IsLeastAddress r j a) same (test.0 e)),
   λ w. test.1 (subst (λ (r : RouterSettings). IsLeastAddress r j a) (ap (λ (q : State). q.settings) (same_state w.1 at) ∙ sym same) w.2),
 )
-
-pub no_state : {states : List State} {y : ℕ} → slice_get states y ≡ None → (q : State) → At states y q → ⊥
-no_state e q at = none-some q (sym e ∙ at.is)
 
 -- Hops
 module _ (s : Scenario) (g : RadioGraph) (is : IsRadioGraph s g) (states : List State) (x i : ℕ) (a : Addr4) where
@@ -88,85 +94,74 @@ module _ (s : Scenario) (g : RadioGraph) (is : IsRadioGraph s g) (states : List 
   joint_found None none = λ joint with. none joint (of_joint joint with)
   joint_found (Some joint) some = joint_there some.0 joint some.1 some.2
 
+-- Places in order
+
+-- what holds of each place before this one and of this one holds of each before the next
+pub next_place : (Q : ℕ → Type 0) (i : ℕ) → ((k : ℕ) → k < i → Q k) → Q i → (k : ℕ) → k < i + 1 → Q k
+next_place Q i before here k less = elim (cases_eq k i) [ inl same ↦ subst Q (sym same) here | inr other ↦ before k (omega (arith, less, other)) ]
+
+pub denied : {P : Type 0} {b : Bool} → IsTrue b ↔ P → b ≡ false → P → ⊥
+denied test e p = false≢true (sym e ∙ test.1 p)
+
+pub one_not : (P : ℕ → Type 0) (i : ℕ) (b : Bool) → IsTrue b ↔ P i → b ≡ false → ((k : ℕ) → k < i → P k → ⊥) → (k : ℕ) → k < i + 1 → P k → ⊥
+one_not P i b test no_more before = next_place (λ k. P k → ⊥) i before (denied test no_more)
+
+-- Tests of each element
+module _ {A : Type 0} (P : A → Type 0) (list : List A) where
+  -- none of those that stand before place i meets it
+  abbrev pub NoBefore : ℕ → Type 0
+  NoBefore i = (k : ℕ) → k < i → (e : A) → slice_get list k ≡ Some e → P e → ⊥
+
+  pub some_here : (i : ℕ) (e : A) → slice_get list i ≡ Some e → P e → IsTrue true ↔ ((a : A) × Contains list a × P a)
+  some_here i e at p = (λ _. (e, contains_at list i e at, p), λ _. refl)
+
+  pub no_more : (i : ℕ) (e : A) → slice_get list i ≡ Some e → (P e → ⊥) → NoBefore i → NoBefore (i + 1)
+  no_more i e at none before = next_place (λ k. (f : A) → slice_get list k ≡ Some f → P f → ⊥) i before (λ f there p. none (subst P (same_some there at) p))
+
+  pub none_in : (i : ℕ) → length list ≤ i → NoBefore i → (a : A) → Contains list a → P a → ⊥
+  none_in i end before a has p = let at = place_in list a has in before at.0 (omega (arith, at.1, end)) a at.2 p
+
+  pub none_here : (i : ℕ) → length list ≤ i → NoBefore i → IsTrue false ↔ ((a : A) × Contains list a × P a)
+  none_here i end before = never (λ w. none_in i end before w.0 w.1 w.2)
+
 -- Pairs that lead back
 module _ (pairs : List Pair) (pair : Pair) where
-  pub back_here : (i : ℕ) (back : Pair) → slice_get pairs i ≡ Some back → back.from ≡ pair.to → back.from_iface ≡ pair.to_iface → back.to ≡ pair.from → back.to_iface ≡ pair.from_iface →
-      IsBack pairs pair back.metric
-  back_here i back at from from_iface to to_iface = rw (← from, ← from_iface, ← to, ← to_iface) (contains_at pairs i back at)
+  abbrev pub LeadsBack : Pair → Type 0
+  LeadsBack back = (back.from ≡ pair.to) × (back.from_iface ≡ pair.to_iface) × (back.to ≡ pair.from) × (back.to_iface ≡ pair.from_iface)
 
-  -- what stands before place i doesn't lead back
-  abbrev pub NoBackBefore : ℕ → Type 0
-  NoBackBefore i = (k : ℕ) (back : Pair) → k < i → slice_get pairs k ≡ Some back → back.from ≡ pair.to → back.from_iface ≡ pair.to_iface → back.to ≡ pair.from → back.to_iface ≡ pair.from_iface → ⊥
+  pub back_here : (i : ℕ) (back : Pair) → slice_get pairs i ≡ Some back → LeadsBack back → IsBack pairs pair back.metric
+  back_here i back at (from, from_iface, to, to_iface) = rw (← from, ← from_iface, ← to, ← to_iface) (contains_at pairs i back at)
 
-  pub not_back : (i : ℕ) (e : Pair) → slice_get pairs i ≡ Some e → (e.from ≡ pair.to → e.from_iface ≡ pair.to_iface → e.to ≡ pair.from → e.to_iface ≡ pair.from_iface → ⊥) → NoBackBefore i → NoBackBefore (i + 1)
-  not_back i e at other before k back less there = elim (cases_eq k i) [
-    | inl same ↦ subst (λ (x : Pair). x.from ≡ pair.to → x.from_iface ≡ pair.to_iface → x.to ≡ pair.from → x.to_iface ≡ pair.from_iface → ⊥) (same_some at (ap (λ (n : ℕ). slice_get pairs n) (sym same) ∙ there)) other
-    | inr ne ↦ before k back (omega (arith, less, ne)) there
-  ]
-
-  pub no_back : (i : ℕ) → length pairs ≤ i → NoBackBefore i → (m : Metric) → IsBack pairs pair m → ⊥
-  no_back i end before m has = let w = place_in pairs _ has in before w.0 _ (omega (arith, w.1, end)) w.2 refl refl refl refl
+  pub no_back : (i : ℕ) → length pairs ≤ i → NoBefore LeadsBack pairs i → (m : Metric) → IsBack pairs pair m → ⊥
+  no_back i end before m has = none_in LeadsBack pairs i end before _ has (refl, refl, refl, refl)
 
 -- Searches
 module _ {A B : Type 0} (P : A → B → Type 0) (list : List A) where
+  abbrev Gives : A → Type 0
+  Gives e = (r : B) × P e r
+
   -- what stands before place i gives nothing
   abbrev pub NoneBefore : ℕ → Type 0
-  NoneBefore i = (k : ℕ) (e : A) → k < i → slice_get list k ≡ Some e → (r : B) → P e r → ⊥
-
-  pub none_step : (i : ℕ) (e : A) (o : Option B) → slice_get list i ≡ Some e → o ≡ None → IsValue (P e) o → NoneBefore i → NoneBefore (i + 1)
-  none_step i e o at none value before k f less there r p = elim (cases_eq k i) [
-    | inl same ↦ value_none (P e) o none value r (subst (λ (x : A). P x r) (same_some (ap (λ (n : ℕ). slice_get list n) (sym same) ∙ there) at) p)
-    | inr other ↦ before k f (omega arith) there r p
-  ]
-
-  pub none_all : (i : ℕ) → length list ≤ i → NoneBefore i → (e : A) → Contains list e → (r : B) → P e r → ⊥
-  none_all i end before e has r p = let w = place_in list e has in before w.0 e (omega (arith, w.1)) w.2 r p
+  NoneBefore = NoBefore Gives list
 
   pub found_one : (i : ℕ) (e : A) (o : Option B) → slice_get list i ≡ Some e → true ≡ is_some o → IsValue (P e) o → IsValue (IsOfSome P list) o
   found_one i e None at some value = absurd (false≢true (sym some))
   found_one i e (Some r) at some value = (e, contains_at list i e at, value)
 
   pub none_one : (i : ℕ) (e : A) (o : Option B) → slice_get list i ≡ Some e → false ≡ is_some o → IsValue (P e) o → NoneBefore i → NoneBefore (i + 1)
-  none_one i e None at some value before = none_step i e None at refl value before
-  none_one i e (Some r) at some value before = absurd (false≢true some)
+  none_one i e None at some value = no_more Gives list i e at (λ w. value w.0 w.1)
+  none_one i e (Some r) at some value = absurd (false≢true some)
 
   pub none_found : (i : ℕ) → length list ≤ i → NoneBefore i → IsValue (IsOfSome P list) None
-  none_found i end before = λ r w. none_all i end before w.0 w.1 r w.2
-
--- Tests of each element
-module _ {A : Type 0} (P : A → Type 0) (list : List A) where
-  abbrev pub NoBefore : ℕ → Type 0
-  NoBefore i = (k : ℕ) (e : A) → k < i → slice_get list k ≡ Some e → P e → ⊥
-
-  pub some_here : (i : ℕ) (e : A) → slice_get list i ≡ Some e → P e → IsTrue true ↔ ((a : A) × Contains list a × P a)
-  some_here i e at p = (λ _. (e, contains_at list i e at, p), λ _. refl)
-
-  pub no_more : (i : ℕ) (e : A) → slice_get list i ≡ Some e → (P e → ⊥) → NoBefore i → NoBefore (i + 1)
-  no_more i e at none before k f less there p = elim (cases_eq k i) [
-    | inl same ↦ none (subst P (same_some (ap (λ (n : ℕ). slice_get list n) (sym same) ∙ there) at) p)
-    | inr other ↦ before k f (omega arith) there p
-  ]
-
-  pub none_here : (i : ℕ) → length list ≤ i → NoBefore i → IsTrue false ↔ ((a : A) × Contains list a × P a)
-  none_here i end before = never (λ w. let at = place_in list w.0 w.1 in before at.0 w.0 (omega (arith, at.1)) at.2 w.2)
-
-pub denied : {P : Type 0} {b : Bool} → IsTrue b ↔ P → b ≡ false → P → ⊥
-denied test e p = false≢true (sym e ∙ test.1 p)
+  none_found i end before = λ r w. none_in Gives list i end before w.0 w.1 (r, w.2)
 
 -- Addresses of all interfaces
 
--- no interface before this has the address
-abbrev pub NotBefore : RouterSettings → Addr4 → ℕ → Type 0
-NotBefore settings a i = (k : ℕ) → k < i → HasAddressOn settings k a → ⊥
+pub on_face : (settings : RouterSettings) (i : ℕ) (addrs : List Addr4) (b : Bool) (a : Addr4) → ((c : Addr4) → Contains addrs c ↔ HasAddressOn settings i c) → IsTrue b ↔ Contains addrs a → IsTrue b ↔ HasAddressOn settings i a
+on_face settings i addrs b a on test = (λ e. (on a).0 (test.0 e), λ h. test.1 ((on a).1 h))
 
 pub one_face : (settings : RouterSettings) (a : Addr4) (i : ℕ) (b : Bool) → IsTrue b ↔ HasAddressOn settings i a → b ≡ true → IsTrue true ↔ HasAddress settings a
 one_face settings a i b test e = (λ _. (i, test.0 e), λ _. refl)
 
-pub not_more : (settings : RouterSettings) (a : Addr4) (i : ℕ) (b : Bool) → IsTrue b ↔ HasAddressOn settings i a → b ≡ false → NotBefore settings a i → NotBefore settings a (i + 1)
-not_more settings a i b test e before k less h = elim (cases_eq k i) [
-  | inl same ↦ denied test e (subst (λ (n : ℕ). HasAddressOn settings n a) same h)
-  | inr other ↦ before k (omega arith) h
-]
-
-pub no_face : (settings : RouterSettings) (a : Addr4) (i : ℕ) → length settings.interfaces ≤ i → NotBefore settings a i → IsTrue false ↔ HasAddress settings a
+pub no_face : (settings : RouterSettings) (a : Addr4) (i : ℕ) → length settings.interfaces ≤ i → ((k : ℕ) → k < i → HasAddressOn settings k a → ⊥) → IsTrue false ↔ HasAddress settings a
 no_face settings a i end before = never (λ h. let less = slice_get_within settings.interfaces h.0 h.1.0 h.1.1 in before h.0 (omega arith) h.1)

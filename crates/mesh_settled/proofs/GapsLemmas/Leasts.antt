@@ -1,11 +1,11 @@
 -- The order of keys, and the lesser of two gaps.
 use Rattle.std.proofs.Common.{◌≡◌, ℕ, ◌+◌, ◌<◌, ◌≤◌, ◌⊎◌, inl, inr, refl, sym, subst, arith, Option, Some, None, Bool, true, false, cond, nat_lt, nat_eq, ◌||◌}
-use Rattle.std.specs.Prelude.{◌&&◌, List}
+use Rattle.std.specs.Prelude.{◌&&◌, List, slice_get}
 use Rattle.std.proofs.lemmas.Bool.{false≢true, ltb-true, lt-ltb, ltb-false, eqb-true, eq-eqb, cases_eq, cases_Bool, and_parts, or_cases}
 use Rattle.mesh_settled.specs.declared.gaps.found.Found.{Found}
 use Rattle.mesh_settled.specs.declared.gaps.found.Rank.{Rank}
 use Rattle.mesh_atoms.specs.declared.gap.GapKey.{GapKey}
-use Rattle.mesh_atoms.proofs.Options.{true_false}
+use Rattle.mesh_atoms.proofs.Options.{same_some, true_false}
 use Rattle.mesh_settled.specs.declared.gaps.compare.HeldAndPresent.{HeldAndPresent}
 use Rattle.mesh_settled.specs.Gaps.Fields.{Field}
 use Rattle.mesh_settled.specs.Gaps.Gaps.{Look, IsHeldTuple, IsPresentTuple, AreSame, precedes, is_ranked_before, rank_of}
@@ -126,6 +126,19 @@ least_one l key (Some v) test = (refl, test, λ k same first. absurd (before_sel
         then_self p.kind _ (then_self p.iface _ (then_self p.first _ (then_self p.second _ (no_less p.prefix))))
 
 -- Keys by places
+
+-- the element at a place of a list tells the keys
+pub at_place : {A : Type 0} (l : Look) (list : List A) (P : A → GapKey → Type 0) (n : ℕ) (e : A) (f : Option Found) → slice_get list n ≡ Some e → IsLeastGap l (P e) f →
+    IsLeastGap l (λ key. (x : A) × (slice_get list n ≡ Some x) × P x key) f
+at_place {A} l list P n e f at least =
+    least_as l (P e) (λ key. (x : A) × (slice_get list n ≡ Some x) × P x key) (λ key w. (e, at, w)) (λ key w. subst (λ (x : A). P x key) (same_some w.1 at) w.2) f least
+
+-- or the entry
+pub at_entry : {K V : Type 0} (l : Look) (list : List (K × V)) (P : K → V → GapKey → Type 0) (n : ℕ) (k : K) (v : V) (f : Option Found) → slice_get list n ≡ Some (k, v) → IsLeastGap l (P k v) f →
+    IsLeastGap l (λ key. (x : K) × (y : V) × (slice_get list n ≡ Some (x, y)) × P x y key) f
+at_entry {K} {V} l list P n k v f at least =
+    least_as l (P k v) (λ key. (x : K) × (y : V) × (slice_get list n ≡ Some (x, y)) × P x y key) (λ key w. (k, v, at, w))
+    (λ key w. subst (λ (e : K × V). P e.0 e.1 key) (same_some w.2 at) w.3) f least
 
 -- what the places before this give
 abbrev pub Below : (ℕ → GapKey → Type 0) → ℕ → GapKey → Type 0

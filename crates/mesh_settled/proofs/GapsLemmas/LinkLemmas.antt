@@ -1,6 +1,6 @@
 -- Links that are held.
 use Rattle.std.proofs.Common.{◌≡◌, ℕ, ◌<◌, ◌≤◌, ◌⊎◌, inl, inr, arith, refl, sym, ◌∙◌, ap, subst, length, [], List, Option, Some, None, Bool, true, false, cond}
-use Rattle.std.specs.Prelude.{◌↔◌, IsTrue, is_some, slice_get, Contains}
+use Rattle.std.specs.Prelude.{◌↔◌, IsTrue, slice_get, Contains}
 use Rattle.std.specs.Borrow.{Bor}
 use Rattle.std.proofs.lemmas.Bool.{false≢true}
 use Rattle.std.proofs.lemmas.Option.{none-some, get_or_from_slice_get, slice_get_within}
@@ -22,22 +22,20 @@ use Rattle.mesh_atoms.specs.declared.tuples.LinkState.TheVariants.{Symmetric as 
 use Rattle.mesh_atoms.specs.State.{State, is_symmetric, state_of, HasAddressOn}
 use Rattle.mesh_atoms.proofs.Lookups.{looks_up_links, tests_symmetric}
 use Rattle.mesh_paths.proofs.Scenarios.{sound_scenario}
-use Rattle.mesh_settled.specs.declared.gaps.compare.Difference.{Difference}
-use Rattle.mesh_settled.specs.declared.gaps.compare.HeldAndPresent.{HeldAndPresent}
 use Rattle.mesh_settled.specs.declared.gaps.found.Found.{Found}
 use Rattle.mesh_atoms.specs.declared.gap.GapKey.{GapKey}
 use Rattle.mesh_atoms.specs.declared.gap.GapKey.TheVariants.{Link as Of_link}
 use Rattle.mesh_settled.specs.declared.gaps.joints.Joint.{Joint}
 use Rattle.mesh_settled.specs.declared.gaps.links.GivenLink.{GivenLink}
 use Rattle.mesh_settled.specs.Gaps.Fields.{Field, AllSame, link_fields, known_cost}
-use Rattle.mesh_settled.specs.Gaps.Found.{IsSide, IsTest, IsTestFrom, IsLeastGap, compared, found_at, lesser}
+use Rattle.mesh_settled.specs.Gaps.Found.{IsSide, IsLeastGap, lesser}
 use Rattle.mesh_settled.specs.Gaps.Gaps.{Look, look, IsHeldTuple, IsPresentTuple, IsHeldLink, IsPresentLink}
 use Rattle.mesh_settled.specs.Gaps.Joints.{IsJointWith, IsLeastOf}
 use Rattle.mesh_settled.specs.Gaps.Network.{IsNetwork}
-use Rattle.mesh_settled.specs.Gaps.Links.{symmetric_fields, held_fields, given_fields, given_link, IsGivenBy, IsHeldAt, IsLinkHeld, IsGivenAt, IsGiven, IsLinkKey}
-use Rattle.mesh_settled.proofs.GapsLemmas.JointLemmas.{same_state, no_state}
-use Rattle.mesh_settled.proofs.GapsLemmas.Leasts.{least_as, least_one, least_all, least_lesser}
-use Rattle.mesh_settled.proofs.GapsLemmas.Sides.{all_self, tested}
+use Rattle.mesh_settled.specs.Gaps.Links.{symmetric_fields, given_link, IsGivenBy, IsLinkHeld, IsGivenAt, IsGiven, IsLinkKey}
+use Rattle.mesh_settled.proofs.GapsLemmas.JointLemmas.{same_state}
+use Rattle.mesh_settled.proofs.GapsLemmas.Leasts.{least_as, least_all, least_lesser}
+use Rattle.mesh_settled.proofs.GapsLemmas.Sides.{all_self}
 use Rattle.mesh_atoms.proofs.Options.{same_some, same_answer}
 use Rattle.mesh_atoms.proofs.Lists.{place_of as place_in}
 
@@ -138,20 +136,6 @@ module _ (s : Scenario) (graph : RadioGraph) (states : List State) (now x : ℕ)
     pub no_joint : ((joint : Joint) → IsJointWith s states x i key.addr joint → ⊥) → IsSide (IsPresentLink l i key) None
     no_joint none = λ gs w. none (record { to = w.0; iface = w.1; there = w.3; back = w.4 }) (w.7, (w.2, w.6, w.8.keyed))
 
-some_held : (o : Option (Bor Link)) → is_some (held_fields o) ≡ is_some o
-some_held None = refl
-some_held (Some b) = refl
-
-some_given : (o : Option GivenLink) → is_some (given_fields o) ≡ is_some o
-some_given None = refl
-some_given (Some g) = refl
-
-pub link_tested : (l : Look) (i : ℕ) (key : LinkKey) (held : Option (Bor Link)) (given : Option GivenLink) (d : Option Difference) (h g : Bool) → h ≡ is_some held → g ≡ is_some given →
-    IsSide (IsHeldLink l.p l.now i key) (held_fields held) → IsSide (IsPresentLink l i key) (given_fields given) →
-    ((fs gs : List Field) → held_fields held ≡ Some fs → given_fields given ≡ Some gs → IsTestFrom 0 fs gs d) → IsTest l (Of_link i key) (compared h g d)
-link_tested l i key held given d h g h_is g_is held_is given_is test =
-    rw (h_is, g_is, ← some_held held, ← some_given given) (tested l (Of_link i key) (λ e. e) (held_fields held) (given_fields given) d held_is given_is test)
-
 pub given_is : (p q : State) (i now : ℕ) (joint : Joint) (addrs own : Bor (List Addr4)) (there here : RouterSettings) (selector : Bool) → there ≡ q.settings → here ≡ p.settings →
     ((a : Addr4) → Contains addrs.now a ↔ HasAddressOn there joint.iface a) → ((a : Addr4) → Contains own.now a ↔ HasAddressOn here i a) →
     IsTrue selector ↔ ((a : Addr4) × Contains own.now a × Says q joint.iface now a Flooding) →
@@ -165,12 +149,6 @@ given_is p q i now joint addrs own there here selector there_is here_is on mine 
       link_out = refl;
       selector = (λ e. let w = selects.0 e in (w.0, (h w.0).0 w.1, w.2), λ w. selects.1 (w.0, (h w.0).1 w.1, w.2));
     }
-
-pub held_key : (l : Look) (p : State) (i place : ℕ) (key : LinkKey) (e : Link × ℕ) (v : Option HeldAndPresent) (f : Option Found) → slice_get (base_of p.bases.neighbourhood.links i) place ≡ Some (key, e) →
-    f ≡ found_at (Of_link i key) v → IsTest l (Of_link i key) v → IsLeastGap l (IsHeldAt p i place) f
-held_key l p i place key e v f at is test =
-    rw is (least_as l (λ k. k ≡ Of_link i key) (IsHeldAt p i place) (λ k same. (key, e, at, same))
-    (λ k w. w.3 ∙ ap (λ (x : LinkKey × (Link × ℕ)). Of_link i x.0) (same_some w.2 at)) (found_at (Of_link i key) v) (least_one l (Of_link i key) v test))
 
 -- The keys that pairs give
 
@@ -190,21 +168,15 @@ one_end states y j a b v w =
 abbrev pub key_to : ℕ → Addr4 → GapKey
 key_to i a = Of_link i (record { addr = a })
 
-pub given_key : (l : Look) (states : List State) (x : ℕ) (pair : Pair) (a : Addr4) (v : Option HeldAndPresent) (f : Option Found) → pair.from ≡ x → IsLeastOf states pair.to pair.to_iface a →
-    f ≡ found_at (key_to pair.from_iface a) v → IsTest l (key_to pair.from_iface a) v → IsLeastGap l (IsGivenAt states x pair) f
-given_key l states x pair a v f from least is test =
-    rw is (least_as l (λ k. k ≡ key_to pair.from_iface a) (IsGivenAt states x pair) (λ k same. (from, a, least, same))
-    (λ k w. w.3 ∙ ap (λ (b : Addr4). key_to pair.from_iface b) (one_end states pair.to pair.to_iface w.1 a w.2 least)) (found_at (key_to pair.from_iface a) v)
-    (least_one l (key_to pair.from_iface a) v test))
+pub given_key : (l : Look) (states : List State) (x : ℕ) (pair : Pair) (a : Addr4) (f : Option Found) → pair.from ≡ x → IsLeastOf states pair.to pair.to_iface a → IsLeastGap l (λ k. k ≡ key_to pair.from_iface a) f →
+    IsLeastGap l (IsGivenAt states x pair) f
+given_key l states x pair a f from is least =
+    least_as l (λ k. k ≡ key_to pair.from_iface a) (IsGivenAt states x pair) (λ k same. (from, a, is, same))
+    (λ k w. w.3 ∙ ap (λ (b : Addr4). key_to pair.from_iface b) (one_end states pair.to pair.to_iface w.1 a w.2 is)) f least
 
 -- what the pair at a place gives
 abbrev pub IsGivenByPlace : List State → ℕ → List Pair → ℕ → GapKey → Type 0
 IsGivenByPlace states x pairs place k = (pair : Pair) × (slice_get pairs place ≡ Some pair) × IsGivenAt states x pair k
-
-pub given_place : (l : Look) (states : List State) (x : ℕ) (pairs : List Pair) (place : ℕ) (pair : Pair) (f : Option Found) → slice_get pairs place ≡ Some pair →
-    IsLeastGap l (IsGivenAt states x pair) f → IsLeastGap l (IsGivenByPlace states x pairs place) f
-given_place l states x pairs place pair f at least =
-    least_as l (IsGivenAt states x pair) (IsGivenByPlace states x pairs place) (λ k w. (pair, at, w)) (λ k w. subst (λ (p : Pair). IsGivenAt states x p k) (same_some w.1 at) w.2) f least
 
 -- All keys of links
 

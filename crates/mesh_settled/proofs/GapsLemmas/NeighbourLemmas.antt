@@ -1,7 +1,6 @@
 -- Neighbours on both sides.
-use Rattle.std.proofs.Common.{◌≡◌, ℕ, ◌+◌, ◌<◌, ◌≤◌, ◌⊎◌, inl, inr, refl, sym, ◌∙◌, ap, subst, arith, length, List, Contains, Option, Some, None, Bool, true, false, cond, nat_lt, slice_get, map}
+use Rattle.std.proofs.Common.{◌≡◌, ℕ, ◌+◌, ◌<◌, ◌≤◌, ◌⊎◌, inl, inr, refl, sym, ◌∙◌, ap, subst, arith, length, List, Contains, Option, Some, None, Bool, true, false, cond, nat_lt, map}
 use Rattle.std.specs.Prelude.{◌↔◌, IsTrue, is_some}
-use Rattle.std.specs.Borrow.{Bor}
 use Rattle.std.proofs.lemmas.Bool.{false≢true, cases_eq, ltb-true, ltb-false}
 use Rattle.std.proofs.lemmas.Option.{none-some, slice_get_within}
 use Rattle.mesh_atoms.specs.declared.addr.Addr4.{Addr4}
@@ -18,23 +17,21 @@ use Rattle.mesh_atoms.specs.State.{State, HasAddress, HasAddressOn, IsOriginator
 use Rattle.mesh_atoms.proofs.Lookups.{looks_up_neighbours}
 use Rattle.mesh_paths.proofs.Scenarios.{sound_scenario}
 use Rattle.mesh_paths.proofs.SettledNeighbours.{originator_address}
-use Rattle.mesh_settled.specs.declared.gaps.compare.Difference.{Difference}
 use Rattle.mesh_settled.specs.declared.gaps.found.Found.{Found}
 use Rattle.mesh_atoms.specs.declared.gap.GapKey.{GapKey}
 use Rattle.mesh_atoms.specs.declared.gap.GapKey.TheVariants.{Neighbour as Of_neighbour}
 use Rattle.mesh_settled.specs.declared.gaps.neighbours.GivenNeighbour.{GivenNeighbour}
 use Rattle.mesh_settled.specs.Gaps.Fields.{Field, AllSame, neighbour_fields}
-use Rattle.mesh_settled.specs.Gaps.Found.{IsSide, IsTest, IsTestFrom, IsLeastGap, IsLeastMissing, compared, lesser, least_of}
+use Rattle.mesh_settled.specs.Gaps.Found.{IsSide, IsLeastGap, IsLeastMissing, lesser, least_of}
 use Rattle.mesh_settled.specs.Gaps.Gaps.{Look, look, IsHeldTuple, IsPresentTuple, IsHeldNeighbour, IsPresentNeighbour}
 use Rattle.mesh_settled.specs.Gaps.Joints.{all_addresses}
 use Rattle.mesh_settled.specs.Gaps.Network.{IsNetwork}
-use Rattle.mesh_settled.specs.Gaps.Metrics.{less}
-use Rattle.mesh_settled.specs.Gaps.Neighbours.{held_fields, symmetric_fields, given_tuple, given_fields, IsNear, IsGivenNear, IsGivenAt, IsHeldAt, IsNeighbourHeld, IsOriginatorOf, IsOriginatorBelow, IsNeighbourKey}
+use Rattle.mesh_settled.specs.Gaps.Neighbours.{symmetric_fields, given_tuple, given_fields, IsNear, IsGivenNear, IsGivenAt, IsNeighbourHeld, IsOriginatorOf, IsOriginatorBelow, IsNeighbourKey}
 use Rattle.mesh_settled.proofs.GapsLemmas.GapLaw.{all_are, neighbours_alike}
-use Rattle.mesh_settled.proofs.GapsLemmas.JointLemmas.{same_state}
+use Rattle.mesh_settled.proofs.GapsLemmas.JointLemmas.{same_state, next_place}
 use Rattle.mesh_settled.proofs.GapsLemmas.Leasts.{least_as, least_all, least_lesser}
 use Rattle.mesh_settled.proofs.GapsLemmas.PeerLemmas.{within}
-use Rattle.mesh_settled.proofs.GapsLemmas.Sides.{all_self, tested}
+use Rattle.mesh_settled.proofs.GapsLemmas.Sides.{all_self}
 use Rattle.mesh_atoms.proofs.Options.{same_some}
 use Rattle.mesh_atoms.proofs.Lists.{place_of as place_in}
 use Rattle.mesh_atoms.proofs.Values.{one_originator, same_addr as addr_is}
@@ -194,33 +191,14 @@ module _ (s : Scenario) (graph : RadioGraph) (states : List State) (now x : ℕ)
   some_given y (Some g) some w = given_side y g w
 
 pub none_given : (l : Look) (o : Addr4) (y : ℕ) (g : Option GivenNeighbour) → false ≡ is_some g → IsGivenAt l o y g → ((k : ℕ) → k < y → IsGivenAt l o k None) → (k : ℕ) → k < y + 1 → IsGivenAt l o k None
-none_given l o y None none w before k less = elim (cases_eq k y) [ inl same ↦ subst (λ (n : ℕ). IsGivenAt l o n None) (sym same) w | inr other ↦ before k (omega arith) ]
-none_given l o y (Some g) none w before k less = absurd (false≢true none)
+none_given l o y None none w before = next_place (λ n. IsGivenAt l o n None) y before w
+none_given l o y (Some g) none w before = absurd (false≢true none)
 
 pub never_given : {A : Type 0} (f : A → State) (routers : List A) (s : Scenario) (now x : ℕ) (p : State) (o : Addr4) (n : ℕ) → length routers ≤ n → ((k : ℕ) → k < n → IsGivenAt (look s (map f routers) now x p) o k None) →
     IsSide (IsPresentNeighbour (look s (map f routers) now x p) o) None
 never_given f routers s now x p o n end none = λ gs w. let less = within f routers w.0 w.1 w.5 in none w.0 (omega (arith, less)) w.1 w.2 w.3 w.5 w.8.originator_is w.6 w.7
 
-some_held : (o : Option (Bor Neighbour)) → is_some (held_fields o) ≡ is_some o
-some_held None = refl
-some_held (Some b) = refl
-
-some_there : (o : Option GivenNeighbour) → is_some (given_fields o) ≡ is_some o
-some_there None = refl
-some_there (Some g) = refl
-
-pub neighbour_tested : (l : Look) (o : Addr4) (held : Option (Bor Neighbour)) (given : Option GivenNeighbour) (d : Option Difference) (h g : Bool) → h ≡ is_some held → g ≡ is_some given →
-    IsSide (IsHeldNeighbour l.p o) (held_fields held) → IsSide (IsPresentNeighbour l o) (given_fields given) →
-    ((fs gs : List Field) → held_fields held ≡ Some fs → given_fields given ≡ Some gs → IsTestFrom 0 fs gs d) → IsTest l (Of_neighbour o) (compared h g d)
-neighbour_tested l o held given d h g h_is g_is held_is given_is test =
-    rw (h_is, g_is, ← some_held held, ← some_there given) (tested l (Of_neighbour o) (λ e. e) (held_fields held) (given_fields given) d held_is given_is test)
-
 -- The keys that are looked at
-
-pub key_place : (l : Look) (p : State) (place : ℕ) (o : Addr4) (e : Neighbour × ℕ) (f : Option Found) → slice_get p.bases.neighbourhood.neighbours place ≡ Some (o, e) → IsLeastGap l (λ k. k ≡ Of_neighbour o) f →
-    IsLeastGap l (IsHeldAt p place) f
-key_place l p place o e f at least =
-    least_as l (λ k. k ≡ Of_neighbour o) (IsHeldAt p place) (λ k same. (o, e, at, same)) (λ k w. w.3 ∙ ap (λ (x : Addr4 × (Neighbour × ℕ)). Of_neighbour x.0) (same_some w.2 at)) f least
 
 module _ (l : Look) (states : List State) (y : ℕ) (q : State) (at : At states y q) (settings : RouterSettings) (same : settings ≡ q.settings) where
   pub key_of : (o : Addr4) → IsOriginator settings o → (f : Option Found) → IsLeastGap l (λ k. k ≡ Of_neighbour o) f → IsLeastGap l (IsOriginatorOf states y) f

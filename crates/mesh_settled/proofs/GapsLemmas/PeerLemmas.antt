@@ -1,7 +1,7 @@
 -- Senders of TCs, and stray routers.
-use Rattle.std.proofs.Common.{◌≡◌, ◌≢◌, ℕ, ◌+◌, ◌<◌, ◌≤◌, inl, inr, arith, refl, sym, ◌∙◌, ap, subst, length, List, Some, Bool, true, false, slice_get, nat_eq, map}
+use Rattle.std.proofs.Common.{◌≡◌, ◌≢◌, ℕ, ◌<◌, ◌≤◌, arith, refl, sym, ◌∙◌, ap, subst, length, List, Some, Bool, true, false, slice_get, nat_eq, map}
 use Rattle.std.specs.Prelude.{◌↔◌, IsTrue, Option, None, is_some, not}
-use Rattle.std.proofs.lemmas.Bool.{false≢true, eqb-true, eq-eqb, cases_eq}
+use Rattle.std.proofs.lemmas.Bool.{false≢true, eqb-true, eq-eqb}
 use Rattle.std.proofs.lemmas.Option.{slice_get_within}
 use Rattle.std.proofs.lemmas.List.{length-map}
 use Rattle.mesh_atoms.specs.declared.addr.Addr4.{Addr4}
@@ -17,7 +17,7 @@ use Rattle.mesh_paths.proofs.Scenarios.{sound_scenario}
 use Rattle.mesh_paths.proofs.SettledNeighbours.{originator_address}
 use Rattle.mesh_settled.specs.Gaps.Network.{IsNetwork}
 use Rattle.mesh_settled.specs.Gaps.Peers.{IsPeerOriginator, IsStrayAt}
-use Rattle.mesh_settled.proofs.GapsLemmas.JointLemmas.{same_state, denied}
+use Rattle.mesh_settled.proofs.GapsLemmas.JointLemmas.{same_state}
 use Rattle.mesh_atoms.proofs.Values.{same_addr as addr_is}
 use Rattle.mesh_atoms.proofs.Options.{same_some}
 
@@ -48,12 +48,6 @@ module _ (s : Scenario) (graph : RadioGraph) (states : List State) (now x : ℕ)
         let (r, is, mine) = w.2 in
         has.1 (subst (λ (r' : RouterSettings). HasAddress r' a) (same_some is (net.routers.settings v q at) ∙ sym same) mine),
   )
-
-pub one_not : (P : ℕ → Type 0) (i : ℕ) (b : Bool) → IsTrue b ↔ P i → b ≡ false → ((k : ℕ) → k < i → P k → ⊥) → (k : ℕ) → k < i + 1 → P k → ⊥
-one_not P i b test no_more before k less h = elim (cases_eq k i) [
-  | inl same ↦ denied test no_more (subst P same h)
-  | inr other ↦ before k (omega arith) h
-]
 
 module _ {A : Type 0} (f : A → State) (routers : List A) where
   pub within : (w : ℕ) (q : State) → At (map f routers) w q → w < length routers

@@ -1,6 +1,6 @@
 -- The rows of a router's TC, and what they say.
 use Rattle.std.proofs.Common.{◌≡◌, ℕ, ◌<◌, inl, inr, arith, refl, sym, ◌∙◌, ap, subst, length, List, Option, Some, None, Bool, true, false, cond, slice_get, get_or, nat_eq}
-use Rattle.std.specs.Prelude.{◌↔◌, IsTrue, ◌&&◌, not, Contains, option_map, AllPairs}
+use Rattle.std.specs.Prelude.{◌↔◌, IsTrue, not, Contains, option_map, AllPairs}
 use Rattle.std.proofs.lemmas.Bool.{false≢true, eq-eqb, cases_eq, cases_lt, and_parts as both, and_from}
 use Rattle.std.proofs.lemmas.Option.{none-some, get_or_from_slice_get}
 use Rattle.mesh_atoms.specs.declared.addr.Addr4.{Addr4}

@@ -1,11 +1,12 @@
 -- What two sides have at a key, and the test of it.
-use Rattle.std.proofs.Common.{List, None, Option, Some, [], ap, inl, inr, refl, sym, ℕ, ◌+◌, ◌∙◌, ◌∷◌, ◌≡◌, ◌≢◌}
-use Rattle.std.specs.Prelude.{is_some}
+use Rattle.std.proofs.Common.{Bool, List, None, Option, Some, [], ap, inl, inr, refl, subst, sym, ℕ, ◌+◌, ◌∙◌, ◌∷◌, ◌≡◌, ◌≢◌}
+use Rattle.std.specs.Prelude.{◌↔◌, is_some, option_map}
 use Rattle.mesh_settled.specs.declared.gaps.compare.Difference.{Difference}
 use Rattle.mesh_atoms.specs.declared.gap.GapKey.{GapKey}
 use Rattle.mesh_settled.specs.Gaps.Fields.{Field, Addresses, Number, SaySame, AllSame, Differ, DifferFrom}
 use Rattle.mesh_settled.specs.Gaps.Gaps.{Look, IsHeldTuple, IsPresentTuple, IsExcepted, Held_alone, Present_alone, Unequal, IsGapAt, at_field}
-use Rattle.mesh_settled.specs.Gaps.Found.{IsTest, IsTestFrom, IsSide, compared}
+use Rattle.mesh_settled.specs.Gaps.Found.{IsTest, IsTestFrom, IsSide, IsLeastGap, compared, found_at}
+use Rattle.mesh_settled.proofs.GapsLemmas.Leasts.{least_one}
 use Rattle.mesh_atoms.specs.declared.gap.GapValue.{GapValue}
 use Rattle.std.proofs.lemmas.Option.{none-some}
 use Rattle.mesh_atoms.proofs.Options.{same_some}
@@ -88,6 +89,35 @@ module _ (l : Look) (key : GapKey) (all : IsExcepted l key → ⊥) where
           | inr w ↦ differ_none 0 fs gs d.field d.held d.present differ (all_then fs w.0 gs w.2 (given.1 w.0 w.1))
         ],
       )
+
+-- what is found at the key where each side has a tuple that its fields tell, or none
+some_told : {A : Type 0} (fields : A → List Field) (o : Option A) → is_some (option_map fields o) ≡ is_some o
+some_told fields None = refl
+some_told fields (Some a) = refl
+
+pub gap_found : {A B : Type 0} (l : Look) (key : GapKey) → (IsExcepted l key → ⊥) → (ours : A → List Field) (theirs : B → List Field) (held : Option A) (given : Option B) (d : Option Difference) (h g : Bool) → h ≡ is_some held → g ≡ is_some given →
+    IsSide (IsHeldTuple l key) (option_map ours held) → IsSide (IsPresentTuple l key) (option_map theirs given) →
+    ((fs gs : List Field) → option_map ours held ≡ Some fs → option_map theirs given ≡ Some gs → IsTestFrom 0 fs gs d) → IsLeastGap l (λ k. k ≡ key) (found_at key (compared h g d))
+gap_found l key all ours theirs held given d h g h_is g_is held_is given_is test =
+    rw (h_is, g_is, ← some_told ours held, ← some_told theirs given) (least_one l key _ (tested l key all (option_map ours held) (option_map theirs given) d held_is given_is test))
+
+-- The side of a look-up
+
+module _ {V T : Type 0} (view : V → T) (fields : T → List Field) (Holds : V → Type 0) (o : Option (V × ℕ)) (looks : (t : V) → Holds t ↔ ((until : ℕ) × (o ≡ Some (t, until)))) where
+  abbrev Held : List Field → Type 0
+  Held fs = (t : V) × Holds t × (fs ≡ fields (view t))
+
+  by_found : (e : Option (V × ℕ)) → o ≡ e → IsSide Held (option_map fields (option_map (λ x. view x.0) e))
+  by_found None is = λ fs w. let f = (looks w.0).0 w.1 in none-some (w.0, f.0) (sym is ∙ f.1)
+  by_found (Some e) is = (
+    (e.0, (looks e.0).1 (e.1, is), refl),
+    λ gs w.
+        let same : w.0 ≡ e.0 = ap (λ (x : V × ℕ). x.0) (same_some ((looks w.0).0 w.1).1 is) in
+        subst (λ (hs : List Field). AllSame hs (fields (view e.0))) (sym (w.2 ∙ ap (λ (t : V). fields (view t)) same)) (all_self (fields (view e.0))),
+  )
+
+  pub held_in : IsSide Held (option_map fields (option_map (λ x. view x.0) o))
+  held_in = by_found o refl
 
 -- The two values of a gap differ
 

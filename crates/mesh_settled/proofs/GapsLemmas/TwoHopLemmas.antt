@@ -1,8 +1,8 @@
 -- 2-hop tuples on both sides.
 use Rattle.std.proofs.Common.{◌≡◌, ℕ, ◌⊎◌, inl, inr, refl, sym, ◌∙◌, ap, subst, [], List, Option, Some, None, Bool, true, false, cond, slice_get}
-use Rattle.std.specs.Prelude.{◌↔◌, IsTrue, is_some, not, ◌&&◌, Contains, option_map}
+use Rattle.std.specs.Prelude.{◌↔◌, IsTrue, not, ◌&&◌, Contains, option_map}
 use Rattle.std.proofs.lemmas.Bool.{false≢true}
-use Rattle.std.proofs.lemmas.Option.{none-some, get_or_from_slice_get}
+use Rattle.std.proofs.lemmas.Option.{get_or_from_slice_get}
 use Rattle.mesh_atoms.specs.declared.addr.Addr4.{Addr4}
 use Rattle.mesh_atoms.specs.declared.graphs.Pair.{Pair}
 use Rattle.mesh_atoms.specs.declared.graphs.RadioGraph.{RadioGraph}
@@ -15,47 +15,33 @@ use Rattle.mesh_atoms.specs.declared.tuples.TwoHopKey.{TwoHopKey}
 use Rattle.mesh_atoms.specs.Base.{Has, HasDistinctKeys, find, base_of, two_hop_eq}
 use Rattle.mesh_atoms.specs.Hello.{SaysSymmetric}
 use Rattle.mesh_atoms.specs.Settled.{At, IsTwoHopBy, IsLeastAddress}
-use Rattle.mesh_atoms.specs.State.{State, HasAddress, is_symmetric, link_at}
+use Rattle.mesh_atoms.specs.State.{State, HasAddress, HasTwoHop, is_symmetric, link_at}
 use Rattle.mesh_atoms.specs.Live.{is_symmetric_at, is_symmetric_entry}
 use Rattle.mesh_atoms.specs.Radio.{Joins}
 use Rattle.mesh_atoms.proofs.Lookups.{tests_symmetric, looks_up_links, looks_up_two_hops, looks_up_neighbours}
 use Rattle.mesh_paths.proofs.Scenarios.{sound_scenario}
-use Rattle.mesh_settled.specs.declared.gaps.compare.Difference.{Difference}
 use Rattle.mesh_settled.specs.declared.gaps.found.Found.{Found}
 use Rattle.mesh_atoms.specs.declared.gap.GapKey.{GapKey}
 use Rattle.mesh_atoms.specs.declared.gap.GapKey.TheVariants.{Link as Of_link, TwoHop as Of_two_hop}
 use Rattle.mesh_machine.specs.declared.said.Said.{Said}
 use Rattle.mesh_settled.specs.Gaps.Fields.{Field, AllSame, link_fields, two_hop_fields}
-use Rattle.mesh_settled.specs.Gaps.Found.{IsSide, IsTest, IsTestFrom, IsLeastGap, compared, lesser}
+use Rattle.mesh_settled.specs.Gaps.Found.{IsSide, IsLeastGap, lesser}
 use Rattle.mesh_settled.specs.Gaps.Gaps.{Look, look, IsHeldTuple, IsPresentTuple, IsHeldTwoHop, IsPresentTwoHop}
 use Rattle.mesh_settled.specs.Gaps.Joints.{IsLeastOf}
 use Rattle.mesh_settled.specs.Gaps.Network.{IsNetwork}
 use Rattle.mesh_settled.specs.Gaps.Links.{IsLinkKey}
 use Rattle.mesh_machine.specs.Said.{IsSaidOf}
-use Rattle.mesh_settled.specs.Gaps.TwoHops.{if_far, key_by, IsJoinedPeer, IsTwoHopAt, IsHeldBy, IsKeyIn, IsGivenIn, IsKeyNear, IsGivenBy, IsKeyBy, IsKeyOf, IsKeyOfAt, IsKeyOfSome, IsTwoHopKey}
+use Rattle.mesh_settled.specs.Gaps.TwoHops.{if_far, key_by, IsJoinedPeer, IsTwoHopAt, IsHeldBy, IsGivenBy, IsKeyBy, IsKeyOf, IsKeyOfSome, IsTwoHopKey}
 use Rattle.mesh_settled.proofs.GapsLemmas.JointLemmas.{same_state}
 use Rattle.mesh_settled.proofs.GapsLemmas.Leasts.{least_as, least_all, least_lesser}
 use Rattle.mesh_settled.proofs.GapsLemmas.LinkLemmas.{one_end}
-use Rattle.mesh_settled.proofs.GapsLemmas.Sides.{all_self, tested}
+use Rattle.mesh_settled.proofs.GapsLemmas.Sides.{all_self, held_in}
 use Rattle.mesh_atoms.proofs.Options.{same_some}
 use Rattle.mesh_atoms.proofs.Lists.{place_of as place_in}
 
-module _ (p : State) (i : ℕ) (key : TwoHopKey) (distinct : HasDistinctKeys two_hop_eq (base_of p.bases.neighbourhood.two_hops i)) where
-  abbrev stands : Option (TwoHop × ℕ)
-  stands = find two_hop_eq (base_of p.bases.neighbourhood.two_hops i) key
-
-  by_found : (o : Option (TwoHop × ℕ)) → stands ≡ o → IsSide (IsHeldTwoHop p i key) (option_map two_hop_fields (option_map (λ e. e.0) o))
-  by_found None is = λ fs w. let f = (looks_up_two_hops p i key w.0 distinct).0 w.1 in none-some (w.0, f.0) (sym is ∙ f.1)
-  by_found (Some e) is = (
-    (e.0, (looks_up_two_hops p i key e.0 distinct).1 (e.1, is), refl),
-    λ gs w.
-        let f = (looks_up_two_hops p i key w.0 distinct).0 w.1 in
-        let same : w.0 ≡ e.0 = ap (λ (x : TwoHop × ℕ). x.0) (same_some f.1 is) in
-        subst (λ (hs : List Field). AllSame hs (two_hop_fields e.0)) (sym (w.2 ∙ ap two_hop_fields same)) (all_self (two_hop_fields e.0)),
-  )
-
-  pub held_two_hop : IsSide (IsHeldTwoHop p i key) (option_map two_hop_fields (option_map (λ e. e.0) (find two_hop_eq (base_of p.bases.neighbourhood.two_hops i) key)))
-  held_two_hop = by_found stands refl
+pub held_two_hop : (p : State) (i : ℕ) (key : TwoHopKey) → HasDistinctKeys two_hop_eq (base_of p.bases.neighbourhood.two_hops i) →
+    IsSide (IsHeldTwoHop p i key) (option_map two_hop_fields (option_map (λ e. e.0) (find two_hop_eq (base_of p.bases.neighbourhood.two_hops i) key)))
+held_two_hop p i key distinct = held_in (λ t. t) two_hop_fields (λ t. HasTwoHop p i key t) _ (λ t. looks_up_two_hops p i key t distinct)
 
 module _ (s : Scenario) (graph : RadioGraph) (states : List State) (now x : ℕ) (p : State) (net : IsNetwork s graph states now) where
   module _ (i y j : ℕ) (q : State) (key : TwoHopKey) (end : IsJoinedPeer s states x i y j q key.link.addr) where
@@ -105,27 +91,7 @@ module _ (s : Scenario) (graph : RadioGraph) (states : List State) (now x : ℕ)
               subst (λ (hs : List Field). AllSame hs (two_hop_fields tuple)) (sym (w.9 ∙ ap two_hop_fields same)) (all_self (two_hop_fields tuple)),
         )
 
-some_fields : (o : Option TwoHop) → is_some (option_map two_hop_fields o) ≡ is_some o
-some_fields None = refl
-some_fields (Some t) = refl
-
-pub two_hop_tested : (l : Look) (i : ℕ) (key : TwoHopKey) (held given : Option TwoHop) (d : Option Difference) (h g : Bool) → h ≡ is_some held → g ≡ is_some given →
-    IsSide (IsHeldTwoHop l.p i key) (option_map two_hop_fields held) → IsSide (IsPresentTwoHop l i key) (option_map two_hop_fields given) →
-    ((fs gs : List Field) → option_map two_hop_fields held ≡ Some fs → option_map two_hop_fields given ≡ Some gs → IsTestFrom 0 fs gs d) → IsTest l (Of_two_hop i key) (compared h g d)
-two_hop_tested l i key held given d h g h_is g_is held_is given_is test =
-    rw (h_is, g_is, ← some_fields held, ← some_fields given) (tested l (Of_two_hop i key) (λ e. e) (option_map two_hop_fields held) (option_map two_hop_fields given) d held_is given_is test)
-
 -- The keys that are looked at
-
-pub one_in : (l : Look) (i : ℕ) (link : Addr4) (addrs : List Addr4) (n : ℕ) (a : Addr4) (f : Option Found) → slice_get addrs n ≡ Some a → IsLeastGap l (λ k. k ≡ key_by i link a) f → IsLeastGap l (IsKeyIn i link addrs n) f
-one_in l i link addrs n a f at least =
-    least_as l (λ k. k ≡ key_by i link a) (IsKeyIn i link addrs n) (λ k same. (a, at, same)) (λ k w. w.2 ∙ ap (λ (b : Addr4). key_by i link b) (same_some w.1 at)) f least
-
-pub near_at : (l : Look) (i : ℕ) (link : Addr4) (q : State) (place : ℕ) (o : Addr4) (e : Neighbour × ℕ) (f : Option Found) → slice_get q.bases.neighbourhood.neighbours place ≡ Some (o, e) →
-    IsLeastGap l (IsGivenIn i link e.0.addrs) f → IsLeastGap l (IsKeyNear i link q place) f
-near_at l i link q place o e f at least =
-    least_as l (IsGivenIn i link e.0.addrs) (IsKeyNear i link q place) (λ k w. (o, e, at, w))
-    (λ k w. subst (λ (x : Addr4 × (Neighbour × ℕ)). IsGivenIn i link x.1.0.addrs k) (same_some w.2 at) w.3) f least
 
 pub held_here : (l : Look) (p : State) (i : ℕ) (link : Addr4) (place : ℕ) (key : TwoHopKey) (e : TwoHop × ℕ) (f : Option Found) →
     slice_get (base_of p.bases.neighbourhood.two_hops i) place ≡ Some (key, e) → key.link.addr.0 ≡ link.0 → IsLeastGap l (λ k. k ≡ key_by i link key.addr) f → IsLeastGap l (IsTwoHopAt p i link place) f
@@ -180,11 +146,6 @@ module _ (s : Scenario) (graph : RadioGraph) (states : List State) (now x : ℕ)
   pub all_by : (f g : Option Found) → IsLeastGap seen (IsHeldBy p i link) f → IsLeastGap seen (IsGivenBy i link q) g → IsLeastGap seen (IsKeyBy i link) (lesser f g)
   all_by f g held given =
       least_all seen IsTried (IsKeyBy i link) (lesser f g) tried_in_kind held_tried given_tried (least_lesser seen (IsHeldBy p i link) (IsGivenBy i link q) f g held given)
-
-pub key_place : (l : Look) (states : List State) (x : ℕ) (pairs : List Pair) (place : ℕ) (pair : Pair) (f : Option Found) → slice_get pairs place ≡ Some pair →
-    IsLeastGap l (IsKeyOf states x pair) f → IsLeastGap l (IsKeyOfAt states x pairs place) f
-key_place l states x pairs place pair f at least =
-    least_as l (IsKeyOf states x pair) (IsKeyOfAt states x pairs place) (λ k w. (pair, at, w)) (λ k w. subst (λ (p : Pair). IsKeyOf states x p k) (same_some w.1 at) w.2) f least
 
 pub end_by : (s : Scenario) (graph : RadioGraph) (states : List State) (now x : ℕ) → IsNetwork s graph states now → (pair : Pair) → Contains graph.pairs pair → pair.from ≡ x →
     (q : State) → At states pair.to q → (link : Addr4) → IsLeastAddress q.settings pair.to_iface link → IsJoinedPeer s states x pair.from_iface pair.to pair.to_iface q link

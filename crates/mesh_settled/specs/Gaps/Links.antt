@@ -1,5 +1,5 @@
 -- What the tests of links find.
-use Rattle.std.specs.Prelude.{◌≡◌, ◌↔◌, ◌<◌, Contains, slice_get, IsTrue, ℕ, List, ◌∷◌, [], Option, Some, None, cond, length}
+use Rattle.std.specs.Prelude.{◌≡◌, ◌↔◌, ◌<◌, Contains, slice_get, IsTrue, ℕ, List, ◌∷◌, [], Option, Some, None, cond, length, option_map}
 use Rattle.std.specs.Borrow.{Bor}
 use Rattle.mesh_atoms.specs.declared.addr.Addr4.{Addr4}
 use Rattle.mesh_atoms.specs.declared.graphs.Pair.{Pair}
@@ -17,8 +17,7 @@ use Rattle.mesh_settled.specs.Gaps.Joints.{IsLeastOf}
 
 -- the fields of the link that the router holds, if it holds one
 abbrev pub held_fields : Option (Bor Link) → Option (List Field)
-held_fields None = None
-held_fields (Some link) = Some (link_fields link.now)
+held_fields held = option_map (λ link. link_fields link.now) held
 
 -- the link with a joined interface
 abbrev pub given_link : GivenLink → List Field
@@ -26,8 +25,7 @@ given_link g = Addresses g.addrs.now ∷ cost_field g.link_in ∷ cost_field g.l
 
 -- its fields, if there is one
 abbrev pub given_fields : Option GivenLink → Option (List Field)
-given_fields None = None
-given_fields (Some g) = Some (given_link g)
+given_fields given = option_map given_link given
 
 -- the link that a look-up finds, if it is SYMMETRIC
 abbrev pub symmetric_fields : ℕ → Option (Link × ℕ) → Option (List Field)

@@ -1,5 +1,5 @@
 -- What the tests of neighbours find.
-use Rattle.std.specs.Prelude.{◌≡◌, ◌↔◌, ◌<◌, ℕ, List, Option, Some, None, true, cond, IsTrue, slice_get, length}
+use Rattle.std.specs.Prelude.{◌≡◌, ◌↔◌, ◌<◌, ℕ, List, Option, Some, None, true, cond, IsTrue, slice_get, length, option_map}
 use Rattle.std.specs.Borrow.{Bor}
 use Rattle.mesh_atoms.specs.declared.addr.Addr4.{Addr4}
 use Rattle.mesh_atoms.specs.declared.codes.metric.Metric.{Metric}
@@ -17,8 +17,7 @@ use Rattle.mesh_settled.specs.Gaps.Joints.{all_addresses}
 
 -- the fields of the neighbour that the router holds, if it holds one
 abbrev pub held_fields : Option (Bor Neighbour) → Option (List Field)
-held_fields None = None
-held_fields (Some n) = Some (neighbour_fields n.now)
+held_fields held = option_map (λ n. neighbour_fields n.now) held
 
 -- the neighbour that a look-up finds, if it is symmetric
 abbrev pub symmetric_fields : Option (Neighbour × ℕ) → Option (List Field)
@@ -38,8 +37,7 @@ given_tuple g = record {
 
 -- its fields, if there is one
 abbrev pub given_fields : Option GivenNeighbour → Option (List Field)
-given_fields None = None
-given_fields (Some g) = Some (neighbour_fields (given_tuple g))
+given_fields given = option_map (λ g. neighbour_fields (given_tuple g)) given
 
 -- the neighbour that router y, in state q, is
 pub record IsNear (l : Look) (y : ℕ) (q : State) (g : GivenNeighbour) : Type 0 where

@@ -2,12 +2,10 @@
 use Rattle.std.specs.Prelude.{◌≡◌, ℕ, ◌<◌, List, Option, Some, None, Bool, cond, not, ◌&&◌, slice_get, length, option_map}
 use Rattle.mesh_atoms.specs.declared.addr.Addr4.{Addr4}
 use Rattle.mesh_atoms.specs.declared.addr.NetAddr.{NetAddr}
+use Rattle.mesh_atoms.specs.declared.codes.metric.Metric.{Metric}
 use Rattle.mesh_atoms.specs.declared.tc.TcRow.{TcRow}
-use Rattle.mesh_atoms.specs.declared.tuples.AddressKey.{AddressKey}
 use Rattle.mesh_atoms.specs.declared.tuples.AddressTuple.{AddressTuple}
-use Rattle.mesh_atoms.specs.declared.tuples.NetworkKey.{NetworkKey}
 use Rattle.mesh_atoms.specs.declared.tuples.NetworkTuple.{NetworkTuple}
-use Rattle.mesh_atoms.specs.declared.tuples.RouterKey.{RouterKey}
 use Rattle.mesh_atoms.specs.declared.tuples.RouterTuple.{RouterTuple}
 use Rattle.mesh_atoms.specs.Base.{host, net_eq}
 use Rattle.mesh_atoms.specs.Settled.{At, IsPeer, IsRouterBy, IsAddressBy, IsNetworkBy}
@@ -18,39 +16,31 @@ use Rattle.mesh_settled.specs.declared.gaps.topics.TopologyKind.{TopologyKind}
 use Rattle.mesh_settled.specs.declared.gaps.topics.TopologyKind.TheVariants.{Routers, Addresses, Networks}
 use Rattle.mesh_settled.specs.declared.gaps.topics.Claim.{Claim}
 use Rattle.mesh_settled.specs.Gaps.Fields.{Field, topology_fields}
-use Rattle.mesh_settled.specs.Gaps.Gaps.{Look, IsHeldRouter, IsHeldAddress, IsHeldNetwork}
+use Rattle.mesh_settled.specs.Gaps.Gaps.{Look}
 
 -- What a tuple says
 
+-- the number, and the distance, which a network alone has, with the metric
+abbrev pub claim : ℕ → Option ℕ × Metric → Claim
+claim ansn says = record { ansn = ansn; metric = says.1; distance = says.0 }
+
 -- of a router topology tuple
 abbrev pub of_router : RouterTuple → Claim
-of_router t = record { ansn = t.ansn; metric = t.metric; distance = None }
+of_router t = claim t.ansn (None, t.metric)
 
 -- of a routable address topology tuple
 abbrev pub of_address : AddressTuple → Claim
-of_address t = record { ansn = t.ansn; metric = t.metric; distance = None }
+of_address t = claim t.ansn (None, t.metric)
 
--- of an attached network tuple, which alone has a distance
+-- of an attached network tuple
 abbrev pub of_network : NetworkTuple → Claim
-of_network t = record { ansn = t.ansn; metric = t.metric; distance = Some t.distance }
+of_network t = claim t.ansn (Some t.distance, t.metric)
 
 -- its fields, which are those of the tuple
 abbrev pub claim_fields : Claim → List Field
 claim_fields t = topology_fields t.ansn t.metric t.distance
 
 -- Keys
-
--- from the originator of a TC to that of its neighbour (TR_from_orig_addr, TR_to_orig_addr)
-abbrev pub router_key : RouterKey → GapKey
-router_key key = Of_router key.from key.to
-
--- from the originator of a TC to an address (TA_from_orig_addr, TA_dest_addr)
-abbrev pub address_key : AddressKey → GapKey
-address_key key = Of_address key.from key.addr
-
--- from the originator of a TC to a network (AN_orig_addr, AN_net_addr)
-abbrev pub network_key : NetworkKey → GapKey
-network_key key = Of_network key.from key.net
 
 -- the key of that kind from an originator to a destination, whose prefix counts for networks alone
 abbrev pub key_at : TopologyKind → Addr4 → NetAddr → GapKey
@@ -59,12 +49,6 @@ key_at Addresses from net = Of_address from net.addr
 key_at Networks from net = Of_network from net
 
 -- The two sides
-
--- the router in state p holds a tuple of that kind, from that originator to that destination, with these fields
-abbrev pub IsHeldClaim : State → TopologyKind → Addr4 → NetAddr → List Field → Type 0
-IsHeldClaim p Routers from net = IsHeldRouter p (record { from = from; to = net.addr })
-IsHeldClaim p Addresses from net = IsHeldAddress p (record { from = from; addr = net.addr })
-IsHeldClaim p Networks from net = IsHeldNetwork p (record { from = from; net = net })
 
 -- the TC of a router in state q says it
 abbrev pub IsClaimBy : State → TopologyKind → Addr4 → NetAddr → Claim → Type 0
@@ -94,7 +78,7 @@ is_row_of Networks net row = not row.routable && net_eq row.dest net
 
 -- what a row says in a TC of that ANSN; nothing where it has no metric
 abbrev pub claim_by : ℕ → TcRow → Option Claim
-claim_by ansn row = option_map (λ m. record { ansn = ansn; metric = m; distance = row.gateway }) row.metric
+claim_by ansn row = option_map (λ m. claim ansn (row.gateway, m)) row.metric
 
 -- the same, where the row gives a tuple of that kind and destination
 abbrev pub claim_if : TopologyKind → NetAddr → ℕ → TcRow → Option Claim
@@ -112,15 +96,15 @@ held_count p Routers = length p.bases.topology.routers
 held_count p Addresses = length p.bases.topology.addresses
 held_count p Networks = length p.bases.topology.networks
 
--- the key of the tuple at a place
-abbrev pub held_key : State → TopologyKind → ℕ → Option GapKey
-held_key p Routers place = option_map (λ e. router_key e.0) (slice_get p.bases.topology.routers place)
-held_key p Addresses place = option_map (λ e. address_key e.0) (slice_get p.bases.topology.addresses place)
-held_key p Networks place = option_map (λ e. network_key e.0) (slice_get p.bases.topology.networks place)
+-- the originator and the destination of the tuple at a place
+abbrev pub ends_at : State → TopologyKind → ℕ → Option (Addr4 × NetAddr)
+ends_at p Routers place = option_map (λ e. (e.0.from, host e.0.to)) (slice_get p.bases.topology.routers place)
+ends_at p Addresses place = option_map (λ e. (e.0.from, host e.0.addr)) (slice_get p.bases.topology.addresses place)
+ends_at p Networks place = option_map (λ e. (e.0.from, e.0.net)) (slice_get p.bases.topology.networks place)
 
 -- the tuple at a place has the key
 abbrev pub IsHeldAt : State → TopologyKind → ℕ → GapKey → Type 0
-IsHeldAt p topic place k = held_key p topic place ≡ Some k
+IsHeldAt p topic place k = (from : Addr4) × (net : NetAddr) × (ends_at p topic place ≡ Some (from, net)) × (k ≡ key_at topic from net)
 
 -- the key of some tuple of that kind which the router holds
 abbrev pub IsTupleHeld : State → TopologyKind → GapKey → Type 0

@@ -4,7 +4,7 @@ ghost use Rattle.mesh_settled.specs.Gaps.Found.{lesser, found_at};
 ghost use Rattle.mesh_settled.specs.Gaps.Gaps.{rank_of, is_ranked_before};
 
 use crate::gaps::compare::HeldAndPresent;
-use mesh_atoms::{GapKey, GapValue};
+use mesh_atoms::{Addr4, GapKey, GapValue};
 
 /// A gap of a router.
 #[derive(Clone, Copy)]
@@ -38,53 +38,29 @@ pub fn found_at(key: GapKey, values: Option<HeldAndPresent>) -> Option<Found>
     }
 }
 
+fn make_rank(kind: u8, iface: usize, first: Addr4, second: u32, prefix: u8) -> Rank
+    ensures { result ≡ record { kind = kind; iface = iface; first = first.0; second = second; prefix = prefix } }
+{
+    Rank {
+        kind,
+        iface,
+        first: first.0,
+        second,
+        prefix,
+    }
+}
+
 // Where the key stands: first by its kind, then by interface, by address, and for networks by prefix.
 fn rank_of(key: &GapKey) -> Rank
     ensures { result ≡ rank_of key.now }
 {
     match *key {
-        GapKey::Link { iface, key } => Rank {
-            kind: 0,
-            iface,
-            first: key.addr.0,
-            second: 0,
-            prefix: 0,
-        },
-        GapKey::Neighbour(originator) => Rank {
-            kind: 1,
-            iface: 0,
-            first: originator.0,
-            second: 0,
-            prefix: 0,
-        },
-        GapKey::TwoHop { iface, key } => Rank {
-            kind: 2,
-            iface,
-            first: key.link.addr.0,
-            second: key.addr.0,
-            prefix: 0,
-        },
-        GapKey::Router { from, to } => Rank {
-            kind: 3,
-            iface: 0,
-            first: from.0,
-            second: to.0,
-            prefix: 0,
-        },
-        GapKey::Address { from, addr } => Rank {
-            kind: 4,
-            iface: 0,
-            first: from.0,
-            second: addr.0,
-            prefix: 0,
-        },
-        GapKey::Network { from, net } => Rank {
-            kind: 5,
-            iface: 0,
-            first: from.0,
-            second: net.addr.0,
-            prefix: net.prefix,
-        },
+        GapKey::Link { iface, key } => make_rank(0, iface, key.addr, 0, 0),
+        GapKey::Neighbour(originator) => make_rank(1, 0, originator, 0, 0),
+        GapKey::TwoHop { iface, key } => make_rank(2, iface, key.link.addr, key.addr.0, 0),
+        GapKey::Router { from, to } => make_rank(3, 0, from, to.0, 0),
+        GapKey::Address { from, addr } => make_rank(4, 0, from, addr.0, 0),
+        GapKey::Network { from, net } => make_rank(5, 0, from, net.addr.0, net.prefix),
     }
 }
 

@@ -140,19 +140,12 @@ pub fn joint_with<R: RouterView>(site: &RouterAt<'_, R>, i: usize, addr: Addr4) 
     joint_in(site.routers, site.graph.pairs.as_slice(), site.x, i, addr)
 }
 
-// Whether it is an address of the interface.
-fn is_address_on(settings: &RouterSettings, iface: usize, addr: Addr4) -> bool
-    ensures { IsTrue result ↔ HasAddressOn settings.now iface addr }
-{
-    contains(addrs_of(settings, iface), addr)
-}
-
 /// Whether it is an address of the router.
 pub fn is_address_of(settings: &RouterSettings, addr: Addr4) -> bool
     ensures { IsTrue result ↔ HasAddress settings.now addr }
 {
     for i in 0..settings.interfaces.len() {
-        if is_address_on(settings, i, addr) {
+        if contains(addrs_of(settings, i), addr) {
             return true;
         }
     }

@@ -6,16 +6,14 @@ ghost use Rattle.mesh_atoms.specs.Words.{IsValue};
 ghost use Rattle.mesh_atoms.specs.Sound.{Sound};
 ghost use Rattle.mesh_machine.specs.expire.Table.{value_of};
 ghost use Rattle.mesh_atoms.specs.declared.gap.GapKey.TheVariants.{Link as Of_link};
-ghost use Rattle.mesh_settled.specs.Gaps.Found.{IsSide, IsTest, IsTestFrom, IsLeastGap};
+ghost use Rattle.mesh_settled.specs.Gaps.Found.{IsSide, IsTestFrom, IsLeastGap};
 ghost use Rattle.mesh_settled.specs.Gaps.Gaps.{IsHeldLink, IsPresentLink};
 ghost use Rattle.mesh_settled.specs.Gaps.Fields.{Field, link_fields};
 ghost use Rattle.mesh_settled.specs.Gaps.Joints.{IsLeastOf};
 ghost use Rattle.mesh_settled.specs.Gaps.Links.{held_fields, symmetric_fields, given_fields, given_link, IsGivenBy, IsHeldAt, IsHeldOn, IsLinkHeld, IsGivenAt, IsGiven, IsLinkKey};
 ghost use Rattle.mesh_settled.specs.Gaps.Site.{states, seen, IsSite};
 
-use crate::gaps::compare::{
-    Difference, HeldAndPresent, addresses, compared, first_of, flags, known_cost, numbers,
-};
+use crate::gaps::compare::{Difference, addresses, compared, first_of, flags, known_cost, numbers};
 use crate::gaps::found::{Found, found_at, lesser};
 use crate::gaps::joints::{Joint, addrs_of, joint_with, least_address, router_at};
 use crate::gaps::site::RouterAt;
@@ -55,15 +53,6 @@ fn held_link<R: RouterView>(router: &R, i: usize, key: LinkKey, now: u64) -> Opt
     if_symmetric(router.link_of(i, &key), now)
 }
 
-// Whether the HELLO of interface j shows the address as a flooding relay's.
-fn is_relay<R: RouterView>(other: &R, j: usize, addr: Addr4, now: u64) -> bool
-    requires sound { Sound (R.state other.now) }
-    requires moment { (R.state other.now).last ≡ now }
-    ensures { IsTrue result ↔ Says (R.state other.now) j now addr Flooding }
-{
-    other.said(j, now, addr).flooding
-}
-
 // Whether the HELLO of interface j shows one of these addresses as a flooding relay's.
 fn is_selector<R: RouterView>(other: &R, j: usize, addrs: &[Addr4], now: u64) -> bool
     requires sound { Sound (R.state other.now) }
@@ -71,7 +60,7 @@ fn is_selector<R: RouterView>(other: &R, j: usize, addrs: &[Addr4], now: u64) ->
     ensures { IsTrue result ↔ ((a : Addr4) × Contains addrs.now a × Says (R.state other.now) j now a Flooding) }
 {
     for k in 0..addrs.len() {
-        if is_relay(other, j, addrs[k], now) {
+        if other.said(j, now, addrs[k]).flooding {
             return true;
         }
     }
@@ -146,19 +135,16 @@ fn difference_of(held: Option<&Link>, given: Option<GivenLink<'_>>) -> Option<Di
     }
 }
 
-// What the two sides say of a link of interface i where they differ.
-fn link_values<R: RouterView>(
-    site: &RouterAt<'_, R>,
-    i: usize,
-    key: LinkKey,
-) -> Option<HeldAndPresent>
+// The gap at the link of interface i with that key.
+fn gap_at<R: RouterView>(site: &RouterAt<'_, R>, i: usize, key: LinkKey) -> Option<Found>
     requires { IsSite R.state site.now }
-    ensures { IsTest (seen R.state site.entry.now) (Of_link i key) result }
+    ensures { IsLeastGap (seen R.state site.entry.now) (λ k. k ≡ Of_link i key) result }
 {
     let held = held_link(site.router, i, key, site.moment);
     let given = given_link(site, i, key);
     let difference = difference_of(held, given);
-    compared(held.is_some(), given.is_some(), difference)
+    let values = compared(held.is_some(), given.is_some(), difference);
+    found_at(GapKey::Link { iface: i, key }, values)
 }
 
 // The gap at the link of interface i at that place.
@@ -167,13 +153,7 @@ fn held_at<R: RouterView>(site: &RouterAt<'_, R>, i: usize, place: usize) -> Opt
     ensures { IsLeastGap (seen R.state site.entry.now) (IsHeldAt (R.state site.entry.now.router.now) i place) result }
 {
     match site.router.link(i, place) {
-        Some((key, _, _)) => found_at(
-            GapKey::Link {
-                iface: i,
-                key: *key,
-            },
-            link_values(site, i, *key),
-        ),
+        Some((key, _, _)) => gap_at(site, i, *key),
         None => None,
     }
 }
@@ -221,13 +201,7 @@ fn given_at<R: RouterView>(site: &RouterAt<'_, R>, pair: &Pair) -> Option<Found>
         return None;
     }
     match end_of(site.routers, pair) {
-        Some(addr) => found_at(
-            GapKey::Link {
-                iface: pair.from_iface,
-                key: LinkKey { addr },
-            },
-            link_values(site, pair.from_iface, LinkKey { addr }),
-        ),
+        Some(addr) => gap_at(site, pair.from_iface, LinkKey { addr }),
         None => None,
     }
 }

@@ -8,14 +8,12 @@ ghost use Rattle.mesh_atoms.specs.State.{HasAddress, IsOriginator};
 ghost use Rattle.mesh_machine.specs.expire.Table.{value_of};
 ghost use Rattle.mesh_atoms.specs.declared.gap.GapKey.TheVariants.{Neighbour as Of_neighbour};
 ghost use Rattle.mesh_settled.specs.Gaps.Fields.{Field, neighbour_fields};
-ghost use Rattle.mesh_settled.specs.Gaps.Found.{IsSide, IsTest, IsTestFrom, IsLeastGap};
+ghost use Rattle.mesh_settled.specs.Gaps.Found.{IsSide, IsTestFrom, IsLeastGap};
 ghost use Rattle.mesh_settled.specs.Gaps.Gaps.{IsHeldNeighbour, IsPresentNeighbour};
 ghost use Rattle.mesh_settled.specs.Gaps.Neighbours.{held_fields, symmetric_fields, given_tuple, given_fields, IsGivenNear, IsGivenAt, IsHeldAt, IsNeighbourHeld, IsOriginatorOf, IsOriginatorBelow, IsNeighbourKey};
 ghost use Rattle.mesh_settled.specs.Gaps.Site.{states, seen, IsSite};
 
-use crate::gaps::compare::{
-    Difference, HeldAndPresent, compared, first_of, flags, known_cost, numbers,
-};
+use crate::gaps::compare::{Difference, compared, first_of, flags, known_cost, numbers};
 use crate::gaps::found::{Found, found_at, lesser};
 use crate::gaps::joints::{addrs_of, router_at};
 use crate::gaps::metrics::metric_to;
@@ -57,15 +55,6 @@ fn held_neighbour<R: RouterView>(router: &R, originator: Addr4) -> Option<&Neigh
     if_symmetric(router.neighbour_of(&originator))
 }
 
-// Whether the HELLOs show the address as a routing relay's.
-fn is_relay<R: RouterView>(other: &R, addr: Addr4, now: u64) -> bool
-    requires sound { Sound (R.state other.now) }
-    requires moment { (R.state other.now).last ≡ now }
-    ensures { IsTrue result ↔ Says (R.state other.now) 0 now addr Routing }
-{
-    other.said(0, now, addr).routing
-}
-
 // Whether the HELLOs show one of these addresses as a routing relay's.
 fn is_any_relay<R: RouterView>(other: &R, addrs: &[Addr4], now: u64) -> bool
     requires sound { Sound (R.state other.now) }
@@ -73,7 +62,7 @@ fn is_any_relay<R: RouterView>(other: &R, addrs: &[Addr4], now: u64) -> bool
     ensures { IsTrue result ↔ ((a : Addr4) × Contains addrs.now a × Says (R.state other.now) 0 now a Routing) }
 {
     for k in 0..addrs.len() {
-        if is_relay(other, addrs[k], now) {
+        if other.said(0, now, addrs[k]).routing {
             return true;
         }
     }
@@ -201,23 +190,16 @@ fn difference_of(held: Option<&Neighbour>, given: Option<GivenNeighbour<'_>>) ->
     }
 }
 
-// What the two sides say of the neighbour with that originator, where they differ.
-fn neighbour_values<R: RouterView>(site: &RouterAt<'_, R>, addr: Addr4) -> Option<HeldAndPresent>
-    requires { IsSite R.state site.now }
-    ensures { IsTest (seen R.state site.entry.now) (Of_neighbour addr) result }
-{
-    let held = held_neighbour(site.router, addr);
-    let given = given_neighbour(site, addr);
-    let difference = difference_of(held, given);
-    compared(held.is_some(), given.is_some(), difference)
-}
-
 // The gap at the neighbour with that originator.
 fn gap_at<R: RouterView>(site: &RouterAt<'_, R>, addr: Addr4) -> Option<Found>
     requires { IsSite R.state site.now }
     ensures { IsLeastGap (seen R.state site.entry.now) (λ k. k ≡ Of_neighbour addr) result }
 {
-    found_at(GapKey::Neighbour(addr), neighbour_values(site, addr))
+    let held = held_neighbour(site.router, addr);
+    let given = given_neighbour(site, addr);
+    let difference = difference_of(held, given);
+    let values = compared(held.is_some(), given.is_some(), difference);
+    found_at(GapKey::Neighbour(addr), values)
 }
 
 // The gap at the neighbour at that place.

@@ -5,25 +5,25 @@ ghost use Rattle.mesh_atoms.specs.Words.{IsValue};
 ghost use Rattle.mesh_atoms.specs.Sound.{Sound};
 ghost use Rattle.mesh_atoms.specs.State.{IsOriginator};
 ghost use Rattle.mesh_machine.specs.expire.Table.{entry_of, value_of};
-ghost use Rattle.mesh_settled.specs.Gaps.Fields.{Field, Number};
-ghost use Rattle.mesh_settled.specs.Gaps.Found.{IsSide, IsTest, IsFieldTest, IsTestFrom, IsLeastGap};
+ghost use Rattle.mesh_settled.specs.Gaps.Fields.{Field};
+ghost use Rattle.mesh_settled.specs.Gaps.Found.{IsSide, IsTestFrom, IsLeastGap};
+ghost use Rattle.mesh_settled.specs.Gaps.Gaps.{IsHeldTuple};
 ghost use Rattle.mesh_settled.specs.Gaps.Joints.{IsOfSome};
 ghost use Rattle.mesh_settled.specs.Gaps.Peers.{IsOrigin, IsValueOf};
 ghost use Rattle.mesh_settled.specs.Gaps.Site.{states, seen, IsSite};
-ghost use Rattle.mesh_settled.specs.Gaps.Topics.{of_router, of_address, of_network, claim_fields, key_at, router_key, address_key, network_key, is_row_of, claim_if, held_key, held_count, IsHeldClaim, IsPresentClaim, IsClaimBy, IsHeldAt, IsTupleHeld, IsToRows, IsByRows, IsByAllRows, IsTopicKey};
+ghost use Rattle.mesh_settled.specs.Gaps.Topics.{claim, claim_fields, key_at, ends_at, is_row_of, claim_if, held_count, IsPresentClaim, IsClaimBy, IsHeldAt, IsTupleHeld, IsToRows, IsByRows, IsByAllRows, IsTopicKey};
 
-use crate::gaps::compare::{
-    Apart, Difference, HeldAndPresent, compared, first_of, known_cost, numbers,
-};
+use crate::gaps::compare::{Difference, compared, first_of, known_cost, numbers};
 use crate::gaps::found::{Found, found_at, lesser};
 use crate::gaps::joints::router_at;
 use crate::gaps::peers::{Origin, next_origin, origin_of};
 use crate::gaps::site::RouterAt;
 use mesh_atoms::{
     Addr4, AddressKey, AddressTuple, GapKey, Metric, NetAddr, NetworkKey, NetworkTuple, RouterKey,
-    RouterTuple, TcRow, host,
+    RouterTuple, TcRow,
 };
 use mesh_machine::RouterView;
+use mesh_topo::TopologyTuple;
 
 /// A kind of topology tuples.
 #[derive(Clone, Copy)]
@@ -132,65 +132,49 @@ fn given_claim<R: RouterView>(
     }
 }
 
-// What the router topology tuple says that a look-up finds.
-fn router_claim(found: Option<(&RouterTuple, u64)>) -> Option<Claim>
-    ensures { result ≡ option_map (λ e. of_router e.0) (value_of found.entry) }
+// What the tuple says that a look-up finds.
+fn found_claim<K: Ord, T: TopologyTuple<K>>(found: Option<(&T, u64)>) -> Option<Claim>
+    ensures { result ≡ option_map (λ e. claim (T.number e.0) (T.says e.0)) (value_of found.entry) }
 {
     match found {
-        Some((tuple, _)) => Some(Claim {
-            ansn: tuple.ansn,
-            metric: tuple.metric,
-            distance: None,
-        }),
-        None => None,
-    }
-}
-
-// The same of a routable address tuple.
-fn address_claim(found: Option<(&AddressTuple, u64)>) -> Option<Claim>
-    ensures { result ≡ option_map (λ e. of_address e.0) (value_of found.entry) }
-{
-    match found {
-        Some((tuple, _)) => Some(Claim {
-            ansn: tuple.ansn,
-            metric: tuple.metric,
-            distance: None,
-        }),
-        None => None,
-    }
-}
-
-// The same of an attached network tuple.
-fn network_claim(found: Option<(&NetworkTuple, u64)>) -> Option<Claim>
-    ensures { result ≡ option_map (λ e. of_network e.0) (value_of found.entry) }
-{
-    match found {
-        Some((tuple, _)) => Some(Claim {
-            ansn: tuple.ansn,
-            metric: tuple.metric,
-            distance: Some(tuple.distance),
-        }),
+        Some((tuple, _)) => {
+            let (distance, metric) = tuple.distance_and_metric();
+            Some(Claim {
+                ansn: tuple.number_of(),
+                metric,
+                distance,
+            })
+        }
         None => None,
     }
 }
 
 // What the router's own tuple says.
 fn held_claim<R: RouterView>(
-    router: &R,
+    site: &RouterAt<'_, R>,
     topic: TopologyKind,
     from: Addr4,
     net: NetAddr,
 ) -> Option<Claim>
-    requires { Sound (R.state router.now) }
-    ensures { IsSide (IsHeldClaim (R.state router.now) topic from net) (option_map claim_fields result) }
+    requires { IsSite R.state site.now }
+    ensures { IsSide (IsHeldTuple (seen R.state site.entry.now) (key_at topic from net)) (option_map claim_fields result) }
 {
     match topic {
-        TopologyKind::Routers => router_claim(router.router_of(&RouterKey { from, to: net.addr })),
-        TopologyKind::Addresses => address_claim(router.address_of(&AddressKey {
-            from,
-            addr: net.addr,
-        })),
-        TopologyKind::Networks => network_claim(router.network_of(&NetworkKey { from, net })),
+        TopologyKind::Routers => {
+            let key = RouterKey { from, to: net.addr };
+            found_claim::<RouterKey, RouterTuple>(site.router.router_of(&key))
+        }
+        TopologyKind::Addresses => {
+            let key = AddressKey {
+                from,
+                addr: net.addr,
+            };
+            found_claim::<AddressKey, AddressTuple>(site.router.address_of(&key))
+        }
+        TopologyKind::Networks => {
+            let key = NetworkKey { from, net };
+            found_claim::<NetworkKey, NetworkTuple>(site.router.network_of(&key))
+        }
     }
 }
 
@@ -203,15 +187,6 @@ fn number(distance: Option<u8>) -> Option<u64>
     }
 }
 
-// Where the distances differ.
-fn distances(held: Option<u8>, given: Option<u8>) -> Option<Apart>
-    ensures { IsFieldTest (Number held) (Number given) result }
-{
-    let ours = number(held);
-    let theirs = number(given);
-    numbers(ours, theirs)
-}
-
 // Where the two tuples differ.
 fn difference_between(held: Claim, given: Claim) -> Option<Difference>
     ensures { IsTestFrom 0 (claim_fields held) (claim_fields given) result }
@@ -221,7 +196,7 @@ fn difference_between(held: Claim, given: Claim) -> Option<Difference>
         known_cost(Some(held.metric)),
         known_cost(Some(given.metric)),
     );
-    let distance = distances(held.distance, given.distance);
+    let distance = numbers(number(held.distance), number(given.distance));
     let last = first_of(2, distance, None);
     let second = first_of(1, metric, last);
     first_of(0, ansn, second)
@@ -238,27 +213,7 @@ fn difference_of(held: Option<Claim>, given: Option<Claim>) -> Option<Difference
     }
 }
 
-// What the two sides say of a tuple of that kind, where they differ.
-fn claim_values<R: RouterView>(
-    site: &RouterAt<'_, R>,
-    topic: TopologyKind,
-    origin: &Origin,
-    net: NetAddr,
-) -> Option<HeldAndPresent>
-    requires site { IsSite R.state site.now }
-    requires origin { IsOrigin site.now.scenario.now (states R.state site.now) site.now.x origin.now }
-    ensures { IsTest (seen R.state site.entry.now) (key_at topic origin.now.addr net) result }
-{
-    if origin.stray {
-        return None;
-    }
-    let held = held_claim(site.router, topic, origin.addr, net);
-    let given = given_claim(site, topic, origin, net);
-    let difference = difference_of(held, given);
-    compared(held.is_some(), given.is_some(), difference)
-}
-
-// The gap at the tuple of that kind, sender and destination.
+// The gap at the tuple of that kind, originator and destination.
 fn gap_at<R: RouterView>(
     site: &RouterAt<'_, R>,
     topic: TopologyKind,
@@ -269,10 +224,14 @@ fn gap_at<R: RouterView>(
     requires origin { IsOrigin site.now.scenario.now (states R.state site.now) site.now.x origin.now }
     ensures { IsLeastGap (seen R.state site.entry.now) (λ k. k ≡ key_at topic origin.now.addr net) result }
 {
-    found_at(
-        key_at(topic, origin.addr, net),
-        claim_values(site, topic, origin, net),
-    )
+    if origin.stray {
+        return None;
+    }
+    let held = held_claim(site, topic, origin.addr, net);
+    let given = given_claim(site, topic, origin, net);
+    let difference = difference_of(held, given);
+    let values = compared(held.is_some(), given.is_some(), difference);
+    found_at(key_at(topic, origin.addr, net), values)
 }
 
 // How many tuples of that kind the router holds.
@@ -286,48 +245,28 @@ fn held_count<R: RouterView>(router: &R, topic: TopologyKind) -> usize
     }
 }
 
-// The sender and the destination of a router topology tuple.
-fn router_ends(found: Option<(&RouterKey, &RouterTuple, u64)>) -> Option<(Addr4, NetAddr)>
-    ensures { option_map (λ k. key_at TopologyKind.Routers k.0 k.1) result ≡ option_map (λ e. router_key e.0) (entry_of found.entry) }
+// The originator and the destination of the tuple at a place.
+fn found_ends<K: Ord, T: TopologyTuple<K>>(found: Option<(&K, &T, u64)>) -> Option<(Addr4, NetAddr)>
+    ensures { result ≡ option_map (λ e. (T.origin e.0, T.dest e.0)) (entry_of found.entry) }
 {
     match found {
-        Some((key, _, _)) => Some((key.from, host(key.to))),
+        Some((key, _, _)) => Some((T::origin_of(key), T::dest_of(key))),
         None => None,
     }
 }
 
-// The same of a routable address tuple.
-fn address_ends(found: Option<(&AddressKey, &AddressTuple, u64)>) -> Option<(Addr4, NetAddr)>
-    ensures { option_map (λ k. key_at TopologyKind.Addresses k.0 k.1) result ≡ option_map (λ e. address_key e.0) (entry_of found.entry) }
-{
-    match found {
-        Some((key, _, _)) => Some((key.from, host(key.addr))),
-        None => None,
-    }
-}
-
-// The same of an attached network tuple.
-fn network_ends(found: Option<(&NetworkKey, &NetworkTuple, u64)>) -> Option<(Addr4, NetAddr)>
-    ensures { option_map (λ k. key_at TopologyKind.Networks k.0 k.1) result ≡ option_map (λ e. network_key e.0) (entry_of found.entry) }
-{
-    match found {
-        Some((key, _, _)) => Some((key.from, key.net)),
-        None => None,
-    }
-}
-
-// The sender and the destination of the tuple at that place.
+// The originator and the destination of the tuple at that place that the router holds.
 fn held_ends<R: RouterView>(
     router: &R,
     topic: TopologyKind,
     place: usize,
 ) -> Option<(Addr4, NetAddr)>
-    ensures { option_map (λ k. key_at topic k.0 k.1) result ≡ held_key (R.state router.now) topic place }
+    ensures { result ≡ ends_at (R.state router.now) topic place }
 {
     match topic {
-        TopologyKind::Routers => router_ends(router.router(place)),
-        TopologyKind::Addresses => address_ends(router.address(place)),
-        TopologyKind::Networks => network_ends(router.network(place)),
+        TopologyKind::Routers => found_ends::<RouterKey, RouterTuple>(router.router(place)),
+        TopologyKind::Addresses => found_ends::<AddressKey, AddressTuple>(router.address(place)),
+        TopologyKind::Networks => found_ends::<NetworkKey, NetworkTuple>(router.network(place)),
     }
 }
 

@@ -2,12 +2,12 @@
 ghost use Rattle.std.specs.Prelude.{◌≡◌, List, Some, None, Contains, option_map};
 ghost use Rattle.mesh_machine.specs.expire.Table.{value_of};
 ghost use Rattle.mesh_settled.specs.Gaps.Fields.{Field, two_hop_fields};
-ghost use Rattle.mesh_settled.specs.Gaps.Found.{IsTest, IsTestFrom, IsLeastGap};
+ghost use Rattle.mesh_settled.specs.Gaps.Found.{IsTestFrom, IsLeastGap};
 ghost use Rattle.mesh_settled.specs.Gaps.Links.{IsLinkKey};
 ghost use Rattle.mesh_settled.specs.Gaps.Site.{states, seen, IsSite, IsEndAt};
 ghost use Rattle.mesh_settled.specs.Gaps.TwoHops.{if_far, key_by, IsTwoHopAt, IsHeldBy, IsGivenIn, IsKeyNear, IsGivenBy, IsKeyBy, IsKeyOf, IsKeyOfSome, IsTwoHopKey};
 
-use crate::gaps::compare::{Difference, HeldAndPresent, compared, first_of, known_cost, numbers};
+use crate::gaps::compare::{Difference, compared, first_of, known_cost, numbers};
 use crate::gaps::found::{Found, found_at, lesser};
 use crate::gaps::joints::{is_address_of, least_address, router_at};
 use crate::gaps::site::{JoinedPeer, RouterAt};
@@ -58,28 +58,6 @@ fn difference_of(held: Option<TwoHop>, given: Option<TwoHop>) -> Option<Differen
     }
 }
 
-// What the two sides say of the 2-hop tuple of that address by the link to that end, where they differ.
-fn two_hop_values<R: RouterView>(
-    site: &RouterAt<'_, R>,
-    end: &JoinedPeer<'_, R>,
-    addr: Addr4,
-) -> Option<HeldAndPresent>
-    requires site { IsSite R.state site.now }
-    requires end { IsEndAt R.state site.now end.now }
-    ensures { IsTest (seen R.state site.entry.now) (key_by end.entry.now.i end.entry.now.link addr) result }
-{
-    let key = TwoHopKey {
-        link: LinkKey { addr: end.link },
-        addr,
-    };
-    let held = found_tuple(site.router.two_hop_of(end.i, &key));
-    let mine = is_address_of(site.router.settings(), addr);
-    let theirs = is_address_of(end.other.settings(), addr);
-    let given = if_far(end.other.said(end.j, site.moment, addr), mine, theirs);
-    let difference = difference_of(held, given);
-    compared(held.is_some(), given.is_some(), difference)
-}
-
 // The gap at the 2-hop tuple of that address by the link to that end.
 fn gap_at<R: RouterView>(
     site: &RouterAt<'_, R>,
@@ -94,10 +72,13 @@ fn gap_at<R: RouterView>(
         link: LinkKey { addr: end.link },
         addr,
     };
-    found_at(
-        GapKey::TwoHop { iface: end.i, key },
-        two_hop_values(site, end, addr),
-    )
+    let held = found_tuple(site.router.two_hop_of(end.i, &key));
+    let mine = is_address_of(site.router.settings(), addr);
+    let theirs = is_address_of(end.other.settings(), addr);
+    let given = if_far(end.other.said(end.j, site.moment, addr), mine, theirs);
+    let difference = difference_of(held, given);
+    let values = compared(held.is_some(), given.is_some(), difference);
+    found_at(GapKey::TwoHop { iface: end.i, key }, values)
 }
 
 // The gap at the 2-hop tuple that the router holds at that place, if it is by the link to that end.

@@ -1,11 +1,12 @@
-use Rattle.mesh_settled.proofs.GapsLemmas.JointLemmas.{one_face, not_more, no_face}
+use Rattle.mesh_atoms.specs.State.{HasAddressOn}
+use Rattle.mesh_settled.proofs.GapsLemmas.JointLemmas.{on_face, one_face, one_not, no_face}
 use Rattle.mesh_settled.proofs.gaps.joints.is_address_of.Goals as goal
 
-pub returns-then-is_address_on : goal.returns-then-is_address_on
-returns-then-is_address_on c = one_face c.args.settings.now c.args.addr c.loop-i.i c.is_address_on.result c.is_address_on.ensures c.if-is_address_on.true
+pub returns-then-contains : goal.returns-then-contains
+returns-then-contains c = one_face c.args.settings.now c.args.addr c.loop-i.i c.contains.result (on_face c.args.settings.now c.loop-i.i c.addrs_of.result.now c.contains.result c.args.addr c.addrs_of.ensures c.contains.ensures) c.if-contains.true
 
 pub loop-i-preserved : goal.loop-i-preserved
-loop-i-preserved c = not_more c.args.settings.now c.args.addr c.loop-i.i c.is_address_on.result c.is_address_on.ensures c.if-is_address_on.false c.loop-i.invariant
+loop-i-preserved c = one_not (λ i. HasAddressOn c.args.settings.now i c.args.addr) c.loop-i.i c.contains.result (on_face c.args.settings.now c.loop-i.i c.addrs_of.result.now c.contains.result c.args.addr c.addrs_of.ensures c.contains.ensures) c.if-contains.false c.loop-i.invariant
 
 pub returns : goal.returns
 returns c = no_face c.args.settings.now c.args.addr c.loop-i.i (rw c.len-i-end.ensures at c.loop-i-test.false) c.loop-i.invariant

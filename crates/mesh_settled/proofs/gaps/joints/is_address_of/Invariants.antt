@@ -1,5 +1,6 @@
-use Rattle.mesh_settled.proofs.GapsLemmas.JointLemmas.{NotBefore}
+use Rattle.std.proofs.Common.{ℕ, ◌<◌}
+use Rattle.mesh_atoms.specs.State.{HasAddressOn}
 use Rattle.mesh_settled.proofs.gaps.joints.is_address_of.Given as goal
 
 abbrev pub invariant-loop-i : goal.invariant-loop-i
-invariant-loop-i l = NotBefore l.settings l.addr l.i
+invariant-loop-i l = (k : ℕ) → k < l.i → HasAddressOn l.settings k l.addr → ⊥

@@ -8,8 +8,8 @@ use Rattle.mesh_settled.proofs.gaps.links.given_at.Goals as goal
 pub returns-in-Some : goal.returns-in-Some
 returns-in-Some g c =
     given_key (seen g.R.RouterView.state c.args.site.now) (map g.R.RouterView.state c.args.site.now.routers.now) c.args.site.now.x c.args.pair.now
-    c.in-Some.addr c.link_values.result c.found_at.result c.if-pair-site.false
-    (value_some (IsLeastOf (map g.R.RouterView.state c.args.site.now.routers.now) c.args.pair.now.to c.args.pair.now.to_iface) c.end_of.result c.in-Some.addr c.in-Some.is c.end_of.ensures) c.found_at.ensures c.link_values.ensures
+    c.in-Some.addr c.gap_at.result c.if-pair-site.false
+    (value_some (IsLeastOf (map g.R.RouterView.state c.args.site.now.routers.now) c.args.pair.now.to c.args.pair.now.to_iface) c.end_of.result c.in-Some.addr c.in-Some.is c.end_of.ensures) c.gap_at.ensures
 
 pub returns-in-None : goal.returns-in-None
 returns-in-None g c = λ key w.

@@ -1,7 +1,8 @@
 use Rattle.std.proofs.Common.{map, refl}
 use Rattle.std.proofs.lemmas.Option.{slice_get_read}
-use Rattle.mesh_settled.proofs.GapsLemmas.Leasts.{least_step, least_end}
-use Rattle.mesh_settled.proofs.GapsLemmas.LinkLemmas.{IsGivenByPlace, given_place}
+use Rattle.mesh_settled.proofs.GapsLemmas.Leasts.{at_place, least_step, least_end}
+use Rattle.mesh_settled.proofs.GapsLemmas.LinkLemmas.{IsGivenByPlace}
+use Rattle.mesh_settled.specs.Gaps.Links.{IsGivenAt}
 use Rattle.mesh_settled.specs.Gaps.Site.{seen}
 use Rattle.mesh_settled.proofs.gaps.links.given_links.Goals as goal
 
@@ -9,7 +10,7 @@ pub loop-place-preserved : goal.loop-place-preserved
 loop-place-preserved g c =
     let l = seen g.R.RouterView.state c.args.site.now in
     rw c.lesser-best.ensures (least_step l (IsGivenByPlace (map g.R.RouterView.state c.args.site.now.routers.now) c.args.site.now.x c.args.pairs.now) c.loop-place.place c.loop-place.best c.given_at.result c.loop-place.invariant
-    (given_place l (map g.R.RouterView.state c.args.site.now.routers.now) c.args.site.now.x c.args.pairs.now c.loop-place.place c.index-pairs-place.result c.given_at.result
+    (at_place l c.args.pairs.now (IsGivenAt (map g.R.RouterView.state c.args.site.now.routers.now) c.args.site.now.x) c.loop-place.place c.index-pairs-place.result c.given_at.result
     (slice_get_read c.args.pairs.now _ c.loop-place.place c.index-pairs-place.result refl c.loop-place-test.true c.index-pairs-place.is) c.given_at.ensures))
 
 pub returns : goal.returns

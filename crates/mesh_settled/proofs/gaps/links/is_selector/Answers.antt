@@ -3,15 +3,15 @@ use Rattle.mesh_atoms.specs.Hello.{Says, Flooding}
 use Rattle.mesh_settled.proofs.GapsLemmas.JointLemmas.{some_here, no_more, none_here, denied}
 use Rattle.mesh_settled.proofs.gaps.links.is_selector.Goals as goal
 
-pub returns-then-is_relay : goal.returns-then-is_relay
-returns-then-is_relay g c =
+pub returns-then-said : goal.returns-then-said
+returns-then-said g c =
     some_here (λ a. Says (g.R.RouterView.state c.args.other.now) c.args.j c.args.now a Flooding) c.args.addrs.now c.loop-k.k _ (slice_get-get_or c.args.addrs.now c.loop-k.k _ c.loop-k-test.true)
-    (c.is_relay.ensures.0 c.if-is_relay.true)
+    (c.said.ensures.flooding.0 c.if-said.true)
 
 pub loop-k-preserved : goal.loop-k-preserved
 loop-k-preserved g c =
     no_more (λ a. Says (g.R.RouterView.state c.args.other.now) c.args.j c.args.now a Flooding) c.args.addrs.now c.loop-k.k _ (slice_get-get_or c.args.addrs.now c.loop-k.k _ c.loop-k-test.true)
-    (denied c.is_relay.ensures c.if-is_relay.false) c.loop-k.invariant
+    (denied c.said.ensures.flooding c.if-said.false) c.loop-k.invariant
 
 pub returns : goal.returns
 returns g c = none_here (λ a. Says (g.R.RouterView.state c.args.other.now) c.args.j c.args.now a Flooding) c.args.addrs.now c.loop-k.k c.loop-k-test.false c.loop-k.invariant

@@ -1,5 +1,5 @@
+use Rattle.mesh_settled.proofs.GapsLemmas.JointLemmas.{one_not}
 use Rattle.mesh_settled.proofs.GapsLemmas.NeighbourLemmas.{SaysOn, shows_on, some_shows, none_shows}
-use Rattle.mesh_settled.proofs.GapsLemmas.PeerLemmas.{one_not}
 use Rattle.mesh_settled.proofs.gaps.neighbours.is_selector.Goals as goal
 
 pub returns-then-is_any_relay : goal.returns-then-is_any_relay

@@ -1,5 +1,6 @@
 use Rattle.mesh_settled.specs.Gaps.Peers.{IsStrayAt}
-use Rattle.mesh_settled.proofs.GapsLemmas.PeerLemmas.{one_not, some_stray, no_stray}
+use Rattle.mesh_settled.proofs.GapsLemmas.JointLemmas.{one_not}
+use Rattle.mesh_settled.proofs.GapsLemmas.PeerLemmas.{some_stray, no_stray}
 use Rattle.mesh_settled.proofs.gaps.peers.is_stray.Goals as goal
 
 pub returns-then-is_stray_at : goal.returns-then-is_stray_at

@@ -1,6 +1,7 @@
 use Rattle.std.proofs.Common.{map}
 use Rattle.mesh_settled.specs.Gaps.Peers.{IsPeerOriginator}
-use Rattle.mesh_settled.proofs.GapsLemmas.PeerLemmas.{one_not, past_sender}
+use Rattle.mesh_settled.proofs.GapsLemmas.JointLemmas.{one_not}
+use Rattle.mesh_settled.proofs.GapsLemmas.PeerLemmas.{past_sender}
 use Rattle.mesh_settled.proofs.gaps.peers.sender_of.Goals as goal
 
 pub returns-then-is_sender : goal.returns-then-is_sender

@@ -10,4 +10,4 @@ returns c =
     (rw (c.from.ensures, c.from-2.ensures) at c.numbers-ansn.ensures)
     (c.first_of-second.ensures (cost_field h.metric) (cost_field g.metric) (Number h.distance ∷ []) (Number g.distance ∷ [])
     (rw (c.known_cost.ensures, c.known_cost-2.ensures) at c.numbers-metric.ensures)
-    (c.first_of-last.ensures (Number h.distance) (Number g.distance) [] [] c.distances-distance.ensures tt))
+    (c.first_of-last.ensures (Number h.distance) (Number g.distance) [] [] (rw (c.number.ensures, c.number-2.ensures) at c.numbers-distance.ensures) tt))

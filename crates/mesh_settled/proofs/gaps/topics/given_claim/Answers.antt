@@ -1,13 +1,11 @@
-use Rattle.std.proofs.Common.{sym, ap, ◌∙◌}
-use Rattle.std.specs.Prelude.{option_map}
 use Rattle.mesh_settled.specs.Gaps.Peers.{IsPeerOriginator}
 use Rattle.mesh_settled.specs.Gaps.Site.{states}
-use Rattle.mesh_settled.proofs.GapsLemmas.JointLemmas.{value_some, value_none}
+use Rattle.mesh_settled.proofs.GapsLemmas.JointLemmas.{value_some, value_none, router_found}
 use Rattle.mesh_settled.proofs.GapsLemmas.TopicLemmas.{given_side, none_given, its_origin}
 use Rattle.mesh_settled.proofs.gaps.topics.given_claim.Goals as goal
 
 pub claim_of-requires : goal.claim_of-requires
-claim_of-requires g c = c.requires.site.network.sound c.in-Some.w (g.R.RouterView.state c.in-Some-router_at.other.now) (record { is = sym c.router_at.ensures ∙ ap (option_map (λ r. g.R.RouterView.state r.now)) c.in-Some-router_at.is })
+claim_of-requires g c = c.requires.site.network.sound c.in-Some.w (g.R.RouterView.state c.in-Some-router_at.other.now) (router_found g.R.RouterView.state c.router_at.ensures c.in-Some-router_at.is)
 
 pub returns-in-Some-router_at : goal.returns-in-Some-router_at
 returns-in-Some-router_at g c =
@@ -16,8 +14,8 @@ returns-in-Some-router_at g c =
     let q = g.R.RouterView.state c.in-Some-router_at.other.now in
     let p = g.R.RouterView.state site.router.now in
     let sender = value_some (IsPeerOriginator site.scenario.now all site.x c.args.origin.now.addr) c.args.origin.now.sender c.in-Some.w c.in-Some.is c.requires.origin.sender in
-    let origin = its_origin site.scenario.now site.graph.now all site.moment site.x c.requires.site.network p c.args.topic c.args.origin.now.addr c.args.net c.in-Some.w q (record { is = sym c.router_at.ensures ∙ ap (option_map (λ r. g.R.RouterView.state r.now)) c.in-Some-router_at.is }) sender in
-    given_side site.scenario.now site.graph.now all site.moment site.x c.requires.site.network p c.args.topic c.args.origin.now.addr c.args.net c.in-Some.w q (record { is = sym c.router_at.ensures ∙ ap (option_map (λ r. g.R.RouterView.state r.now)) c.in-Some-router_at.is }) sender c.claim_of.result (c.claim_of.ensures c.args.origin.now.addr origin)
+    let origin = its_origin site.scenario.now site.graph.now all site.moment site.x c.requires.site.network p c.args.topic c.args.origin.now.addr c.args.net c.in-Some.w q (router_found g.R.RouterView.state c.router_at.ensures c.in-Some-router_at.is) sender in
+    given_side site.scenario.now site.graph.now all site.moment site.x c.requires.site.network p c.args.topic c.args.origin.now.addr c.args.net c.in-Some.w q (router_found g.R.RouterView.state c.router_at.ensures c.in-Some-router_at.is) sender c.claim_of.result (c.claim_of.ensures c.args.origin.now.addr origin)
 
 pub returns-in-None : goal.returns-in-None
 returns-in-None g c =

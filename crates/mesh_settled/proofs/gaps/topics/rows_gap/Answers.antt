@@ -1,15 +1,15 @@
+use Rattle.std.proofs.Common.{◌≡◌}
 use Rattle.std.proofs.lemmas.Option.{slice_get-get_or}
 use Rattle.mesh_settled.specs.Gaps.Site.{seen}
-use Rattle.mesh_settled.specs.Gaps.Topics.{IsToRow}
-use Rattle.mesh_settled.proofs.GapsLemmas.Leasts.{least_step, least_end}
-use Rattle.mesh_settled.proofs.GapsLemmas.TopicLemmas.{row_place}
+use Rattle.mesh_settled.specs.Gaps.Topics.{IsToRow, key_at}
+use Rattle.mesh_settled.proofs.GapsLemmas.Leasts.{at_place, least_step, least_end}
 use Rattle.mesh_settled.proofs.gaps.topics.rows_gap.Goals as goal
 
 pub loop-n-preserved : goal.loop-n-preserved
 loop-n-preserved g c =
     let l = seen g.R.RouterView.state c.args.site.now in
     rw c.lesser-best.ensures (least_step l (IsToRow c.args.topic c.args.origin.now.addr c.args.rows.now) c.loop-n.n c.loop-n.best c.gap_at.result c.loop-n.invariant
-    (row_place l c.args.topic c.args.origin.now.addr c.args.rows.now c.loop-n.n _ c.gap_at.result (slice_get-get_or c.args.rows.now c.loop-n.n _ c.loop-n-test.true) c.gap_at.ensures))
+    (at_place l c.args.rows.now (λ row k. k ≡ key_at c.args.topic c.args.origin.now.addr row.dest) c.loop-n.n _ c.gap_at.result (slice_get-get_or c.args.rows.now c.loop-n.n _ c.loop-n-test.true) c.gap_at.ensures))
 
 pub returns : goal.returns
 returns g c =

@@ -2,10 +2,9 @@ use Rattle.std.proofs.Common.{map, refl, sym, subst, List}
 use Rattle.std.specs.Prelude.{Contains}
 use Rattle.std.proofs.lemmas.Option.{slice_get_read}
 use Rattle.mesh_atoms.specs.declared.graphs.Pair.{Pair}
-use Rattle.mesh_settled.specs.Gaps.TwoHops.{IsKeyOfAt}
+use Rattle.mesh_settled.specs.Gaps.TwoHops.{IsKeyOf, IsKeyOfAt}
 use Rattle.mesh_settled.specs.Gaps.Site.{seen}
-use Rattle.mesh_settled.proofs.GapsLemmas.Leasts.{least_step, least_end}
-use Rattle.mesh_settled.proofs.GapsLemmas.TwoHopLemmas.{key_place}
+use Rattle.mesh_settled.proofs.GapsLemmas.Leasts.{at_place, least_step, least_end}
 use Rattle.mesh_settled.proofs.gaps.two_hops.gap_in.Goals as goal
 use Rattle.mesh_atoms.proofs.Lists.{contains_at}
 
@@ -18,7 +17,7 @@ pub loop-place-preserved : goal.loop-place-preserved
 loop-place-preserved g c =
     let l = (seen g.R.RouterView.state c.args.site.now) in
     rw c.lesser-best.ensures (least_step l (IsKeyOfAt (map g.R.RouterView.state c.args.site.now.routers.now) c.args.site.now.x c.args.pairs.now) c.loop-place.place c.loop-place.best c.gap_of.result c.loop-place.invariant
-    (key_place l (map g.R.RouterView.state c.args.site.now.routers.now) c.args.site.now.x c.args.pairs.now c.loop-place.place c.index-pairs-place.result c.gap_of.result
+    (at_place l c.args.pairs.now (IsKeyOf (map g.R.RouterView.state c.args.site.now.routers.now) c.args.site.now.x) c.loop-place.place c.index-pairs-place.result c.gap_of.result
     (slice_get_read c.args.pairs.now _ c.loop-place.place c.index-pairs-place.result refl c.loop-place-test.true c.index-pairs-place.is) c.gap_of.ensures))
 
 pub returns : goal.returns

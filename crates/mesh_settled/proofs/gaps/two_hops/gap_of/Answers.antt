@@ -1,10 +1,9 @@
-use Rattle.std.proofs.Common.{map, sym, ap, ◌∙◌, subst}
-use Rattle.std.specs.Prelude.{option_map}
+use Rattle.std.proofs.Common.{map, subst}
 use Rattle.mesh_atoms.specs.declared.settings.RouterSettings.{RouterSettings}
 use Rattle.mesh_atoms.specs.Settled.{IsLeastAddress}
 use Rattle.mesh_settled.specs.Gaps.Joints.{IsLeastOf}
 use Rattle.mesh_settled.specs.Gaps.Site.{seen}
-use Rattle.mesh_settled.proofs.GapsLemmas.JointLemmas.{value_some, value_none, no_state}
+use Rattle.mesh_settled.proofs.GapsLemmas.JointLemmas.{value_some, value_none, router_found, no_router_found}
 use Rattle.mesh_settled.proofs.GapsLemmas.LinkLemmas.{end_is}
 use Rattle.mesh_settled.proofs.GapsLemmas.TwoHopLemmas.{end_by, key_of}
 use Rattle.mesh_settled.proofs.gaps.two_hops.gap_of.Goals as goal
@@ -12,7 +11,7 @@ use Rattle.mesh_settled.proofs.gaps.two_hops.gap_of.Goals as goal
 pub gap_by-requires-clause-end : goal.gap_by-requires-clause-end
 gap_by-requires-clause-end g c =
     end_by c.args.site.now.scenario.now c.args.site.now.graph.now (map g.R.RouterView.state c.args.site.now.routers.now) c.args.site.now.moment c.args.site.now.x c.requires.site.network c.args.pair.now c.requires.pair c.if-pair-site.false
-    (g.R.RouterView.state c.in-Some.other.now) (record { is = sym c.router_at.ensures ∙ ap (option_map (λ r. g.R.RouterView.state r.now)) c.in-Some.is }) c.in-Some-least_address.link
+    (g.R.RouterView.state c.in-Some.other.now) (router_found g.R.RouterView.state c.router_at.ensures c.in-Some.is) c.in-Some-least_address.link
     (subst (λ (r : RouterSettings). IsLeastAddress r c.args.pair.now.to_iface c.in-Some-least_address.link) c.settings.ensures
     (value_some (IsLeastAddress c.settings.result.now c.args.pair.now.to_iface) c.least_address.result c.in-Some-least_address.link c.in-Some-least_address.is c.least_address.ensures))
 
@@ -21,13 +20,13 @@ returns-in-Some-least_address g c =
     let states = map g.R.RouterView.state c.args.site.now.routers.now in
     key_of (seen g.R.RouterView.state c.args.site.now) states c.args.site.now.x c.args.pair.now c.in-Some-least_address.link c.gap_by.result c.if-pair-site.false
     (value_some (IsLeastOf states c.args.pair.now.to c.args.pair.now.to_iface) c.least_address.result c.in-Some-least_address.link c.in-Some-least_address.is
-    (end_is states c.args.pair.now.to c.args.pair.now.to_iface (g.R.RouterView.state c.in-Some.other.now) (record { is = sym c.router_at.ensures ∙ ap (option_map (λ r. g.R.RouterView.state r.now)) c.in-Some.is }) c.settings.result.now c.settings.ensures c.least_address.result c.least_address.ensures)) c.gap_by.ensures
+    (end_is states c.args.pair.now.to c.args.pair.now.to_iface (g.R.RouterView.state c.in-Some.other.now) (router_found g.R.RouterView.state c.router_at.ensures c.in-Some.is) c.settings.result.now c.settings.ensures c.least_address.result c.least_address.ensures)) c.gap_by.ensures
 
 pub returns-in-None-least_address : goal.returns-in-None-least_address
 returns-in-None-least_address g c = λ k w.
     let states = map g.R.RouterView.state c.args.site.now.routers.now in
     absurd (value_none (IsLeastOf states c.args.pair.now.to c.args.pair.now.to_iface) c.least_address.result c.in-None-least_address.is
-    (end_is states c.args.pair.now.to c.args.pair.now.to_iface (g.R.RouterView.state c.in-Some.other.now) (record { is = sym c.router_at.ensures ∙ ap (option_map (λ r. g.R.RouterView.state r.now)) c.in-Some.is }) c.settings.result.now c.settings.ensures c.least_address.result c.least_address.ensures) w.1 w.2)
+    (end_is states c.args.pair.now.to c.args.pair.now.to_iface (g.R.RouterView.state c.in-Some.other.now) (router_found g.R.RouterView.state c.router_at.ensures c.in-Some.is) c.settings.result.now c.settings.ensures c.least_address.result c.least_address.ensures) w.1 w.2)
 
 pub returns-in-None : goal.returns-in-None
-returns-in-None g c = λ k w. absurd (no_state (sym c.router_at.ensures ∙ ap (option_map (λ r. g.R.RouterView.state r.now)) c.in-None.is) w.2.0 w.2.1)
+returns-in-None g c = λ k w. absurd (no_router_found g.R.RouterView.state c.router_at.ensures c.in-None.is w.2.0 w.2.1)

@@ -1,14 +1,14 @@
+use Rattle.std.proofs.Common.{◌≡◌}
 use Rattle.std.proofs.lemmas.Option.{slice_get-get_or}
-use Rattle.mesh_settled.specs.Gaps.TwoHops.{IsKeyIn}
+use Rattle.mesh_settled.specs.Gaps.TwoHops.{IsKeyIn, key_by}
 use Rattle.mesh_settled.specs.Gaps.Site.{seen}
-use Rattle.mesh_settled.proofs.GapsLemmas.Leasts.{least_step, least_end}
-use Rattle.mesh_settled.proofs.GapsLemmas.TwoHopLemmas.{one_in}
+use Rattle.mesh_settled.proofs.GapsLemmas.Leasts.{at_place, least_step, least_end}
 use Rattle.mesh_settled.proofs.gaps.two_hops.given_in.Goals as goal
 
 pub loop-n-preserved : goal.loop-n-preserved
 loop-n-preserved g c =
     rw c.lesser-best.ensures (least_step (seen g.R.RouterView.state c.args.site.now)
-    (IsKeyIn c.args.end.now.i c.args.end.now.link c.args.addrs.now) c.loop-n.n c.loop-n.best c.gap_at.result c.loop-n.invariant (one_in (seen g.R.RouterView.state c.args.site.now) c.args.end.now.i c.args.end.now.link c.args.addrs.now c.loop-n.n _ c.gap_at.result (slice_get-get_or c.args.addrs.now c.loop-n.n _ c.loop-n-test.true) c.gap_at.ensures))
+    (IsKeyIn c.args.end.now.i c.args.end.now.link c.args.addrs.now) c.loop-n.n c.loop-n.best c.gap_at.result c.loop-n.invariant (at_place (seen g.R.RouterView.state c.args.site.now) c.args.addrs.now (λ a k. k ≡ key_by c.args.end.now.i c.args.end.now.link a) c.loop-n.n _ c.gap_at.result (slice_get-get_or c.args.addrs.now c.loop-n.n _ c.loop-n-test.true) c.gap_at.ensures))
 
 pub returns : goal.returns
 returns g c =
