@@ -6,8 +6,6 @@ use Rattle.std.proofs.lemmas.Bool.{and_parts}
 use Rattle.std.proofs.lemmas.List.{take_more, map-append, length-map}
 use Rattle.mesh_atoms.specs.declared.settings.Attached4.{Attached4}
 use Rattle.mesh_atoms.specs.declared.settings.Interface.{Interface}
-use Rattle.mesh_atoms.specs.declared.settings.RadioArc.{RadioArc}
-use Rattle.mesh_atoms.specs.declared.settings.RouterSettings.{RouterSettings}
 use Rattle.mesh_atoms.specs.Base.{addr_eq, net_eq}
 use Rattle.mesh_atoms.specs.Settings.{are_distinct, is_host, name_eq, IsRouter}
 use Rattle.mesh_config.specs.declared.stated.stated.StatedRouter.{StatedRouter}
@@ -17,29 +15,18 @@ use Rattle.mesh_config.specs.Checks.Checks.{duplicate_unless}
 use Rattle.mesh_config.specs.Checks.Compared.{same_router, same_interface, same_attached, router_addrs, all_addrs, attaches_no_host, stated_duplicates}
 use Rattle.mesh_config.specs.Fields.{interface_fields, IsClear}
 use Rattle.mesh_config.specs.Stated.Router.{InterfaceFields, stated_interface_fields}
-use Rattle.mesh_config.specs.Senders.{AddressLists, senders_to, sender_pair, HaveSenders, HaveAllSenders}
+use Rattle.mesh_config.specs.Senders.{EachAt}
 use Rattle.mesh_config.proofs.ChecksLemmas.Links.{are_distinct-map}
 use Rattle.mesh_atoms.proofs.Lists.{back_distinct, front_distinct}
 
--- one more interface, one more router
-pub senders_more : (lists : AddressLists) (arcs : List RadioArc) (router i n : ℕ) (xs : List Interface) (x : Interface) → HaveSenders lists arcs router i xs → i + length xs ≡ n
-    → map sender_pair x.senders ≡ senders_to lists arcs router n → x.metric.code ≡ 0 → HaveSenders lists arcs router i (xs ++ x ∷ [])
-senders_more lists arcs router i n [] x all here met own =
-    let at : i ≡ n = omega arith in
-    ((met ∙ ap (λ (k : ℕ). senders_to lists arcs router k) (sym at), own), tt)
-senders_more lists arcs router i n (y ∷ ys) x all here met own =
-    let at : (i + 1) + length ys ≡ n = omega arith in
-    (all.0, senders_more lists arcs router (i + 1) n ys x all.1 at met own)
-
-pub all_senders_more : (lists : AddressLists) (arcs : List RadioArc) (i n : ℕ) (xs : List RouterSettings) (x : RouterSettings) → HaveAllSenders lists arcs i xs → i + length xs ≡ n
-    → HaveSenders lists arcs n 0 x.interfaces → HaveAllSenders lists arcs i (xs ++ x ∷ [])
-all_senders_more lists arcs i n [] x all here met =
-    let at : i ≡ n = omega arith in
-    let says : ℕ → Type 0 = λ k. HaveSenders lists arcs k 0 x.interfaces in
-    (subst says (sym at) met, tt)
-all_senders_more lists arcs i n (y ∷ ys) x all here met =
-    let at : (i + 1) + length ys ≡ n = omega arith in
-    (all.0, all_senders_more lists arcs (i + 1) n ys x all.1 at met)
+-- one more
+pub each_more : {X : Type 0} (Has : ℕ → X → Type 0) (i n : ℕ) (xs : List X) (x : X) → EachAt Has i xs → i + length xs ≡ n → Has n x → EachAt Has i (xs ++ x ∷ [])
+each_more Has i n [] x all here one =
+    let at : n ≡ i = omega (arith, here) in
+    (subst (λ (k : ℕ). Has k x) at one, tt)
+each_more Has i n (y ∷ ys) x all here one =
+    let at : (i + 1) + length ys ≡ n = omega (arith, here) in
+    (all.0, each_more Has (i + 1) n ys x all.1 at one)
 
 -- ---- what holds of all holds of a part
 none_parts : {A : Type 0} (p : A → Bool) (xs ys : List A) → not (list_any p (xs ++ ys)) ≡ true → (not (list_any p xs) ≡ true) × (not (list_any p ys) ≡ true)

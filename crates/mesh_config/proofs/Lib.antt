@@ -8,7 +8,6 @@ mod JoinFacts
 mod KeysLemmas
 mod Qualities
 mod RunLaws
-mod RunTablesLemmas
 mod Said
 mod StatedLemmas
 mod Told

@@ -1,5 +1,5 @@
 -- The qualities of the senders of an interface.
-use Rattle.std.proofs.Common.{◌≡◌, ℕ, zero, suc, ◌+◌, ◌<◌, ◌≤◌, List, [], ◌∷◌, ◌++◌, map, length, get_or, take, Bool, true, false, cond, nat_eq, ◌&&◌, Option, Some, None, refl, sym, ap, ◌∙◌, subst, arith}
+use Rattle.std.proofs.Common.{◌≡◌, ℕ, zero, suc, ◌+◌, ◌<◌, ◌≤◌, List, [], ◌∷◌, ◌++◌, map, length, get_or, take, Bool, true, false, cond, nat_eq, ◌&&◌, Option, Some, None, refl, sym, ap, ◌∙◌, arith}
 use Rattle.std.specs.List.{flat_map, slice_get}
 use Rattle.std.proofs.lemmas.List.{take_more, length-take-le, map-append, append-nil}
 use Rattle.std.proofs.lemmas.Grind.{flat_map-append}
@@ -9,13 +9,11 @@ use Rattle.mesh_atoms.specs.declared.addr.Addr4.{Addr4}
 use Rattle.mesh_atoms.specs.declared.admit.QualityStep.{QualityStep}
 use Rattle.mesh_atoms.specs.declared.admit.SenderQuality.{SenderQuality}
 use Rattle.mesh_atoms.specs.declared.codes.metric.Metric.{Metric}
-use Rattle.mesh_atoms.specs.declared.settings.Interface.{Interface}
 use Rattle.mesh_atoms.specs.declared.settings.RadioArc.{RadioArc}
-use Rattle.mesh_atoms.specs.declared.settings.RouterSettings.{RouterSettings}
 use Rattle.mesh_atoms.specs.declared.settings.SenderMetric.{SenderMetric}
 use Rattle.mesh_config.specs.declared.stated.stated.StatedArc.{StatedArc}
 use Rattle.mesh_config.specs.Stated.Steps.{quality_pair}
-use Rattle.mesh_config.specs.Senders.{AddressLists, first_addr, with_metric, sender_by, senders_to, sender_pair, with_steps, with_quality, quality_by, qualities_to, HaveQualities, HaveAllQualities, stated_steps, steps_at}
+use Rattle.mesh_config.specs.Senders.{AddressLists, first_addr, with_metric, sender_by, senders_to, sender_pair, with_steps, with_quality, quality_by, qualities_to, stated_steps, steps_at}
 
 -- the steps of a stated arc are those at its number
 stated_there : (arcs : List StatedArc) (number : ℕ) (arc : StatedArc) → slice_get arcs number ≡ Some arc → steps_at (stated_steps arcs) number ≡ arc.steps
@@ -86,23 +84,3 @@ pub senders_same : (lists : AddressLists) (arcs : List RadioArc) (steps : List (
     → map (λ q. q.sender) qualities ≡ map (λ s. s.sender) senders
 senders_same lists arcs steps router iface senders qualities met also =
     sym (map-map of_steps quality_pair qualities) ∙ (ap (map of_steps) also ∙ (addresses lists arcs steps router iface ∙ (ap (map of_metric) (sym met) ∙ map-map of_metric sender_pair senders)))
-
--- one more interface, one more router
-pub have_more : (lists : AddressLists) (arcs : List (RadioArc × List QualityStep)) (router i n : ℕ) (xs : List Interface) (x : Interface) → HaveQualities lists arcs router i xs → i + length xs ≡ n
-    → map quality_pair x.admit.senders ≡ qualities_to lists arcs router n → HaveQualities lists arcs router i (xs ++ x ∷ [])
-have_more lists arcs router i n [] x all here met =
-    let at : i ≡ n = omega arith in
-    (met ∙ ap (λ (k : ℕ). qualities_to lists arcs router k) (sym at), tt)
-have_more lists arcs router i n (y ∷ ys) x all here met =
-    let at : (i + 1) + length ys ≡ n = omega arith in
-    (all.0, have_more lists arcs router (i + 1) n ys x all.1 at met)
-
-pub all_have_more : (lists : AddressLists) (arcs : List (RadioArc × List QualityStep)) (i n : ℕ) (xs : List RouterSettings) (x : RouterSettings) → HaveAllQualities lists arcs i xs → i + length xs ≡ n
-    → HaveQualities lists arcs n 0 x.interfaces → HaveAllQualities lists arcs i (xs ++ x ∷ [])
-all_have_more lists arcs i n [] x all here met =
-    let at : i ≡ n = omega arith in
-    let says : ℕ → Type 0 = λ k. HaveQualities lists arcs k 0 x.interfaces in
-    (subst says (sym at) met, tt)
-all_have_more lists arcs i n (y ∷ ys) x all here met =
-    let at : (i + 1) + length ys ≡ n = omega arith in
-    (all.0, all_have_more lists arcs (i + 1) n ys x all.1 at met)

@@ -37,7 +37,7 @@ interfaces_say : (ds : List Data) (xs : List StatedInterface) (ys : List Interfa
 interfaces_say ds xs ys same all =
     Each-along InterfaceIs InterfaceSays stated_interface_fields interface_fields (λ t x y h is. subst (AreInterfaceFields t) (sym h) is) ds xs ys same all
 
-router_says : (t : Members) (times : Times) (table : Members) (d : StatedRouter) (r : RouterSettings) → TimesIs t times → settings_parts r ≡ stated_parts times d → RouterIs table d → RouterSays t table r
+pub router_says : (t : Members) (times : Times) (table : Members) (d : StatedRouter) (r : RouterSettings) → TimesIs t times → settings_parts r ≡ stated_parts times d → RouterIs table d → RouterSays t table r
 router_says t times table d r timed same is = record {
   are_fields = subst (AreRouterFields table) (sym (ap (λ (p : RouterParts). p.fields) same)) is.is_head.are_fields;
   are_times = subst (TimesIs t) (sym (ap (λ (p : RouterParts). p.times) same)) timed;

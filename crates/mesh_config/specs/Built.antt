@@ -17,9 +17,9 @@ stated_visits d =
 
 -- the scenario is built from what is stated: all of it as stated, the arcs by numbers, and each interface with its senders
 pub record BuiltFrom (d : StatedScenario) (s : Scenario) : Type 0 where
-  pub same_end : s.end ≡ d.end
-  pub same_seed : s.seed ≡ d.seed
-  pub same_loss_until : s.loss_until ≡ d.loss_until
+  pub same_end : s.end ≡ d.numbers.end
+  pub same_seed : s.seed ≡ d.numbers.seed
+  pub same_loss_until : s.loss_until ≡ d.numbers.loss_until
   pub same_routers : map settings_parts s.routers ≡ map (stated_parts d.times) d.routers
   pub are_joined : joins (map stated_identifiers d.routers) [] (map arc_places d.arcs) ≡ Ok (map ends_of s.arcs)
   pub same_arcs : map arc_fields s.arcs ≡ map stated_arc_fields d.arcs

@@ -1,8 +1,11 @@
 -- Stated routers and settings, part by part.
 use Rattle.std.specs.Prelude.{◌≡◌, ℕ, List, map, true}
+use Rattle.mesh_atoms.specs.declared.admit.SenderQuality.{SenderQuality}
+use Rattle.mesh_atoms.specs.declared.codes.metric.Metric.{Metric}
 use Rattle.mesh_atoms.specs.declared.settings.Attached4.{Attached4}
 use Rattle.mesh_atoms.specs.declared.settings.Interface.{Interface}
 use Rattle.mesh_atoms.specs.declared.settings.RouterSettings.{RouterSettings}
+use Rattle.mesh_atoms.specs.declared.settings.SenderMetric.{SenderMetric}
 use Rattle.mesh_atoms.specs.declared.settings.Times.{Times}
 use Rattle.mesh_atoms.specs.Base.{addr_eq}
 use Rattle.mesh_atoms.specs.Settings.{are_distinct}
@@ -33,6 +36,14 @@ thresholds_of i = (i.admit.accept, i.admit.reject)
 -- those that are stated for each interface of a router
 abbrev pub threshold_pair : Thresholds → ℕ × ℕ
 threshold_pair t = (t.accept, t.reject)
+
+-- of an interface its own metric, and the metrics and the qualities of its senders
+abbrev pub CostFields : Type 0
+CostFields = Metric × (List SenderMetric × List SenderQuality)
+
+-- these of an interface of the settings
+abbrev pub interface_costs : Interface → CostFields
+interface_costs i = (i.metric, (i.senders, i.admit.senders))
 
 -- the parts of a router, but for the senders of its interfaces
 pub record RouterParts : Type 0 where

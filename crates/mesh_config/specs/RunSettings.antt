@@ -1,59 +1,47 @@
 -- What the text says of the router of `run`, and its first refusal.
 use Rattle.std.specs.Prelude.{◌≡◌, ℕ, List, [], ◌∷◌, map, codes, Bool, Some, Ok, Err}
-use Rattle.std.specs.List.{list_all, flat_map}
+use Rattle.std.specs.List.{list_all}
 use Rattle.toml.specs.Data.{Members}
 use Rattle.mesh_atoms.specs.declared.addr.Addr4.{Addr4}
-use Rattle.mesh_atoms.specs.declared.addr.Endpoint.{Endpoint}
-use Rattle.mesh_atoms.specs.declared.codes.metric.Metric.{Metric}
 use Rattle.mesh_atoms.specs.declared.settings.Interface.{Interface}
-use Rattle.mesh_atoms.specs.declared.settings.Port.{Port}
 use Rattle.mesh_atoms.specs.declared.settings.RouterSettings.{RouterSettings}
 use Rattle.mesh_atoms.specs.declared.settings.RunSetup.{RunSetup}
-use Rattle.mesh_atoms.specs.declared.settings.SenderMetric.{SenderMetric}
-use Rattle.mesh_atoms.specs.declared.admit.SenderQuality.{SenderQuality}
+use Rattle.mesh_atoms.specs.declared.settings.Times.{Times}
 use Rattle.mesh_atoms.specs.Base.{addr_eq}
 use Rattle.mesh_atoms.specs.Settings.{are_distinct}
-use Rattle.mesh_config.specs.declared.stated.stated.StatedRouter.{StatedRouter}
+use Rattle.mesh_config.specs.declared.run_tables.stated.Costs.{Costs}
+use Rattle.mesh_config.specs.declared.run_tables.stated.StatedNeighbour.{StatedNeighbour}
 use Rattle.mesh_config.specs.declared.run_tables.stated.StatedRun.{StatedRun}
-use Rattle.mesh_config.specs.declared.run_tables.stated.StatedRunInterface.{StatedRunInterface}
 use Rattle.mesh_config.specs.declared.run_tables.stated.StatedRunRouter.{StatedRunRouter}
 use Rattle.mesh_config.specs.Keys.Faults.{ReadValue, Visits, fault, first, listed}
-use Rattle.mesh_config.specs.Stated.Tables.{Each}
 use Rattle.mesh_config.specs.Keys.Document.{TextSays, text_visits}
-use Rattle.mesh_config.specs.Stated.Times.{TimesIs}
-use Rattle.mesh_config.specs.Stated.Router.{InterfaceFields, stated_interface_fields, AreRouterFields, head_fields, name, addresses, interfaces, attached, AttachedIs}
-use Rattle.mesh_config.specs.Stated.Scenario.{end_moment, sub_times}
 use Rattle.mesh_config.specs.Keys.Values.{table_read}
-use Rattle.mesh_config.specs.RunTables.Run.{address, PortSays, AreCosts, neighbours, router_table, run_table_visits}
-use Rattle.mesh_config.specs.Checks.Checks.{Identifiers, table_identifiers, tables_in, duplicate_unless, duplicates}
-use Rattle.mesh_config.specs.Checks.Compared.{same_sender}
-use Rattle.mesh_config.specs.Fields.{interface_fields, router_fields, thresholds_of, threshold_pair}
-use Rattle.mesh_config.specs.Settings.{Admits}
+use Rattle.mesh_config.specs.Stated.Tables.{Each}
+use Rattle.mesh_config.specs.Stated.Router.{IsMetricRead, interfaces}
+use Rattle.mesh_config.specs.Stated.Scenario.{end_moment, sub_times}
+use Rattle.mesh_config.specs.RunTables.Run.{address, NeighbourIs, QualityIs, PortSays, own_metric_asked, neighbours, router_table, run_table_visits}
+use Rattle.mesh_config.specs.Checks.Checks.{table_identifiers, tables_in, duplicate_unless, duplicates}
+use Rattle.mesh_config.specs.Checks.Compared.{stated_identifiers}
+use Rattle.mesh_config.specs.Fields.{CostFields, interface_costs, settings_parts, stated_parts}
+use Rattle.mesh_config.specs.Settings.{RouterSays}
 
 -- ---- what the tables say
 
--- an interface, with the metrics and the qualities of what it receives
-pub record RunInterfaceSays (table : Members) (interface : Interface) : Type 0 where
-  pub is_name : name table ≡ Ok interface.name
-  pub is_addrs : addresses table ≡ Ok interface.addrs
-  pub are_costs : AreCosts table interface.metric interface.senders interface.admit.senders
-
--- the router, where `times` is the table of times at the top
-pub record RunRouterSays (times table : Members) (router : RouterSettings) : Type 0 where
-  pub are_fields : AreRouterFields table (router_fields router)
-  pub are_times : TimesIs times router.times
-  pub are_interfaces : Each RunInterfaceSays (listed (interfaces table)) router.interfaces
-  pub admits : Admits table router.interfaces
-  pub are_attached : Each AttachedIs (listed (attached table)) router.attached
+-- the metrics of what an interface receives: its own, and those of its neighbours; and the qualities of these
+pub record CostsSay (table : Members) (interface : Interface) : Type 0 where
+  pub is_metric : IsMetricRead (own_metric_asked table) interface.metric
+  pub are_senders : Each NeighbourIs (listed (neighbours table)) interface.senders
+  pub are_qualities : Each QualityIs (listed (neighbours table)) interface.admit.senders
 
 -- the table of the router; the empty one where a fault stands
 abbrev pub the_router : Members → Members
 the_router table = table_read (router_table table)
 
--- the setup is what the top table says: the end in ticks, the router, and the port of each of its interfaces
+-- the setup is what the top table says: the end in ticks, the router, and the costs and the port of each of its interfaces
 pub record SetupSays (table : Members) (setup : RunSetup) : Type 0 where
   pub is_end : end_moment table ≡ Ok setup.end
-  pub is_router : RunRouterSays (sub_times table) (the_router table) setup.router
+  pub is_router : RouterSays (sub_times table) (the_router table) setup.router
+  pub are_costs : Each CostsSay (listed (interfaces (the_router table))) setup.router.interfaces
   pub are_ports : Each PortSays (listed (interfaces (the_router table))) setup.ports
 
 -- ---- the checks after the walk
@@ -90,61 +78,31 @@ run_refusals = text_visits setup_visits
 abbrev pub FirstRunRefusal : List ℕ → ℕ → List ℕ → Type 0
 FirstRunRefusal text number key = first (run_refusals text) ≡ Some (fault number key)
 
--- ---- what the tables state, field by field
+-- ---- what the tables state
 
--- the name and the addresses of a stated interface
-abbrev pub outline_fields : StatedRunInterface → InterfaceFields
-outline_fields i = record { interface_name = i.name; addrs = i.addrs }
+-- what a stated interface receives: its own metric, and the metrics and the qualities of its neighbours
+abbrev pub stated_costs : Costs → CostFields
+stated_costs costs = (costs.metric, (map (λ n. n.cost) costs.neighbours, map (λ n. n.quality) costs.neighbours))
 
--- of an interface all but its port: its name and its addresses, its own metric, and the metrics and qualities of its senders
-abbrev pub RunInterfaceFields : Type 0
-RunInterfaceFields = InterfaceFields × (Metric × (List SenderMetric × List SenderQuality))
+-- two neighbours are taken for the same by their address
+abbrev pub same_neighbour : StatedNeighbour → StatedNeighbour → Bool
+same_neighbour a b = addr_eq a.cost.sender b.cost.sender
 
--- these of a stated interface
-abbrev pub stated_run_interface_fields : StatedRunInterface → RunInterfaceFields
-stated_run_interface_fields i = (outline_fields i, (i.metric, (i.senders, i.qualities)))
+-- no interface has two neighbours of one address
+abbrev pub senders_checked : List Costs → Bool
+senders_checked costs = list_all (λ c. are_distinct same_neighbour c.neighbours) costs
 
--- these of an interface of the settings
-abbrev pub run_interface_fields : Interface → RunInterfaceFields
-run_interface_fields i = (interface_fields i, (i.metric, (i.senders, i.admit.senders)))
+-- the router is made from what is stated, with the times that are stated at the top
+pub record RunRouterFrom (times : Times) (d : StatedRunRouter) (router : RouterSettings) : Type 0 where
+  pub same_parts : settings_parts router ≡ stated_parts times d.router
+  pub same_costs : map interface_costs router.interfaces ≡ map stated_costs d.costs
 
--- where a stated interface receives, and where it sends to
-abbrev pub stated_port : StatedRunInterface → Endpoint × List Endpoint
-stated_port i = (i.local, i.peers)
-
--- where a port receives, and where it sends to
-abbrev pub port_pair : Port → Endpoint × List Endpoint
-port_pair p = (p.local, p.peers)
-
--- the router without what only `run` has
-pub record OutlineOf (stated : StatedRunRouter) (router : StatedRouter) : Type 0 where
-  pub same_fields : head_fields router.head ≡ head_fields stated.head
-  pub same_interfaces : map stated_interface_fields router.interfaces ≡ map outline_fields stated.interfaces
-  pub same_attached : router.attached ≡ stated.attached
-
--- no interface has two senders of one address
-abbrev pub senders_checked : StatedRunRouter → Bool
-senders_checked stated = list_all (λ i. are_distinct same_sender i.senders) stated.interfaces
-
--- the setup is made from what is stated, field by field; each interface has the thresholds that are stated of the router
-pub record SetupFrom (d : StatedRun) (s : RunSetup) : Type 0 where
-  pub same_end : s.end ≡ d.end
-  pub same_fields : router_fields s.router ≡ head_fields d.router.head
-  pub same_times : s.router.times ≡ d.times
-  pub same_interfaces : map run_interface_fields s.router.interfaces ≡ map stated_run_interface_fields d.router.interfaces
-  pub same_thresholds : map thresholds_of s.router.interfaces ≡ map (λ i. threshold_pair d.router.head.thresholds) d.router.interfaces
-  pub same_attached : s.router.attached ≡ d.router.attached
-  pub same_ports : map port_pair s.ports ≡ map stated_port d.router.interfaces
-
--- what of a stated router must not stand twice
-abbrev pub run_identifiers : StatedRunRouter → Identifiers
-run_identifiers router = record {
-  router_name = router.head.name;
-  interface_names = map (λ i. i.name) router.interfaces;
-  addrs = flat_map (λ i. i.addrs) router.interfaces;
-  nets = map (λ a. (a.net.addr, a.net.prefix)) router.attached;
-}
+-- the setup is made from what is stated
+pub record SetupFrom (d : StatedRun) (setup : RunSetup) : Type 0 where
+  pub same_end : setup.end ≡ d.end
+  pub is_router : RunRouterFrom d.times d.router setup.router
+  pub same_ports : setup.ports ≡ d.router.ports
 
 -- the checks of a router, as it is stated
 abbrev pub stated_run_checks : StatedRunRouter → Visits
-stated_run_checks router = first (duplicates (run_identifiers router ∷ [])) ∷ duplicate_unless (senders_checked router) (codes "address") ∷ []
+stated_run_checks d = first (duplicates (stated_identifiers d.router ∷ [])) ∷ duplicate_unless (senders_checked d.costs) (codes "address") ∷ []

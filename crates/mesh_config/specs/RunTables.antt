@@ -1,2 +1,1 @@
-pub mod Neighbours
 pub mod Run

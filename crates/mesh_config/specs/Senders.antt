@@ -46,16 +46,22 @@ senders_to lists arcs router iface = flat_map (sender_by lists router iface) arc
 abbrev pub sender_pair : SenderMetric → Addr4 × Metric
 sender_pair s = (s.sender, s.metric)
 
--- the interfaces of a router from number `iface` on: their senders, and the metric 1 of their own
+-- each value has this, with its number, the first of which is `i`
+abbrev pub EachAt : {X : Type 0} → (ℕ → X → Type 0) → ℕ → List X → Type 0
+EachAt Has i [] = Unit {0}
+EachAt Has i (x ∷ xs) = Has i x × EachAt Has (i + 1) xs
+
+-- the interface of that number has its senders, and the metric 1 of its own
+abbrev pub HasSenders : AddressLists → List RadioArc → ℕ → ℕ → Interface → Type 0
+HasSenders lists arcs router iface x = (map sender_pair x.senders ≡ senders_to lists arcs router iface) × (x.metric.code ≡ 0)
+
+-- the interfaces of a router from a number on have theirs
 abbrev pub HaveSenders : AddressLists → List RadioArc → ℕ → ℕ → List Interface → Type 0
-HaveSenders lists arcs router iface [] = Unit {0}
-HaveSenders lists arcs router iface (x ∷ xs) =
-    ((map sender_pair x.senders ≡ senders_to lists arcs router iface) × (x.metric.code ≡ 0)) × HaveSenders lists arcs router (iface + 1) xs
+HaveSenders lists arcs router iface xs = EachAt (HasSenders lists arcs router) iface xs
 
 -- the routers from number `router` on
 abbrev pub HaveAllSenders : AddressLists → List RadioArc → ℕ → List RouterSettings → Type 0
-HaveAllSenders lists arcs router [] = Unit {0}
-HaveAllSenders lists arcs router (r ∷ rs) = HaveSenders lists arcs router 0 r.interfaces × HaveAllSenders lists arcs (router + 1) rs
+HaveAllSenders lists arcs router rs = EachAt (λ n r. HaveSenders lists arcs n 0 r.interfaces) router rs
 
 -- ---- the qualities of senders
 
@@ -79,16 +85,17 @@ quality_by lists router iface e =
 abbrev pub qualities_to : AddressLists → List (RadioArc × List QualityStep) → ℕ → ℕ → List (Addr4 × List QualityStep)
 qualities_to lists arcs router iface = flat_map (quality_by lists router iface) arcs
 
--- the interfaces of a router from number `iface` on: the qualities of their senders
+-- the interface of that number has the qualities of its senders
+abbrev pub HasQualities : AddressLists → List (RadioArc × List QualityStep) → ℕ → ℕ → Interface → Type 0
+HasQualities lists arcs router iface x = map quality_pair x.admit.senders ≡ qualities_to lists arcs router iface
+
+-- the interfaces of a router from a number on have theirs
 abbrev pub HaveQualities : AddressLists → List (RadioArc × List QualityStep) → ℕ → ℕ → List Interface → Type 0
-HaveQualities lists arcs router iface [] = Unit {0}
-HaveQualities lists arcs router iface (x ∷ xs) =
-    (map quality_pair x.admit.senders ≡ qualities_to lists arcs router iface) × HaveQualities lists arcs router (iface + 1) xs
+HaveQualities lists arcs router iface xs = EachAt (HasQualities lists arcs router) iface xs
 
 -- the routers from number `router` on
 abbrev pub HaveAllQualities : AddressLists → List (RadioArc × List QualityStep) → ℕ → List RouterSettings → Type 0
-HaveAllQualities lists arcs router [] = Unit {0}
-HaveAllQualities lists arcs router (r ∷ rs) = HaveQualities lists arcs router 0 r.interfaces × HaveAllQualities lists arcs (router + 1) rs
+HaveAllQualities lists arcs router rs = EachAt (λ n r. HaveQualities lists arcs n 0 r.interfaces) router rs
 
 -- the steps of stated arcs
 abbrev pub stated_steps : List StatedArc → List (List QualityStep)

@@ -1,15 +1,19 @@
 //! Settings out of what their tables state.
-ghost use Rattle.std.specs.Prelude.{◌≡◌, ◌≤◌, ◌<◌, None, length, map, IfOk};
+ghost use Rattle.std.specs.Prelude.{◌≡◌, ◌≤◌, None, length, map, IfOk, IsTrue};
+ghost use Rattle.mesh_atoms.specs.Base.{addr_eq};
+ghost use Rattle.mesh_atoms.specs.Settings.{are_distinct};
 ghost use Rattle.mesh_config.specs.Keys.Faults.{first};
 ghost use Rattle.mesh_config.specs.Checks.Compared.{stated_lists, stated_duplicates};
-ghost use Rattle.mesh_config.specs.Fields.{interface_fields, thresholds_of, threshold_pair, router_fields, settings_parts, stated_parts, IsClear};
-ghost use Rattle.mesh_config.specs.Stated.Router.{stated_interface_fields, head_fields};
+ghost use Rattle.mesh_config.specs.Fields.{interface_fields, thresholds_of, threshold_pair, settings_parts, stated_parts, IsClear};
+ghost use Rattle.mesh_config.specs.Stated.Router.{stated_interface_fields};
 ghost use Rattle.mesh_config.specs.Senders.{HaveNoDuplicates, senders_to, sender_pair, HaveSenders, HaveAllSenders, stated_steps, with_steps, qualities_to, HaveQualities, HaveAllQualities};
 ghost use Rattle.mesh_config.specs.Stated.Steps.{quality_pair};
 
 use crate::senders::{qualities_to, senders_to};
 use crate::stated::{StatedArc, StatedInterface, StatedRouter, Thresholds};
-use mesh_atoms::{Admit, Interface, Metric, RadioArc, RouterSettings, Seq, Times};
+use mesh_atoms::{
+    Admit, Interface, Metric, RadioArc, RouterSettings, SenderMetric, SenderQuality, Seq, Times,
+};
 use std::alloc::{AllocError, Global};
 
 // The network that a scenario states: its routers, its arcs by the numbers of their ends, and the tables of these arcs, one by one.
@@ -18,6 +22,38 @@ struct StatedNetwork<'a> {
     routers: &'a [StatedRouter],
     arcs: &'a [RadioArc],
     stated_arcs: &'a [StatedArc],
+}
+
+/// The interface that is stated, with these thresholds, with this metric of its own, and with these senders.
+pub fn interface_from(
+    stated: &StatedInterface,
+    thresholds: Thresholds,
+    metric: Metric,
+    senders: Seq<SenderMetric>,
+    qualities: Seq<SenderQuality>,
+) -> Result<Interface, AllocError>
+    requires few { length senders ≤ 4096 }
+    requires distinct { IsTrue (are_distinct addr_eq (map (λ s. s.sender) senders)) }
+    requires same { map (λ q. q.sender) qualities ≡ map (λ s. s.sender) senders }
+    ensures fields { IfOk result (λ i. interface_fields i ≡ stated_interface_fields stated.now) }
+    ensures thresholds { IfOk result (λ i. thresholds_of i ≡ threshold_pair thresholds) }
+    ensures metric { IfOk result (λ i. i.metric ≡ metric) }
+    ensures senders { IfOk result (λ i. i.senders ≡ senders) }
+    ensures qualities { IfOk result (λ i. i.admit.senders ≡ qualities) }
+{
+    let name = stated.name.copy()?;
+    let addrs = stated.addrs.copy()?;
+    Ok(Interface {
+        name,
+        addrs,
+        metric,
+        senders,
+        admit: Admit {
+            accept: thresholds.accept,
+            reject: thresholds.reject,
+            senders: qualities,
+        },
+    })
 }
 
 // An interface, with its senders; its own metric is 1.
@@ -47,19 +83,7 @@ fn make_interface(
         router,
         iface,
     )?;
-    let name = stated.name.copy()?;
-    let addrs = stated.addrs.copy()?;
-    Ok(Interface {
-        name,
-        addrs,
-        metric: Metric { code: 0 },
-        senders,
-        admit: Admit {
-            accept: thresholds.accept,
-            reject: thresholds.reject,
-            senders: qualities,
-        },
-    })
+    interface_from(stated, thresholds, Metric { code: 0 }, senders, qualities)
 }
 
 fn make_interfaces(
@@ -84,31 +108,30 @@ fn make_interfaces(
     Ok(all)
 }
 
-/// The settings of a router of these interfaces, which is stated so but for them.
+/// The settings of the router that is stated, with the interfaces that are made from the stated ones.
 pub fn router_from(
-    outline: &StatedRouter,
+    stated: &StatedRouter,
     times: Times,
     interfaces: Seq<Interface>,
 ) -> Result<RouterSettings, AllocError>
-    requires clear { IsClear outline.now }
-    requires interfaces { map interface_fields interfaces ≡ map stated_interface_fields outline.now.interfaces }
-    ensures fields { IfOk result (λ r. router_fields r ≡ head_fields outline.now.head) }
-    ensures times { IfOk result (λ r. r.times ≡ times) }
+    requires clear { IsClear stated.now }
+    requires interfaces { map interface_fields interfaces ≡ map stated_interface_fields stated.now.interfaces }
+    requires thresholds { map thresholds_of interfaces ≡ map (λ i. threshold_pair stated.now.head.thresholds) stated.now.interfaces }
+    ensures parts { IfOk result (λ r. settings_parts r ≡ stated_parts times stated.now) }
     ensures interfaces { IfOk result (λ r. r.interfaces ≡ interfaces) }
-    ensures attached { IfOk result (λ r. r.attached ≡ outline.now.attached) }
 {
-    let name = outline.head.name.copy()?;
-    let attached = outline.attached.copy()?;
-    let near_hold = outline.head.near_hold.copy()?;
+    let name = stated.head.name.copy()?;
+    let attached = stated.attached.copy()?;
+    let near_hold = stated.head.near_hold.copy()?;
     Ok(RouterSettings {
         name,
-        willing: outline.head.willing,
-        hello_at: outline.head.hello_at,
-        tc_at: outline.head.tc_at,
+        willing: stated.head.willing,
+        hello_at: stated.head.hello_at,
+        tc_at: stated.head.tc_at,
         times,
         interfaces,
         attached,
-        tc_rows: outline.head.tc_rows,
+        tc_rows: stated.head.tc_rows,
         near_hold,
     })
 }
@@ -135,8 +158,7 @@ fn make_router(
         router,
         stated.interfaces.as_slice(),
     )?;
-    let settings = router_from(stated, times, interfaces)?;
-    Ok(settings)
+    router_from(stated, times, interfaces)
 }
 
 /// The settings of all routers, where this is stated of the arcs, one by one; an arc of which nothing is stated any more has no

@@ -6,11 +6,9 @@ mod checks;
 mod keys;
 mod reading;
 mod run_tables;
-mod running;
 mod senders;
 mod setup;
 mod stated;
-mod text;
 
 pub use build::make_routers;
 pub use checks::{Compared, all_joined, are_distinct, no_duplicates, refuse_duplicates};
@@ -19,11 +17,12 @@ pub use keys::{
     endpoint_at, endpoints_at, found, known_keys, name_at, refusal, refused, string_in, table_at,
     table_or, ticks, whole_at, whole_or,
 };
-pub use reading::scenario_of;
-pub use run_tables::{StatedRun, StatedRunInterface, StatedRunRouter, stated_run};
-pub use running::router_of;
+pub use reading::{router_of, scenario_of};
+pub use run_tables::{
+    Costs, StatedNeighbour, StatedRun, StatedRunInterface, StatedRunRouter, stated_run,
+};
 pub use stated::{
-    FromTable, Place, RouterHead, StatedArc, StatedInterface, StatedRouter, StatedScenario,
-    Thresholds, all_tables, attached_of, end_moment, head, interface_said, metric_at,
-    stated_scenario, steps_of, times_of,
+    ArcNumbers, FromTable, Place, RouterHead, ScenarioNumbers, StatedArc, StatedEnds,
+    StatedInterface, StatedRouter, StatedScenario, Thresholds, all_tables, attached_of, end_moment,
+    head, interface_said, metric_at, stated_scenario, steps_of, times_of,
 };

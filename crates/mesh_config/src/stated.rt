@@ -12,7 +12,8 @@ mod times;
 pub use crate::stated::router::{attached_of, head, interface_said, metric_at};
 pub use crate::stated::scenario::{end_moment, stated_scenario, times_of};
 pub use crate::stated::stated::{
-    Place, RouterHead, StatedArc, StatedInterface, StatedRouter, StatedScenario, Thresholds,
+    ArcNumbers, Place, RouterHead, ScenarioNumbers, StatedArc, StatedEnds, StatedInterface,
+    StatedRouter, StatedScenario, Thresholds,
 };
 pub use crate::stated::steps::steps_of;
-pub use crate::stated::tables::{FromTable, all_tables};
+pub use crate::stated::tables::{FromTable, all_tables, element};

@@ -1,7 +1,6 @@
 -- Arcs joined one after the other.
-use Rattle.std.proofs.Common.{◌≡◌, List, [], ◌∷◌, ◌++◌, Ok, Err, refl, append_assoc}
+use Rattle.std.proofs.Common.{List, ◌++◌, Ok, Err}
 use Rattle.mesh_config.specs.Keys.Faults.{ReadValue}
-use Rattle.mesh_config.specs.Checks.Checks.{◌>>?◌}
 
 -- what was read, in front of what is still to be
 abbrev pub after_front : {A : Type 0} → List A → ReadValue (List A) → ReadValue (List A)

@@ -4,7 +4,6 @@ use Rattle.std.specs.List.{list_all, list_any, flat_map, slice_get}
 use Rattle.mesh_atoms.specs.Literals.{◌>>=◌}
 use Rattle.mesh_atoms.specs.declared.addr.Addr4.{Addr4}
 use Rattle.mesh_atoms.specs.declared.settings.Attached4.{Attached4}
-use Rattle.mesh_atoms.specs.declared.settings.SenderMetric.{SenderMetric}
 use Rattle.mesh_atoms.specs.Base.{addr_eq, net_eq}
 use Rattle.mesh_atoms.specs.Settings.{name_eq, are_distinct, is_host, Ends}
 use Rattle.mesh_config.specs.declared.stated.stated.StatedInterface.{StatedInterface}
@@ -26,10 +25,6 @@ same_interface a b = name_eq a.name b.name
 -- attached networks by their address and prefix, whatever their metric and distance
 abbrev pub same_attached : Attached4 → Attached4 → Bool
 same_attached a b = net_eq a.net b.net
-
--- senders by their address
-abbrev pub same_sender : SenderMetric → SenderMetric → Bool
-same_sender a b = addr_eq a.sender b.sender
 
 -- all addresses of a stated router, in order of its interfaces
 abbrev pub router_addrs : StatedRouter → List Addr4
@@ -64,7 +59,7 @@ stated_duplicates routers =
 
 -- the places that a stated arc names, from which and to which it leads
 abbrev pub arc_places : StatedArc → NamedInterface × NamedInterface
-arc_places arc = ((arc.from.router, arc.from.iface), (arc.to.router, arc.to.iface))
+arc_places arc = ((arc.ends.from.router, arc.ends.from.iface), (arc.ends.to.router, arc.ends.to.iface))
 
 -- what an arc of a scenario joins
 abbrev pub ends_of : RadioArc → Ends

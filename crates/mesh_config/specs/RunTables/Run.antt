@@ -1,11 +1,12 @@
 -- The tables of `run`: neighbours, interfaces with their ports, the router, and the top.
-use Rattle.std.specs.Prelude.{◌≡◌, ℕ, List, [], ◌∷◌, codes, map, Ok}
+use Rattle.std.specs.Prelude.{◌≡◌, ℕ, List, [], ◌∷◌, ◌++◌, length, codes, map, Ok}
 use Rattle.toml.specs.Data.{Data, Members, as_table}
 use Rattle.mesh_atoms.specs.declared.addr.Addr4.{Addr4}
-use Rattle.mesh_atoms.specs.declared.codes.metric.Metric.{Metric}
 use Rattle.mesh_atoms.specs.declared.settings.Port.{Port}
 use Rattle.mesh_atoms.specs.declared.settings.SenderMetric.{SenderMetric}
 use Rattle.mesh_atoms.specs.declared.admit.SenderQuality.{SenderQuality}
+use Rattle.mesh_config.specs.declared.run_tables.stated.Costs.{Costs}
+use Rattle.mesh_config.specs.declared.run_tables.stated.RunInterfaces.{RunInterfaces}
 use Rattle.mesh_config.specs.declared.run_tables.stated.StatedNeighbour.{StatedNeighbour}
 use Rattle.mesh_config.specs.declared.run_tables.stated.StatedRunInterface.{StatedRunInterface}
 use Rattle.mesh_config.specs.declared.run_tables.stated.StatedRunRouter.{StatedRunRouter}
@@ -17,7 +18,7 @@ use Rattle.mesh_config.specs.Keys.Ports.{port_of}
 use Rattle.mesh_config.specs.Stated.Tables.{tables_visits, Each}
 use Rattle.mesh_config.specs.Stated.Steps.{steps_visits, StepsAre}
 use Rattle.mesh_config.specs.Stated.Times.{TimesIs}
-use Rattle.mesh_config.specs.Stated.Router.{name, addresses, named_visits, metric_asked, IsMetricRead, head_visits, HeadIs, interfaces, networks_visits, attached, AttachedIs}
+use Rattle.mesh_config.specs.Stated.Router.{named_visits, InterfaceIs, metric_asked, IsMetricRead, head_visits, interfaces, networks_visits, RouterIs}
 use Rattle.mesh_config.specs.Stated.Scenario.{end_moment, times_part, sub_times}
 use Rattle.mesh_config.specs.Keys.Values.{table_read}
 
@@ -48,8 +49,8 @@ pub record QualityIs (table : Members) (quality : SenderQuality) : Type 0 where
 
 -- the stated neighbour is what its table says
 pub record StatedNeighbourIs (table : Members) (neighbour : StatedNeighbour) : Type 0 where
-  pub is_sender : NeighbourIs table neighbour.cost
-  pub are_steps : StepsAre table neighbour.steps
+  pub is_cost : NeighbourIs table neighbour.cost
+  pub is_quality : QualityIs table neighbour.quality
 
 -- ---- an interface with its port
 
@@ -96,19 +97,34 @@ pub record PortSays (table : Members) (port : Port) : Type 0 where
   pub is_local : local table ≡ Ok (port_of port.local)
   pub are_peers : peers table ≡ Ok (map port_of port.peers)
 
--- the metrics of what an interface receives: its own, and those of its neighbours; and the qualities of these
-pub record AreCosts (table : Members) (metric : Metric) (senders : List SenderMetric) (qualities : List SenderQuality) : Type 0 where
-  pub is_metric : IsMetricRead (own_metric_asked table) metric
-  pub are_senders : Each NeighbourIs (listed (neighbours table)) senders
-  pub are_qualities : Each QualityIs (listed (neighbours table)) qualities
+-- the stated costs are what the table of an interface says
+pub record CostsAre (table : Members) (costs : Costs) : Type 0 where
+  pub is_metric : IsMetricRead (own_metric_asked table) costs.metric
+  pub are_neighbours : Each StatedNeighbourIs (listed (neighbours table)) costs.neighbours
 
 -- the stated interface is what its table says
-pub record RunInterfaceIs (table : Members) (interface : StatedRunInterface) : Type 0 where
-  pub is_name : name table ≡ Ok interface.name
-  pub is_addrs : addresses table ≡ Ok interface.addrs
-  pub is_local : local table ≡ Ok (port_of interface.local)
-  pub are_peers : peers table ≡ Ok (map port_of interface.peers)
-  pub are_costs : AreCosts table interface.metric interface.senders interface.qualities
+pub record RunInterfaceIs (table : Members) (stated : StatedRunInterface) : Type 0 where
+  pub is_interface : InterfaceIs table stated.interface
+  pub is_port : PortSays table stated.port
+  pub are_costs : CostsAre table stated.costs
+
+-- the stated interfaces are what these tables say, one after the other
+pub record RunInterfacesAre (tables : List Data) (stated : RunInterfaces) : Type 0 where
+  pub are_interfaces : Each InterfaceIs tables stated.interfaces
+  pub are_ports : Each PortSays tables stated.ports
+  pub are_costs : Each CostsAre tables stated.costs
+
+-- so many interfaces are stated, each with its port and its costs
+pub record HasOfEach (count : ℕ) (stated : RunInterfaces) : Type 0 where
+  pub interfaces : length stated.interfaces ≡ count
+  pub ports : length stated.ports ≡ count
+  pub costs : length stated.costs ≡ count
+
+-- an interface is stated behind those before
+pub record HasOneMore (old new : RunInterfaces) (one : StatedRunInterface) : Type 0 where
+  pub interfaces : new.interfaces ≡ old.interfaces ++ one.interface ∷ []
+  pub ports : new.ports ≡ old.ports ++ one.port ∷ []
+  pub costs : new.costs ≡ old.costs ++ one.costs ∷ []
 
 -- ---- the router and the top
 
@@ -120,11 +136,11 @@ run_interfaces_visits table = visit (interfaces table) ∷ tables_visits run_int
 abbrev pub run_router_visits : Members → Visits
 run_router_visits table = first (head_visits table) ∷ first (run_interfaces_visits table) ∷ first (networks_visits table) ∷ []
 
--- the stated router is what its table says, with each interface and each attached network as its own table says it
-pub record RunRouterIs (table : Members) (router : StatedRunRouter) : Type 0 where
-  pub is_head : HeadIs table router.head
-  pub are_interfaces : Each RunInterfaceIs (listed (interfaces table)) router.interfaces
-  pub are_attached : Each AttachedIs (listed (attached table)) router.attached
+-- the stated router is what its table says, with the port and the costs of each interface
+pub record RunRouterIs (table : Members) (stated : StatedRunRouter) : Type 0 where
+  pub is_router : RouterIs table stated.router
+  pub are_ports : Each PortSays (listed (interfaces table)) stated.ports
+  pub are_costs : Each CostsAre (listed (interfaces table)) stated.costs
 
 -- the table of the router, which is one alone; it must stand
 abbrev pub router_table : Members → ReadValue Members

@@ -2,8 +2,9 @@
 use Rattle.std.specs.Prelude.{◌≡◌, ℕ, List, [], ◌∷◌, codes, Option, Some, None, Ok, option_map}
 use Rattle.toml.specs.Data.{Data, Members, no_members, as_table}
 use Rattle.mesh_config.specs.declared.stated.stated.ArcNumbers.{ArcNumbers}
-use Rattle.mesh_config.specs.declared.stated.stated.Place.{Place}
+use Rattle.mesh_config.specs.declared.stated.stated.ScenarioNumbers.{ScenarioNumbers}
 use Rattle.mesh_config.specs.declared.stated.stated.StatedArc.{StatedArc}
+use Rattle.mesh_config.specs.declared.stated.stated.StatedEnds.{StatedEnds}
 use Rattle.mesh_config.specs.declared.stated.stated.StatedScenario.{StatedScenario}
 use Rattle.mesh_atoms.specs.declared.codes.metric.Metric.{Metric}
 use Rattle.mesh_config.specs.Keys.Faults.{ReadValue, Visits, visit, first, listed, then_turned}
@@ -63,16 +64,16 @@ arc_number_fields numbers = record { metric = numbers.metric; loss = numbers.los
 
 -- these fields of a stated arc
 abbrev pub stated_arc_fields : StatedArc → ArcFields
-stated_arc_fields arc = record { metric = arc.metric; loss = arc.loss; delay = arc.delay }
+stated_arc_fields arc = arc_number_fields arc.numbers
 
--- the table names `from` as the interface that sends and `to` as the one that receives
-pub record AreEnds (table : Members) (from to : Place) : Type 0 where
-  pub is_from : place (codes "from") table ≡ Ok (from.router, from.iface)
-  pub is_to : place (codes "to") table ≡ Ok (to.router, to.iface)
+-- the table names the first end as the interface that sends and the second as the one that receives
+pub record AreEnds (table : Members) (ends : StatedEnds) : Type 0 where
+  pub is_from : place (codes "from") table ≡ Ok (ends.from.router, ends.from.iface)
+  pub is_to : place (codes "to") table ≡ Ok (ends.to.router, ends.to.iface)
 
 -- the stated arc is what its table says
 pub record ArcIs (table : Members) (arc : StatedArc) : Type 0 where
-  pub are_ends : AreEnds table arc.from arc.to
+  pub are_ends : AreEnds table arc.ends
   pub are_fields : AreArcFields table (stated_arc_fields arc)
   pub are_steps : StepsAre table arc.steps
 
@@ -130,11 +131,11 @@ times_part table = visit (times_table table) ∷ first (times_visits (sub_times 
 abbrev pub top_visits : Members → Visits
 top_visits table = visit (end_moment table) ∷ visit (seed table) ∷ visit (loss_until table) ∷ []
 
--- the top table says this end and this end of losses, both in ticks, and this seed
-pub record AreTopNumbers (table : Members) (end_read seed_read : ℕ) (loss_until_read : Option ℕ) : Type 0 where
-  pub is_end : end_moment table ≡ Ok end_read
-  pub is_seed : seed table ≡ Ok seed_read
-  pub is_loss_until : loss_until table ≡ Ok loss_until_read
+-- the top table says these numbers: the end and the end of losses, both in ticks, and the seed
+pub record AreTopNumbers (table : Members) (numbers : ScenarioNumbers) : Type 0 where
+  pub is_end : end_moment table ≡ Ok numbers.end
+  pub is_seed : seed table ≡ Ok numbers.seed
+  pub is_loss_until : loss_until table ≡ Ok numbers.loss_until
 
 -- the top table is visited: its least unknown key, its numbers, the times, the routers and the arcs
 abbrev pub scenario_table_visits : Members → Visits
@@ -144,7 +145,7 @@ scenario_table_visits table =
 
 -- the stated scenario is what the top table and the tables in it say
 pub record ScenarioIs (table : Members) (scenario : StatedScenario) : Type 0 where
-  pub are_numbers : AreTopNumbers table scenario.end scenario.seed scenario.loss_until
+  pub are_numbers : AreTopNumbers table scenario.numbers
   pub are_times : TimesIs (sub_times table) scenario.times
   pub are_routers : Each RouterIs (listed (routers table)) scenario.routers
   pub are_arcs : Each ArcIs (listed (arcs table)) scenario.arcs

@@ -4,7 +4,7 @@ ghost use Rattle.std.specs.List.{list_any};
 ghost use Rattle.mesh_atoms.specs.Settings.{are_distinct, name_eq};
 
 use crate::stated::{StatedInterface, StatedRouter};
-use mesh_atoms::{Addr4, Attached4, Bytes, SenderMetric};
+use mesh_atoms::{Addr4, Attached4, Bytes};
 
 /// A value that may be the same as another one by some part of it.
 pub trait Compared {
@@ -82,15 +82,5 @@ impl Compared for Attached4 {
 
     fn is_same(&self, other: &Attached4) -> bool {
         self.net.addr.0 == other.net.addr.0 && self.net.prefix == other.net.prefix
-    }
-}
-
-impl Compared for SenderMetric {
-    ghost use Rattle.mesh_config.specs.Checks.Compared.{same_sender};
-
-    ghost same = { same_sender };
-
-    fn is_same(&self, other: &SenderMetric) -> bool {
-        self.sender.0 == other.sender.0
     }
 }

@@ -90,8 +90,8 @@ fn joined(
     ensures read { GivesSetting ends_of result (joined (map stated_identifiers routers.now) (map ends_of earlier.now) (arc_places arc.now)) }
     ensures says { IfOk result (λ a. arc_fields a ≡ stated_arc_fields arc.now) }
 {
-    let from = known_place(alloc, routers, &arc.from, "from")?;
-    let to = known_place(alloc, routers, &arc.to, "to")?;
+    let from = known_place(alloc, routers, &arc.ends.from, "from")?;
+    let to = known_place(alloc, routers, &arc.ends.to, "to")?;
     if from.0 == to.0 {
         return Err(refused(alloc, BAD_VALUE, "to"));
     }
@@ -103,9 +103,9 @@ fn joined(
         from_iface: from.1,
         to: to.0,
         to_iface: to.1,
-        metric: arc.metric,
-        loss: arc.loss,
-        delay: arc.delay,
+        metric: arc.numbers.metric,
+        loss: arc.numbers.loss,
+        delay: arc.numbers.delay,
     })
 }
 

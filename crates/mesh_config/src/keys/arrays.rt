@@ -3,7 +3,7 @@ ghost use Rattle.std.specs.Prelude.{◌≡◌, ◌≤◌, ◌<◌, map, option_m
 ghost use Rattle.std.specs.List.{list_all};
 ghost use Rattle.toml.specs.View.{table_view, view};
 ghost use Rattle.mesh_config.specs.Keys.Faults.{GivesSetting, ValueOrFault, first};
-ghost use Rattle.mesh_config.specs.Keys.Values.{elements, array, array_or_none, each_turned, all_of, text, required};
+ghost use Rattle.mesh_config.specs.Keys.Values.{elements, turned, counted, array, array_or_none, each_turned, text, required};
 ghost use Rattle.mesh_atoms.specs.Literals.{address_of, endpoint_of};
 ghost use Rattle.mesh_config.specs.Keys.Ports.{port_of};
 ghost use Rattle.mesh_atoms.specs.Settings.{IsCount, is_addressed};
@@ -25,6 +25,31 @@ fn elements_in(value: &Value) -> Option<&[Value]>
     }
 }
 
+// The elements of the array that stands at a key, from `low` to `high`.
+fn elements_within<'a>(
+    alloc: Global,
+    key: &str,
+    value: &'a Value,
+    low: usize,
+    high: usize,
+) -> Result<&'a [Value], ConfigFault>
+    ensures read { GivesSetting (λ vs. map view vs.now) result (counted low high key.now (turned key.now (elements (view value.now)))) }
+    ensures size { IfOk result (λ vs. IsCount low high (length vs.now)) }
+{
+    match elements_in(value) {
+        Some(values) => {
+            if high < values.len() {
+                Err(refused(alloc, TOO_MANY, key))
+            } else if values.len() < low {
+                Err(refused(alloc, BAD_VALUE, key))
+            } else {
+                Ok(values)
+            }
+        }
+        None => Err(refused(alloc, BAD_VALUE, key)),
+    }
+}
+
 /// The elements of the array at a key. Refused with MISSING where it is absent, with TOO_MANY above `high`, with BAD_VALUE below
 /// `low` or where the value is no array.
 pub fn array_at<'a>(
@@ -39,18 +64,7 @@ pub fn array_at<'a>(
 {
     match found(table, key) {
         None => Err(refused(alloc, MISSING, key)),
-        Some(value) => match elements_in(value) {
-            Some(values) => {
-                if high < values.len() {
-                    Err(refused(alloc, TOO_MANY, key))
-                } else if values.len() < low {
-                    Err(refused(alloc, BAD_VALUE, key))
-                } else {
-                    Ok(values)
-                }
-            }
-            None => Err(refused(alloc, BAD_VALUE, key)),
-        },
+        Some(value) => elements_within(alloc, key, value, low, high),
     }
 }
 
@@ -67,16 +81,7 @@ pub fn array_or_none<'a>(
 {
     match found(table, key) {
         None => Ok(&[]),
-        Some(value) => match elements_in(value) {
-            Some(values) => {
-                if high < values.len() {
-                    Err(refused(alloc, TOO_MANY, key))
-                } else {
-                    Ok(values)
-                }
-            }
-            None => Err(refused(alloc, BAD_VALUE, key)),
-        },
+        Some(value) => elements_within(alloc, key, value, 0, high),
     }
 }
 

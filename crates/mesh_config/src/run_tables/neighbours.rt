@@ -3,8 +3,6 @@ ghost use Rattle.std.specs.Prelude.{◌≡◌, ◌≤◌, length, map, IfOk};
 ghost use Rattle.toml.specs.View.{table_view};
 ghost use Rattle.mesh_config.specs.Keys.Faults.{ValueOrFault, first, listed};
 ghost use Rattle.mesh_config.specs.Stated.Tables.{Each};
-ghost use Rattle.mesh_config.specs.Stated.Steps.{quality_pair};
-ghost use Rattle.mesh_config.specs.RunTables.Neighbours.{stated_quality};
 ghost use Rattle.mesh_config.specs.RunTables.Run.{neighbours, neighbours_visits, StatedNeighbourIs};
 
 use crate::keys::{ConfigFault, address_at, array_or_none, known_keys};
@@ -25,9 +23,11 @@ impl FromTable for StatedNeighbour {
         known_keys(alloc, table, &["address", "metric", "quality"])?;
         let sender = address_at(alloc, table, "address")?;
         let metric = metric_at(alloc, table)?;
-        let cost = SenderMetric { sender, metric };
         match steps_of(alloc, table) {
-            Ok(steps) => Ok(StatedNeighbour { cost, steps }),
+            Ok(steps) => Ok(StatedNeighbour {
+                cost: SenderMetric { sender, metric },
+                quality: SenderQuality { sender, steps },
+            }),
             Err(e) => Err(e),
         }
     }
@@ -61,15 +61,11 @@ pub fn qualities_of(
     alloc: Global,
     neighbours: &[StatedNeighbour],
 ) -> Result<Seq<SenderQuality>, AllocError>
-    ensures { IfOk result (λ qualities. map quality_pair qualities ≡ map stated_quality neighbours.now) }
+    ensures { IfOk result (λ qualities. qualities ≡ map (λ n. n.quality) neighbours.now) }
 {
     let mut qualities = Seq::new(alloc);
     for neighbour in neighbours {
-        let steps = neighbour.steps.copy()?;
-        qualities.push(SenderQuality {
-            sender: neighbour.cost.sender,
-            steps,
-        })?;
+        qualities.push(neighbour.quality.copy()?)?;
     }
     Ok(qualities)
 }

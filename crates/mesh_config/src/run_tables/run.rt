@@ -1,25 +1,27 @@
 //! The tables of `run`: interfaces with their ports, the router, and the top.
-ghost use Rattle.std.specs.Prelude.{◌≤◌, ◌≡◌, length, map, IfOk};
+ghost use Rattle.std.specs.Prelude.{◌≡◌, codes, length, map, IfOk, OnOk};
 ghost use Rattle.toml.specs.View.{table_view, view};
 ghost use Rattle.mesh_atoms.specs.Settings.{IsCount};
-ghost use Rattle.mesh_config.specs.Keys.Faults.{GivesSetting, ValueOrFault, first, visit, listed};
+ghost use Rattle.mesh_config.specs.Keys.Faults.{ValueOrFault, first, visit, listed};
 ghost use Rattle.mesh_config.specs.Stated.Router.{IsMetricRead, interfaces};
 ghost use Rattle.mesh_config.specs.Keys.Values.{table_read};
-ghost use Rattle.mesh_config.specs.RunTables.Run.{own_metric_asked, PortSays, port_visits, AreCosts, cost_visits, run_interfaces_visits, RunInterfaceIs, run_router_visits, RunRouterIs, router_table, router_part, run_table_visits, RunIs};
-ghost use Rattle.mesh_config.specs.Stated.Tables.{Each};
+ghost use Rattle.mesh_config.specs.RunTables.Run.{own_metric_asked, PortSays, port_visits, CostsAre, cost_visits, run_interface_visits, run_interfaces_visits, HasOneMore, HasOfEach, RunInterfacesAre, run_router_visits, RunRouterIs, router_table, router_part, run_table_visits, RunIs};
+ghost use Rattle.mesh_config.specs.Stated.Tables.{tables_visits};
 
 use crate::keys::refusal::BAD_VALUE;
 use crate::keys::{
     ConfigFault, array_at, endpoint_at, endpoints_at, known_keys, refused, table_at, whole_or,
 };
-use crate::run_tables::neighbours::{neighbours_of, qualities_of, senders_of};
-use crate::run_tables::stated::{Costs, StatedRun, StatedRunInterface, StatedRunRouter};
+use crate::run_tables::neighbours::neighbours_of;
+use crate::run_tables::stated::{
+    Costs, RunInterfaces, StatedRun, StatedRunInterface, StatedRunRouter,
+};
 use crate::stated::{
-    FromTable, all_tables, attached_of, end_moment, head, interface_said, times_of,
+    FromTable, StatedRouter, attached_of, element, end_moment, head, interface_said, times_of,
 };
 use mesh_atoms::{Metric, Port, Seq};
-use std::alloc::Global;
-use toml::Table;
+use std::alloc::{AllocError, Global};
+use toml::{Table, Value};
 
 // The least metric that is at least the whole number at `metric`, or 1.
 fn own_metric(alloc: Global, table: &Table) -> Result<Metric, ConfigFault>
@@ -44,17 +46,13 @@ fn port_said(alloc: Global, table: &Table) -> Result<Port, ConfigFault>
 }
 
 fn costs_said(alloc: Global, table: &Table) -> Result<Costs, ConfigFault>
-    ensures { ValueOrFault (λ c. AreCosts (table_view table.now) c.metric c.senders c.qualities) (first (cost_visits (table_view table.now))) result }
+    ensures { ValueOrFault (CostsAre (table_view table.now)) (first (cost_visits (table_view table.now))) result }
 {
     let metric = own_metric(alloc, table)?;
-    let neighbours = neighbours_of(alloc, table)?;
-    let senders = senders_of(alloc, neighbours.as_slice())?;
-    let qualities = qualities_of(alloc, neighbours.as_slice())?;
-    Ok(Costs {
-        metric,
-        senders,
-        qualities,
-    })
+    match neighbours_of(alloc, table) {
+        Ok(neighbours) => Ok(Costs { metric, neighbours }),
+        Err(e) => Err(e),
+    }
 }
 
 impl FromTable for StatedRunInterface {
@@ -74,37 +72,66 @@ impl FromTable for StatedRunInterface {
         let port = port_said(alloc, table)?;
         match costs_said(alloc, table) {
             Ok(costs) => Ok(StatedRunInterface {
-                name: interface.name,
-                addrs: interface.addrs,
-                local: port.local,
-                peers: port.peers,
-                metric: costs.metric,
-                senders: costs.senders,
-                qualities: costs.qualities,
+                interface,
+                port,
+                costs,
             }),
             Err(e) => Err(e),
         }
     }
 }
 
-fn run_interfaces_of(alloc: Global, table: &Table) -> Result<Seq<StatedRunInterface>, ConfigFault>
-    ensures answer { ValueOrFault (Each RunInterfaceIs (listed (interfaces (table_view table.now)))) (first (run_interfaces_visits (table_view table.now))) result }
-    ensures size { IfOk result (λ xs. IsCount 1 8 (length xs)) }
+// One interface more.
+fn put(out: &mut RunInterfaces, one: StatedRunInterface) -> Result<(), AllocError>
+    ensures { OnOk result (HasOneMore out.old out.new one) }
+{
+    out.interfaces.push(one.interface)?;
+    out.ports.push(one.port)?;
+    out.costs.push(one.costs)
+}
+
+// What the elements of the array say, each of which must be the table of an interface.
+fn all_interfaces(alloc: Global, values: &[Value]) -> Result<RunInterfaces, ConfigFault>
+    ensures answer { ValueOrFault (RunInterfacesAre (map view values.now)) (first (tables_visits run_interface_visits (codes "interface") (map view values.now))) result }
+    ensures size { IfOk result (HasOfEach (length values.now)) }
+{
+    let mut all = RunInterfaces {
+        interfaces: Seq::new(alloc),
+        ports: Seq::new(alloc),
+        costs: Seq::new(alloc),
+    };
+    for value in values {
+        match element(alloc, "interface", value) {
+            Ok(one) => put(&mut all, one)?,
+            Err(e) => return Err(e),
+        }
+    }
+    Ok(all)
+}
+
+fn run_interfaces_of(alloc: Global, table: &Table) -> Result<RunInterfaces, ConfigFault>
+    ensures answer { ValueOrFault (RunInterfacesAre (listed (interfaces (table_view table.now)))) (first (run_interfaces_visits (table_view table.now))) result }
+    ensures size { IfOk result (λ all. IsCount 1 8 (length all.interfaces)) }
+    ensures each { IfOk result (λ all. HasOfEach (length all.interfaces) all) }
 {
     let values = array_at(alloc, table, "interface", 1, 8)?;
-    all_tables(alloc, "interface", values)
+    all_interfaces(alloc, values)
 }
 
 fn run_router(alloc: Global, table: &Table) -> Result<StatedRunRouter, ConfigFault>
     ensures { ValueOrFault (RunRouterIs (table_view table.now)) (first (run_router_visits (table_view table.now))) result }
 {
     let head = head(alloc, table)?;
-    let interfaces = run_interfaces_of(alloc, table)?;
+    let all = run_interfaces_of(alloc, table)?;
     match attached_of(alloc, table) {
         Ok(attached) => Ok(StatedRunRouter {
-            head,
-            interfaces,
-            attached,
+            router: StatedRouter {
+                head,
+                interfaces: all.interfaces,
+                attached,
+            },
+            ports: all.ports,
+            costs: all.costs,
         }),
         Err(e) => Err(e),
     }

@@ -4,7 +4,7 @@ ghost use Rattle.toml.specs.View.{table_view, view};
 ghost use Rattle.mesh_atoms.specs.Settings.{IsCount, one_hour};
 ghost use Rattle.mesh_config.specs.Keys.Faults.{GivesSetting, ValueOrFault, first, visit, listed};
 ghost use Rattle.mesh_config.specs.Keys.Values.{SaysNothing, unknown, is_one_of};
-ghost use Rattle.mesh_config.specs.Stated.Router.{moment, net, metric_asked, IsMetricRead, named_visits, router_keys, interface_visits, InterfaceIs, attached_visits, AttachedIs, head_fields, head_visits, HeadIs, interfaces_visits, interfaces, networks_visits, attached, router_visits, RouterIs};
+ghost use Rattle.mesh_config.specs.Stated.Router.{moment, net, metric_asked, IsMetricRead, named_visits, router_keys, interface_visits, InterfaceIs, attached_visits, AttachedIs, head_visits, HeadIs, interfaces_visits, interfaces, networks_visits, attached, router_visits, RouterIs};
 ghost use Rattle.mesh_config.specs.Stated.Tables.{Each};
 
 use crate::keys::refusal::{BAD_VALUE, MISSING};
@@ -16,7 +16,7 @@ use crate::stated::rules::{near_holds_of, thresholds};
 use crate::stated::stated::{RouterHead, StatedInterface, StatedRouter};
 use crate::stated::tables::{FromTable, all_tables};
 use mesh_atoms::{Attached4, DEFAULT_TC_ROWS, MOST_TC_ROWS, Metric, NetAddr, Seq, Willing, net_of};
-use std::alloc::{AllocError, Global};
+use std::alloc::Global;
 use toml::Table;
 
 // A moment up to an hour, in ticks; 0 where it is absent.
@@ -91,12 +91,14 @@ impl FromTable for Attached4 {
         known_keys(alloc, table, &["net", "metric", "distance"])?;
         let net = net_at(alloc, table)?;
         let metric = metric_at(alloc, table)?;
-        let distance = whole_or(alloc, table, "distance", 0, 255, 1)? as u8;
-        Ok(Attached4 {
-            net,
-            metric,
-            distance,
-        })
+        match whole_or(alloc, table, "distance", 0, 255, 1) {
+            Ok(distance) => Ok(Attached4 {
+                net,
+                metric,
+                distance: distance as u8,
+            }),
+            Err(e) => Err(e),
+        }
     }
 }
 
@@ -152,25 +154,6 @@ pub fn head(alloc: Global, table: &Table) -> Result<RouterHead, ConfigFault>
         hello_at,
         tc_at,
     })
-}
-
-impl RouterHead {
-    /// A copy.
-    pub fn copy(&self) -> Result<RouterHead, AllocError>
-        ensures { IfOk result (λ head. head_fields head ≡ head_fields self.now) }
-    {
-        let name = self.name.copy()?;
-        let near_hold = self.near_hold.copy()?;
-        Ok(RouterHead {
-            name,
-            willing: self.willing,
-            thresholds: self.thresholds,
-            tc_rows: self.tc_rows,
-            near_hold,
-            hello_at: self.hello_at,
-            tc_at: self.tc_at,
-        })
-    }
 }
 
 fn interfaces_of(alloc: Global, table: &Table) -> Result<Seq<StatedInterface>, ConfigFault>

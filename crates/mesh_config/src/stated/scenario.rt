@@ -54,7 +54,7 @@ fn place_at(alloc: Global, table: &Table, key: &str) -> Result<Place, ConfigFaul
 }
 
 fn ends(alloc: Global, table: &Table) -> Result<StatedEnds, ConfigFault>
-    ensures { ValueOrFault (λ e. AreEnds (table_view table.now) e.from e.to) (first (end_visits (table_view table.now))) result }
+    ensures { ValueOrFault (AreEnds (table_view table.now)) (first (end_visits (table_view table.now))) result }
 {
     let from = place_at(alloc, table, "from")?;
     match place_at(alloc, table, "to") {
@@ -103,11 +103,8 @@ impl FromTable for StatedArc {
         let numbers = arc_numbers(alloc, table)?;
         match steps_of(alloc, table) {
             Ok(steps) => Ok(StatedArc {
-                from: ends.from,
-                to: ends.to,
-                metric: numbers.metric,
-                loss: numbers.loss,
-                delay: numbers.delay,
+                ends,
+                numbers,
                 steps,
             }),
             Err(e) => Err(e),
@@ -164,7 +161,7 @@ fn arcs_of(alloc: Global, table: &Table) -> Result<Seq<StatedArc>, ConfigFault>
 }
 
 fn top_numbers(alloc: Global, table: &Table) -> Result<ScenarioNumbers, ConfigFault>
-    ensures { ValueOrFault (λ n. AreTopNumbers (table_view table.now) n.end n.seed n.loss_until) (first (top_visits (table_view table.now))) result }
+    ensures { ValueOrFault (AreTopNumbers (table_view table.now)) (first (top_visits (table_view table.now))) result }
 {
     let end = end_moment(alloc, table)?;
     let seed = whole_or(alloc, table, "seed", 0, 9_223_372_036_854_775_807, 0)?;
@@ -190,9 +187,7 @@ pub fn stated_scenario(alloc: Global, table: &Table) -> Result<StatedScenario, C
     let routers = routers_of(alloc, table)?;
     match arcs_of(alloc, table) {
         Ok(arcs) => Ok(StatedScenario {
-            end: numbers.end,
-            seed: numbers.seed,
-            loss_until: numbers.loss_until,
+            numbers,
             times,
             routers,
             arcs,

@@ -27,8 +27,8 @@ pub trait FromTable: Sized + Drop {
         ensures { ValueOrFault (says (table_view table.now)) (first (visits (table_view table.now))) result };
 }
 
-// The value of an element, which must be a table.
-fn element<T: FromTable>(alloc: Global, key: &str, value: &Value) -> Result<T, ConfigFault>
+/// The value of an element, which must be a table, or the first fault of its visits.
+pub fn element<T: FromTable>(alloc: Global, key: &str, value: &Value) -> Result<T, ConfigFault>
     ensures { ValueOrFault (T.says (table_of (view value.now))) (first (element_visits T.visits key.now (view value.now))) result }
 {
     match value.as_table() {

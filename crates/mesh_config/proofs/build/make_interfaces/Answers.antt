@@ -2,11 +2,10 @@ use Rattle.std.proofs.Common.{◌≡◌, ◌+◌, length, arith}
 use Rattle.mesh_atoms.proofs.Lists.{length_pushed}
 use Rattle.mesh_config.specs.Checks.Compared.{stated_lists}
 use Rattle.mesh_config.specs.Fields.{interface_fields, thresholds_of, threshold_pair}
-use Rattle.mesh_config.specs.Senders.{with_steps, stated_steps}
+use Rattle.mesh_config.specs.Senders.{with_steps, stated_steps, HasSenders, HasQualities}
 use Rattle.mesh_config.specs.declared.stated.stated.StatedInterface.{StatedInterface}
-use Rattle.mesh_config.proofs.Qualities.{have_more}
 use Rattle.mesh_config.specs.Stated.Router.{stated_interface_fields}
-use Rattle.mesh_config.proofs.Builds.{senders_more, maps_more}
+use Rattle.mesh_config.proofs.Builds.{each_more, maps_more}
 use Rattle.mesh_config.proofs.build.make_interfaces.Goals as goal
 
 pub loop-iface-preserved : goal.loop-iface-preserved
@@ -16,7 +15,7 @@ loop-iface-preserved c =
     rw c.in_ok-push.ensures.ok (record {
       interfaces = maps_more interface_fields stated_interface_fields all c.args.interfaces.now i x c.index-interfaces-iface.result c.index-interfaces-iface.is c.loop-iface-test.true c.loop-iface.invariant.interfaces made.fields;
       thresholds = maps_more thresholds_of (λ (d : StatedInterface). threshold_pair c.args.thresholds) all c.args.interfaces.now i x c.index-interfaces-iface.result c.index-interfaces-iface.is c.loop-iface-test.true c.loop-iface.invariant.thresholds made.thresholds;
-      qualities = have_more (stated_lists c.args.network.now.routers.now) (with_steps c.args.network.now.arcs.now (stated_steps c.args.network.now.stated_arcs.now)) c.args.router 0 i all x c.loop-iface.invariant.qualities size made.qualities;
-      senders = senders_more (stated_lists c.args.network.now.routers.now) c.args.network.now.arcs.now c.args.router 0 i all x c.loop-iface.invariant.senders size made.senders made.own;
+      qualities = each_more (HasQualities (stated_lists c.args.network.now.routers.now) (with_steps c.args.network.now.arcs.now (stated_steps c.args.network.now.stated_arcs.now)) c.args.router) 0 i all x c.loop-iface.invariant.qualities size made.qualities;
+      senders = each_more (HasSenders (stated_lists c.args.network.now.routers.now) c.args.network.now.arcs.now c.args.router) 0 i all x c.loop-iface.invariant.senders size (made.senders, made.own);
       size = length_pushed i all x c.loop-iface.invariant.size;
     })

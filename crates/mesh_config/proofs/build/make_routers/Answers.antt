@@ -1,10 +1,10 @@
 use Rattle.std.proofs.Common.{◌≡◌, ◌+◌, length, arith, sym, subst}
+use Rattle.mesh_atoms.specs.declared.settings.RouterSettings.{RouterSettings}
 use Rattle.mesh_atoms.proofs.Lists.{length_pushed}
 use Rattle.mesh_config.specs.Checks.Compared.{stated_lists}
 use Rattle.mesh_config.specs.Fields.{settings_parts, stated_parts, IsClear}
-use Rattle.mesh_config.proofs.Builds.{all_senders_more, maps_more, clear_at}
-use Rattle.mesh_config.specs.Senders.{with_steps, stated_steps}
-use Rattle.mesh_config.proofs.Qualities.{all_have_more}
+use Rattle.mesh_config.proofs.Builds.{each_more, maps_more, clear_at}
+use Rattle.mesh_config.specs.Senders.{with_steps, stated_steps, HaveSenders, HaveQualities}
 use Rattle.mesh_config.proofs.build.make_routers.Goals as goal
 
 pub make_router-requires-clause-clear : goal.make_router-requires-clause-clear
@@ -17,7 +17,7 @@ loop-at-preserved c =
     let size : 0 + length all ≡ i = omega (arith, c.loop-at.invariant.size) in
     rw c.in_ok-push.ensures.ok (record {
       fields = maps_more settings_parts (stated_parts c.args.times) all c.args.routers.now i x c.index-routers-at.result c.index-routers-at.is c.loop-at-test.true c.loop-at.invariant.fields made.parts;
-      qualities = all_have_more (stated_lists c.args.routers.now) (with_steps c.args.arcs.now (stated_steps c.args.stated_arcs.now)) 0 i all x c.loop-at.invariant.qualities size made.qualities;
-      senders = all_senders_more (stated_lists c.args.routers.now) c.args.arcs.now 0 i all x c.loop-at.invariant.senders size made.senders;
+      qualities = each_more (λ n (r : RouterSettings). HaveQualities (stated_lists c.args.routers.now) (with_steps c.args.arcs.now (stated_steps c.args.stated_arcs.now)) n 0 r.interfaces) 0 i all x c.loop-at.invariant.qualities size made.qualities;
+      senders = each_more (λ n (r : RouterSettings). HaveSenders (stated_lists c.args.routers.now) c.args.arcs.now n 0 r.interfaces) 0 i all x c.loop-at.invariant.senders size made.senders;
       size = length_pushed i all x c.loop-at.invariant.size;
     })

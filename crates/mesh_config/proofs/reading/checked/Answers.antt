@@ -46,9 +46,9 @@ invariant_of-result c =
     rw (← c.as_slice-all.ensures, ← c.as_slice-stated_arcs.ensures) c.in_ok-arcs.ensures.read in
     let few : length arcs ≡ length d.arcs = c.in_ok-arcs.ensures.size ∙ ap (λ (xs : List StatedArc). length xs) c.as_slice-stated_arcs.ensures in
     record {
-      end_in_range = d.end_in_range;
-      seed_in_range = d.seed_in_range;
-      loss_in_range = d.loss_in_range;
+      end_in_range = d.numbers.end_in_range;
+      seed_in_range = d.numbers.seed_in_range;
+      loss_in_range = d.numbers.loss_in_range;
       sound_routers = sound_routers d.times ss d.routers d.few_routers clear same;
       sound_arcs = sound_arcs d.times ss d.routers (map arc_places d.arcs) arcs same (rw few d.few_arcs) joined;
     }

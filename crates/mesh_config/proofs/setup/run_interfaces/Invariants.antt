@@ -1,11 +1,13 @@
 use Rattle.std.proofs.Common.{◌≡◌, take, map}
-use Rattle.mesh_config.specs.declared.run_tables.stated.StatedRunInterface.{StatedRunInterface}
-use Rattle.mesh_config.specs.Fields.{thresholds_of, threshold_pair}
-use Rattle.mesh_config.specs.RunSettings.{run_interface_fields, stated_run_interface_fields}
+use Rattle.mesh_config.specs.declared.stated.stated.StatedInterface.{StatedInterface}
+use Rattle.mesh_config.specs.Fields.{interface_fields, thresholds_of, threshold_pair, interface_costs}
+use Rattle.mesh_config.specs.Stated.Router.{stated_interface_fields}
+use Rattle.mesh_config.specs.RunSettings.{stated_costs}
 use Rattle.mesh_config.proofs.setup.run_interfaces.Given as goal
 
-abbrev pub invariant-loop-stated : goal.invariant-loop-stated
-invariant-loop-stated l = record {
-  fields : map run_interface_fields l.all ≡ map stated_run_interface_fields (take l.stated-index l.interfaces);
-  thresholds : map thresholds_of l.all ≡ map (λ (i : StatedRunInterface). threshold_pair l.thresholds) (take l.stated-index l.interfaces);
+abbrev pub invariant-loop-at : goal.invariant-loop-at
+invariant-loop-at l = record {
+  fields : map interface_fields l.all ≡ map stated_interface_fields (take l.at l.interfaces);
+  thresholds : map thresholds_of l.all ≡ map (λ (d : StatedInterface). threshold_pair l.thresholds) (take l.at l.interfaces);
+  costs : map interface_costs l.all ≡ map stated_costs (take l.at l.costs);
 }

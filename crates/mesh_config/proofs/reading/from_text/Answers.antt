@@ -4,7 +4,7 @@ use Rattle.mesh_config.specs.Keys.Document.{TextSays, text_visits}
 use Rattle.mesh_config.specs.Keys.Faults.{first}
 use Rattle.mesh_config.proofs.KeysLemmas.Parts.{first_one}
 use Rattle.mesh_config.proofs.Told.{answers_along}
-use Rattle.mesh_config.proofs.text.from_text.Goals as goal
+use Rattle.mesh_config.proofs.reading.from_text.Goals as goal
 
 pub returns : goal.returns
 returns g c =
