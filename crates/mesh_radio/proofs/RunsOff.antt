@@ -1,11 +1,12 @@
 -- Runs to the end in which routers put off relays and routes up to it.
-use Rattle.std.proofs.Common.{◌≡◌, ◌∙◌, List, refl, sym, ap, subst, arith}
+use Rattle.std.proofs.Common.{◌≡◌, ◌∙◌, Bool, true, false, List, Result, Ok, Err, refl, sym, ap, subst, arith}
+use Rattle.std.specs.Prelude.{OnOk, is_err}
 use Rattle.std.proofs.lemmas.Option.{slice_get_within}
 use Rattle.mesh_atoms.specs.State.{State}
 use Rattle.mesh_atoms.specs.declared.network.NetEvent.{NetEvent}
 use Rattle.mesh_atoms.specs.declared.settings.Scenario.{Scenario}
 use Rattle.mesh_machine.specs.Net.{NetState, NetStep, By_delivery, By_tick, By_last_tick}
-use Rattle.mesh_machine.specs.NetRun.{IsOver}
+use Rattle.mesh_machine.specs.NetRun.{IsOver, NetRun}
 use Rattle.mesh_radio.specs.declared.scene.Scene.{Scene}
 use Rattle.mesh_radio.specs.Scene.{AreKeptOf, AreSoundStates, Happens, IsLeft, IsSound, RunsOver, net_of}
 use Rattle.mesh_machine.proofs.Places.{same_at}
@@ -63,3 +64,13 @@ none_left_off opening first old new before after runs left =
       sound = left.sound;
       sounds = subst AreSoundStates (sym (ap (λ (n : NetState). n.routers) stays)) runs.sounds;
     }
+
+-- a network after its run to the end: what was done, and that it is sound unless it is spent
+module _ {T E : Type 0} (old new : List State) (before after : Scene) where
+  pub ran_over : (r : Result T E) (was : NetState) → net_of old before ≡ was → OnOk r (RunsOver old before new after) → OnOk r ((events : List NetEvent) × NetRun was events (net_of new after) × IsOver (net_of new after))
+  ran_over (Ok x) was is ran = (ran.events, subst (λ (n : NetState). NetRun n ran.events (net_of new after)) is ran.run, ran.over)
+  ran_over (Err e) was is ran = tt
+
+  pub sound_unless_given_up : (r : Result T E) (spent : Bool) → OnOk r (RunsOver old before new after) → spent ≡ is_err r → spent ≡ false → IsSound new after
+  sound_unless_given_up (Ok x) spent ran says whole = ran.sound
+  sound_unless_given_up (Err e) spent ran says whole = let both : true ≡ false = sym says ∙ whole in absurd cc

@@ -2,7 +2,6 @@
 ghost use Rattle.std.specs.Prelude.{◌≡◌, map, IfOk, OnOk};
 ghost use Rattle.mesh_atoms.specs.Sound.{Sound};
 ghost use Rattle.mesh_radio.specs.Scene.{AreSoundStates, IsSound, RunsOver};
-ghost use Rattle.mesh_radio.specs.Value.{states_of};
 
 use crate::scene::Scene;
 use crate::step::next_event;
@@ -10,18 +9,21 @@ use mesh_core::{Core, DeferredCore, DeferringRouter};
 use mesh_expire::Bases;
 use std::alloc::{AllocError, Global};
 
-/// Does all events that are left, in which the routers put relays and routes off up to the end. Gives the routers.
-pub(crate) fn run_to_end<B: Bases>(
+/// Does all events that are left, in which the routers put relays and routes off up to the end. After an allocation failure no routers
+/// are left.
+pub(crate) fn run_to_end<R: DeferredForm<C>, C: DeferringRouter>(
     alloc: Global,
-    cores: Vec<Core<B>>,
+    cores: &mut Vec<C>,
     scene: &mut Scene,
-) -> Result<Vec<Core<B>>, AllocError>
-    requires sound { IsSound (states_of cores.items) scene.old }
-    ensures { IfOk result (λ ended. RunsOver (states_of cores.items) scene.old (states_of ended.items) scene.new) }
+) -> Result<(), AllocError>
+    requires sound { IsSound (map C.state cores.old.items) scene.old }
+    ensures { OnOk result (RunsOver (map C.state cores.old.items) scene.old (map C.state cores.new.items) scene.new) }
 {
-    let mut deferred = defer_each(alloc, cores)?;
+    let whole = std::mem::replace(cores, Vec::new(alloc));
+    let mut deferred: Vec<R> = defer_each(alloc, whole)?;
     do_events(alloc, &mut deferred, scene)?;
-    all_whole(alloc, deferred)
+    *cores = all_whole(alloc, deferred)?;
+    Ok(())
 }
 
 /// Does all events that are left. After 2^64 - 1 events it gives up as if an allocation had failed.
@@ -43,37 +45,46 @@ fn do_events<R: DeferringRouter>(
     Err(AllocError)
 }
 
-/// The routers, which may from now on put relays and routes off.
-fn defer_each<B: Bases>(
-    alloc: Global,
-    cores: Vec<Core<B>>,
-) -> Result<Vec<DeferredCore<B>>, AllocError>
-    ensures states { IfOk result (λ deferred. states_of deferred.items ≡ states_of cores.items) }
-    ensures sounds { IfOk result (λ deferred. AreSoundStates (states_of deferred.items)) }
-{
-    let mut deferred = Vec::new(alloc);
-    for core in cores {
-        deferred.push(core.defer()?)?;
-    }
-    Ok(deferred)
-}
+/// The form of a router in which it may put relays and routes off.
+pub(crate) trait DeferredForm<C: DeferringRouter>: DeferringRouter {
+    /// The router in this form.
+    fn of_whole(core: C) -> Result<Self, AllocError>
+        ensures state { IfOk result (λ deferred. Self.state deferred ≡ C.state core) }
+        ensures sound { IfOk result (λ deferred. Sound (Self.state deferred)) };
 
-/// A router that may put relays and routes off, and is to become one that puts nothing off.
-trait IntoWhole<C: DeferringRouter>: DeferringRouter {
     /// The router as one that puts nothing off, where its state is sound.
     fn into_whole(self) -> C
         requires { Sound (Self.state self) }
         ensures { C.state result ≡ Self.state self };
 }
 
-impl<B: Bases> IntoWhole<Core<B>> for DeferredCore<B> {
+impl<B: Bases> DeferredForm<Core<B>> for DeferredCore<B> {
+    fn of_whole(core: Core<B>) -> Result<DeferredCore<B>, AllocError> {
+        core.defer()
+    }
+
     fn into_whole(self) -> Core<B> {
         self.into_core()
     }
 }
 
+/// The routers, which may from now on put relays and routes off.
+fn defer_each<R: DeferredForm<C>, C: DeferringRouter>(
+    alloc: Global,
+    cores: Vec<C>,
+) -> Result<Vec<R>, AllocError>
+    ensures states { IfOk result (λ deferred. map R.state deferred.items ≡ map C.state cores.items) }
+    ensures sounds { IfOk result (λ deferred. AreSoundStates (map R.state deferred.items)) }
+{
+    let mut deferred = Vec::new(alloc);
+    for core in cores {
+        deferred.push(R::of_whole(core)?)?;
+    }
+    Ok(deferred)
+}
+
 /// The routers as ones that put nothing off.
-fn all_whole<R: IntoWhole<C>, C: DeferringRouter>(
+fn all_whole<R: DeferredForm<C>, C: DeferringRouter>(
     alloc: Global,
     routers: Vec<R>,
 ) -> Result<Vec<C>, AllocError>

@@ -10,7 +10,7 @@ use crate::opening::{Opening, opening_of};
 use crate::scene::Scene;
 use crate::step::tell_next;
 use mesh_atoms::{Counts, NetEvent, Scenario};
-use mesh_core::Core;
+use mesh_core::{Core, DeferredCore};
 use mesh_expire::Bases;
 use std::alloc::{AllocError, Global};
 use std::marker::Model;
@@ -101,11 +101,13 @@ impl<B: Bases> Net<B> {
         if self.spent {
             return Err(AllocError);
         }
-        self.spent = true;
-        let cores = std::mem::replace(&mut self.cores, Vec::new(self.alloc));
-        self.cores = run_to_end(self.alloc, cores, &mut self.scene)?;
-        self.spent = false;
-        Ok(())
+        let ran = run_to_end::<DeferredCore<B>, Core<B>>(
+            self.alloc,
+            &mut self.cores,
+            &mut self.scene,
+        );
+        self.spent = ran.is_err();
+        ran
     }
 
     /// The routers, in the order of the scenario.

@@ -1,16 +1,14 @@
 //! A network before its first event.
-ghost use Rattle.std.specs.Prelude.{◌≡◌, [], IfOk};
+ghost use Rattle.std.specs.Prelude.{◌≡◌, [], map, IfOk};
 ghost use Rattle.mesh_radio.specs.Opening.{IsOpeningScene};
 ghost use Rattle.mesh_machine.specs.NetRun.{IsOpeningNet};
 ghost use Rattle.mesh_radio.specs.Scene.{IsSound, net_of};
-ghost use Rattle.mesh_radio.specs.Value.{states_of};
 
-use crate::routers::{first_due, routers_of};
+use crate::routers::{MadeRouter, first_due, routers_of};
 use crate::scene::{Due, Scene};
 use crate::traffic::{FramesInAir, RadioTraffic};
 use mesh_atoms::{Counts, RouterSettings, Scenario, Seq};
-use mesh_core::{Core, Outbox};
-use mesh_expire::Bases;
+use mesh_core::Outbox;
 use mesh_machine::{Draws, ways_of};
 use std::alloc::{AllocError, Global};
 
@@ -22,14 +20,14 @@ pub(crate) struct Opening<R> {
 }
 
 /// The network of a scenario before its first event.
-pub(crate) fn opening_of<B: Bases>(
+pub(crate) fn opening_of<R: MadeRouter>(
     alloc: Global,
     scenario: &Scenario,
-) -> Result<Opening<Core<B>>, AllocError>
-    ensures sound { IfOk result (λ opening. IsSound (states_of opening.routers.items) opening.scene) }
-    ensures opening { IfOk result (λ opening. IsOpeningNet scenario.now (net_of (states_of opening.routers.items) opening.scene)) }
+) -> Result<Opening<R>, AllocError>
+    ensures sound { IfOk result (λ opening. IsSound (map R.state opening.routers.items) opening.scene) }
+    ensures opening { IfOk result (λ opening. IsOpeningNet scenario.now (net_of (map R.state opening.routers.items) opening.scene)) }
 {
-    let routers: Vec<Core<B>> = routers_of(alloc, scenario.routers.as_slice())?;
+    let routers: Vec<R> = routers_of(alloc, scenario.routers.as_slice())?;
     let scene = opening_scene(alloc, scenario, first_due(&routers))?;
     Ok(Opening { routers, scene })
 }

@@ -1,19 +1,33 @@
 //! The routers of a network: at its opening, one of them at an event, and which of them ticks first.
 ghost use Rattle.std.specs.Prelude.{◌≡◌, ◌<◌, ◌≤◌, ◌^◌, length, map, slice_get, Some, IfOk, OnOk};
 ghost use Rattle.mesh_atoms.specs.State.{State};
-ghost use Rattle.mesh_machine.specs.Machine.{Hear, Tick};
+ghost use Rattle.mesh_machine.specs.Machine.{Hear, IsOpening, Tick};
 ghost use Rattle.mesh_machine.specs.Net.{IsFirstDue};
 ghost use Rattle.mesh_radio.specs.Opening.{AreOpening};
 ghost use Rattle.mesh_radio.specs.Scene.{Stepped, KeepsDue, IsAfterTick};
 
 use crate::scene::Due;
 use crate::traffic::ArrivedFrame;
-use mesh_atoms::{Addr4, RadioArc, RouterSettings, Scenario};
-use mesh_core::{Arrival, DeferringRouter, Outbox, RouterCore};
+use mesh_atoms::{Addr4, RadioArc, RouterSettings};
+use mesh_core::{Arrival, Core, DeferringRouter, Outbox};
+use mesh_expire::Bases;
 use std::alloc::{AllocError, Global};
 
+/// A router that a network makes of its settings.
+pub(crate) trait MadeRouter: DeferringRouter {
+    /// A router with these settings before its first event.
+    fn of_settings(alloc: Global, settings: RouterSettings) -> Result<Self, AllocError>
+        ensures { IfOk result (λ router. IsOpening settings (Self.state router)) };
+}
+
+impl<B: Bases> MadeRouter for Core<B> {
+    fn of_settings(alloc: Global, settings: RouterSettings) -> Result<Core<B>, AllocError> {
+        Core::new(alloc, settings)
+    }
+}
+
 /// The routers with these settings before their first events.
-pub(crate) fn routers_of<R: RouterCore>(
+pub(crate) fn routers_of<R: MadeRouter>(
     alloc: Global,
     settings: &[RouterSettings],
 ) -> Result<Vec<R>, AllocError>
@@ -21,7 +35,7 @@ pub(crate) fn routers_of<R: RouterCore>(
 {
     let mut routers = Vec::new(alloc);
     for one in settings {
-        routers.push(R::make(alloc, one.copy()?)?)?;
+        routers.push(R::of_settings(alloc, one.copy()?)?)?;
     }
     Ok(routers)
 }

@@ -1,23 +1,21 @@
-use Rattle.std.proofs.Common.{◌∙◌, List, sym, ap}
+use Rattle.std.proofs.Common.{◌∙◌, map, sym, ap}
 use Rattle.std.proofs.lemmas.List.{map-id}
 use Rattle.std.proofs.lemmas.Iterator.Adapters.{YieldsList-from_vec}
 use Rattle.std.proofs.lemmas.Iterator.Consumers.{YieldsList-end}
-use Rattle.mesh_core.specs.Holding.{CoreValue}
-use Rattle.mesh_radio.specs.Value.{states_of}
 use Rattle.mesh_radio.proofs.Turning.{one_turned, one_sound}
 use Rattle.mesh_radio.proofs.deferring.defer_each.Goals as goal
 
 pub loop-core-preserved : goal.loop-core-preserved
 loop-core-preserved g c = record {
-  states = one_turned (λ (core : CoreValue). core.state) (λ (core : CoreValue). core.state) _ _ _ _ _ c.in_ok-defer.ensures.state c.in_ok-push.ensures.items c.loop-core.invariant.states;
-  sounds = one_sound (λ (core : CoreValue). core.state) _ _ _ c.in_ok-defer.ensures.sound c.in_ok-push.ensures.items c.loop-core.invariant.sounds;
+  states = one_turned g.C.DeferringRouter.state g.R.DeferringRouter.state _ _ _ _ _ c.in_ok-of_whole.ensures.state c.in_ok-push.ensures.items c.loop-core.invariant.states;
+  sounds = one_sound g.R.DeferringRouter.state _ _ _ c.in_ok-of_whole.ensures.sound c.in_ok-push.ensures.items c.loop-core.invariant.sounds;
 }
 
 pub returns-clause-states : goal.returns-clause-states
 returns-clause-states g c =
     let gives = c.into_iter-core-iterator.ensures.into_iter_gives in
     let ended = (YieldsList-end (YieldsList-from_vec c.args.cores.items gives.0 (gives.1 ∙ c.args.cores.ok.0)) c.loop-core.yielded c.loop-core.core-iterator c.loop-core.yielded_by _ c.next.new.self c.in-None.is c.next.ensures.steps).0 in
-    c.loop-core.invariant.states ∙ ap (λ (l : List CoreValue). states_of l) (sym (map-id c.loop-core.yielded) ∙ ended)
+    c.loop-core.invariant.states ∙ ap (map g.C.DeferringRouter.state) (sym (map-id c.loop-core.yielded) ∙ ended)
 
 pub returns-clause-sounds : goal.returns-clause-sounds
 returns-clause-sounds g c = c.loop-core.invariant.sounds

@@ -3,11 +3,11 @@ use Rattle.mesh_radio.proofs.Beginning.{none_opening, opening_more}
 use Rattle.mesh_radio.proofs.routers.routers_of.Goals as goal
 
 pub loop-one-init : goal.loop-one-init
-loop-one-init g c = none_opening g.R.RouterView.state c.args.settings.now c.new-routers.result.items c.new-routers.ensures.items
+loop-one-init g c = none_opening g.R.DeferringRouter.state c.args.settings.now c.new-routers.result.items c.new-routers.ensures.items
 
 pub loop-one-preserved : goal.loop-one-preserved
 loop-one-preserved g c =
-    opening_more g.R.RouterView.state c.args.settings.now c.loop-one.one-index c.one-item.result _ _ _ c.loop-one-test.true c.one-item.is c.in_ok-push.ensures.items (rw (← c.in_ok-copy.ensures) c.in_ok-make.ensures.opening) c.loop-one.invariant
+    opening_more g.R.DeferringRouter.state c.args.settings.now c.loop-one.one-index c.one-item.result _ _ _ c.loop-one-test.true c.one-item.is c.in_ok-push.ensures.items (rw (← c.in_ok-copy.ensures) c.in_ok-of_settings.ensures) c.loop-one.invariant
 
 pub returns : goal.returns
 returns g c =
