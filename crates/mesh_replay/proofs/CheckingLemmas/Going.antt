@@ -1,5 +1,5 @@
 -- Lines that are read lead on, one after the other.
-use Rattle.std.proofs.Common.{ℕ, ◌+◌, List, [], ◌∷◌, ◌++◌, refl, sym, ◌∙◌, ap, append_assoc, length-append, arith, Bool, true, false}
+use Rattle.std.proofs.Common.{ℕ, List, [], ◌∷◌, ◌++◌, refl, sym, ◌∙◌, ap, append_assoc, length-append, arith, Bool, true, false}
 use Rattle.mesh_trace.specs.declared.reading.Reader.{Reader}
 use Rattle.mesh_trace.specs.Positions.Leading.{LineLeads}
 use Rattle.mesh_trace.specs.Positions.Standing.{TracePosition, IsDone}

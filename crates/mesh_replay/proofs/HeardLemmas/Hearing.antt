@@ -1,5 +1,5 @@
 -- The event of a frame that is heard.
-use Rattle.std.proofs.Common.{◌≡◌, ℕ, ◌<◌, ◌≤◌, List, [], sym, ◌∙◌, ap, subst, Bool, true, false, Some, length, arith, set-set}
+use Rattle.std.proofs.Common.{◌≡◌, ℕ, ◌<◌, ◌≤◌, List, [], sym, ◌∙◌, ap, subst, Bool, true, false, Some, length, set-set}
 use Rattle.std.proofs.lemmas.Option.{slice_get_within}
 use Rattle.std.specs.Prelude.{slice_get, slice_set}
 use Rattle.mesh_atoms.specs.declared.settings.RouterSettings.{RouterSettings}

@@ -1,5 +1,6 @@
 //! Before the first line.
 ghost use Rattle.std.specs.Prelude.{◌<◌, length, IfOk};
+ghost use Rattle.mesh_atoms.specs.declared.settings.Scenario.{Scenario};
 ghost use Rattle.mesh_trace.specs.machine.Net.{IsFirstDue};
 ghost use Rattle.mesh_replay.specs.Checking.Opening.{AreAtOpening, IsOpeningProgress, IsAtFirstLine};
 
@@ -22,24 +23,21 @@ pub(crate) fn opening_progress(alloc: Global, scenario: &Scenario) -> Progress
     }
 }
 
-/// The routers of a scenario before their first events.
-pub(crate) fn opening_scene<B: Bases>(
-    alloc: Global,
-    scenario: &Scenario,
-) -> Result<CheckedNet<B>, AllocError>
-    ensures { IfOk result (λ scene. IsAtFirstLine scenario.now scene.routers.items scene.due scene.last_ticks) }
+/// A network of these routers before their first events.
+pub(crate) fn opening_net<B: Bases>(routers: Vec<CheckedRouter<B>>) -> CheckedNet<B>
+    requires some { 0 < length routers.items }
+    ensures { (scenario : Scenario) → AreAtOpening scenario.routers routers.items → IsAtFirstLine scenario result.routers.items result.due result.last_ticks }
 {
-    let routers = routers_of(alloc, scenario.routers.as_slice())?;
     let due = first_due(&routers);
-    Ok(CheckedNet {
+    CheckedNet {
         routers,
         due,
         last_ticks: 0,
-    })
+    }
 }
 
-// The routers with these settings before their first events.
-fn routers_of<B: Bases>(
+/// The routers with these settings before their first events.
+pub(crate) fn routers_of<B: Bases>(
     alloc: Global,
     settings: &[RouterSettings],
 ) -> Result<Vec<CheckedRouter<B>>, AllocError>

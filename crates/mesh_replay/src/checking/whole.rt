@@ -11,7 +11,7 @@ ghost use Rattle.mesh_trace.specs.Reading.Readers.{IsReaderOf};
 
 use crate::answer::Replay;
 use crate::checking::case::{Case, Progress};
-use crate::checking::opening::{opening_progress, opening_scene};
+use crate::checking::opening::{opening_net, opening_progress, routers_of};
 use crate::checking::scene::{CheckedNet, Outcome};
 use crate::checking::step::next_event;
 use mesh_atoms::Scenario;
@@ -38,7 +38,8 @@ pub fn replay<B: Bases>(
         ways,
     };
     let mut progress = opening_progress(alloc, scenario);
-    let mut scene = opening_scene::<B>(alloc, scenario)?;
+    let routers = routers_of::<B>(alloc, scenario.routers.as_slice())?;
+    let mut scene = opening_net(routers);
     check(alloc, &case, &mut scene, &mut progress)
 }
 

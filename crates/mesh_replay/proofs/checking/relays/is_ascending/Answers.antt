@@ -1,4 +1,3 @@
-use Rattle.std.proofs.Common.{arith}
 use Rattle.mesh_replay.proofs.RelaysLemmas.Rising.{rises_on}
 use Rattle.mesh_replay.proofs.checking.relays.is_ascending.Goals as goal
 

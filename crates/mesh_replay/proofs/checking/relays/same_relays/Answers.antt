@@ -1,4 +1,4 @@
-use Rattle.std.proofs.Common.{List, Some, false, sym, ◌∙◌, ap}
+use Rattle.std.proofs.Common.{List, Some, sym, ◌∙◌, ap}
 use Rattle.mesh_atoms.specs.declared.addr.Addr4.{Addr4}
 use Rattle.mesh_replay.specs.Checking.RelayLines.{again}
 use Rattle.mesh_replay.specs.Checking.Texts.{told_text}

@@ -1,4 +1,3 @@
-use Rattle.std.proofs.Common.{[]}
 use Rattle.mesh_atoms.proofs.Options.{if_ok_weaker}
 use Rattle.mesh_replay.proofs.FramesLemmas.TcItems.{tc_named}
 use Rattle.mesh_replay.proofs.checking.tcs.tell_span.Goals as goal
