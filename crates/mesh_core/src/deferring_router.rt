@@ -7,9 +7,8 @@ ghost use Rattle.mesh_machine.specs.Sendable.{IsSendable};
 
 use crate::deferred::DeferredCore;
 use crate::event::{EventWants, hear_into, tick};
-use crate::held::Outbox;
-use crate::reading::TypedFrame;
 use crate::router::Core;
+use mesh_bases::{Outbox, TypedFrame};
 use mesh_expire::Bases;
 use mesh_machine::Arrival;
 use std::alloc::AllocError;

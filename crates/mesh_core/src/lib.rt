@@ -5,23 +5,21 @@
 mod deferred;
 mod deferring_router;
 mod event;
-mod held;
-mod reading;
 mod router;
 mod router_core;
-mod sending;
 mod steps;
 mod views;
 
 pub use deferred::DeferredCore;
 pub use deferring_router::DeferringRouter;
-pub use held::{InformationBases, Outbox, Quiet};
+pub use mesh_bases::{
+    InformationBases, Outbox, Quiet, TypedFrame, has_to_advertise, next_moment, send_hellos,
+    send_tcs, tc_of_rows,
+};
 pub use mesh_machine::{
     ArcsOut, Arrival, Draws, Fate, Frame, Heard, Read, RouterView, Said, leaving_of, loses,
     sender_of, ways_of,
 };
 pub use mesh_routes::graph_of;
-pub use reading::TypedFrame;
 pub use router::Core;
 pub use router_core::RouterCore;
-pub use sending::{has_to_advertise, next_moment, send_hellos, send_tcs, tc_of_rows};

@@ -6,10 +6,9 @@ ghost use Rattle.mesh_machine.specs.Machine.{IsOpening, due};
 
 use crate::deferred::DeferredCore;
 use crate::event::Outdated;
-use crate::held::InformationBases;
 use mesh_atoms::RouterSettings;
+use mesh_bases::{Derived, InformationBases, opening};
 use mesh_expire::Bases;
-use mesh_renewal::{Derived, opening};
 use std::alloc::{AllocError, Global};
 use std::marker::Model;
 

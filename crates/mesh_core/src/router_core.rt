@@ -3,9 +3,9 @@ ghost use Rattle.std.specs.Prelude.{◌≡◌, ◌<◌, ◌≤◌, ◌^◌, leng
 ghost use Rattle.mesh_machine.specs.Machine.{Event, Step, IsOpening, due};
 ghost use Rattle.mesh_machine.specs.Sendable.{IsSendable};
 
-use crate::held::Outbox;
 use crate::router::Core;
 use mesh_atoms::RouterSettings;
+use mesh_bases::Outbox;
 use mesh_expire::Bases;
 use mesh_machine::{Arrival, RouterView};
 use std::alloc::{AllocError, Global};

@@ -7,9 +7,9 @@ ghost use Rattle.mesh_machine.specs.Sendable.{IsSendable};
 ghost use Rattle.mesh_packet.specs.Grammar.{FirstFault};
 
 use crate::event::{EventWants, hear_frame, tick};
-use crate::held::Outbox;
 use crate::router::Core;
 use mesh_atoms::Addr4;
+use mesh_bases::Outbox;
 use mesh_expire::Bases;
 use mesh_machine::{Arrival, Heard};
 use std::alloc::AllocError;

@@ -8,7 +8,8 @@ ghost use Rattle.mesh_probe.specs.Hearing.{CanHear, IsOfInterface, HearsFrame, S
 use crate::frames::put_sent;
 use crate::transmission::Transmission;
 use mesh_atoms::{Addr4, RadioArc, Scenario};
-use mesh_core::{Arrival, Outbox, RouterCore};
+use mesh_bases::Outbox;
+use mesh_core::{Arrival, RouterCore};
 use std::alloc::{AllocError, Global};
 
 // Whether the arc leads from that interface of the router.

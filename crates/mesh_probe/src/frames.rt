@@ -5,7 +5,7 @@ ghost use Rattle.mesh_probe.specs.Flood.{sent_by};
 
 use crate::transmission::Transmission;
 use mesh_atoms::Bytes;
-use mesh_core::Outbox;
+use mesh_bases::Outbox;
 use mesh_machine::Frame;
 use std::alloc::{AllocError, Global};
 

@@ -12,16 +12,16 @@ use Rattle.mesh_atoms.specs.Sound.{SoundNeighbourhood, SoundTopology}
 use Rattle.mesh_machine.specs.Laws.{SoundBases}
 use Rattle.mesh_machine.specs.Renewal.{Renews}
 use Rattle.mesh_routes.proofs.SameBases.{tables_of}
-use Rattle.mesh_renewal.specs.declared.derived.Derived.{Derived}
-use Rattle.mesh_renewal.specs.Renewed.{HasDerived, IsAnsnAfter, IsEmptiedAt}
-use Rattle.mesh_renewal.proofs.RowMoments.{rows_stay}
-use Rattle.mesh_renewal.proofs.Staying.{relays_kept, routes_kept, rows_kept}
+use Rattle.mesh_bases.specs.declared.derived.Derived.{Derived}
+use Rattle.mesh_bases.specs.Renewed.{HasDerived, IsAnsnAfter, IsEmptiedAt}
+use Rattle.mesh_bases.proofs.RowMoments.{rows_stay}
+use Rattle.mesh_bases.proofs.Staying.{relays_kept, routes_kept, rows_kept}
 use Rattle.mesh_core.specs.declared.event.outdated.Outdated.{Outdated}
 use Rattle.mesh_core.specs.declared.event.outdated.EventWants.{EventWants}
-use Rattle.mesh_core.specs.declared.held.quiet.Quiet.{Quiet}
+use Rattle.mesh_bases.specs.declared.held.quiet.Quiet.{Quiet}
 use Rattle.mesh_core.specs.Event.Ending.{IsBeforeEvent, GivesRelays, GivesRoutes, GivesRows}
 use Rattle.mesh_core.specs.Event.Outdated.{IsCurrent, KeepsWanted}
-use Rattle.mesh_core.specs.Held.Held.{Held}
+use Rattle.mesh_bases.specs.Held.Held.{Held}
 use Rattle.mesh_core.proofs.EventLemmas.Wholes.{bases_but, originator_but, rows_but, there_are}
 
 -- what the end of an event has done to what a router had: rows, relays and routes stay, or are made anew

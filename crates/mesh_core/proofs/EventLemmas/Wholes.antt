@@ -13,13 +13,13 @@ use Rattle.mesh_machine.specs.Laws.{SoundBases}
 use Rattle.mesh_machine.proofs.Soundness.{bases_of}
 use Rattle.mesh_routes.proofs.Existing.{routes_exist}
 use Rattle.mesh_routes.proofs.SameBases.{tables_of}
-use Rattle.mesh_renewal.proofs.Existing.{relays_exist}
-use Rattle.mesh_renewal.proofs.RowMoments.{rows_stay}
-use Rattle.mesh_renewal.proofs.Staying.{relays_kept, routes_kept}
+use Rattle.mesh_bases.proofs.Existing.{relays_exist}
+use Rattle.mesh_bases.proofs.RowMoments.{rows_stay}
+use Rattle.mesh_bases.proofs.Staying.{relays_kept, routes_kept}
 use Rattle.mesh_core.specs.declared.event.outdated.Outdated.{Outdated}
 use Rattle.mesh_core.specs.Deferred.{IsButForDerived, IsSoundButForDerived}
 use Rattle.mesh_core.specs.Event.Outdated.{IsCurrent}
-use Rattle.mesh_core.proofs.HeldLemmas.Quiet.{advertised_equal, near_equal}
+use Rattle.mesh_bases.proofs.HeldLemmas.Quiet.{advertised_equal, near_equal}
 
 -- What is sound but for relays and routes
 

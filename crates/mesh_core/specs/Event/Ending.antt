@@ -11,13 +11,13 @@ use Rattle.mesh_atoms.specs.Routes.{AreRoutes}
 use Rattle.mesh_atoms.specs.Sound.{SoundNeighbourhood}
 use Rattle.mesh_atoms.specs.State.{Bases, Neighbourhood, State}
 use Rattle.mesh_core.specs.declared.event.outdated.Outdated.{Outdated}
-use Rattle.mesh_core.specs.declared.held.quiet.Quiet.{Quiet}
+use Rattle.mesh_bases.specs.declared.held.quiet.Quiet.{Quiet}
 use Rattle.mesh_core.specs.Deferred.{IsSoundButForDerived}
 use Rattle.mesh_core.specs.Event.Outdated.{IsCurrent}
-use Rattle.mesh_core.specs.Held.Held.{Held}
+use Rattle.mesh_bases.specs.Held.Held.{Held}
 use Rattle.mesh_nbrs.specs.Same.{SameNear}
-use Rattle.mesh_renewal.specs.declared.derived.Derived.{Derived}
-use Rattle.mesh_renewal.specs.Renewed.{HasDerived}
+use Rattle.mesh_bases.specs.declared.derived.Derived.{Derived}
+use Rattle.mesh_bases.specs.Renewed.{HasDerived}
 use Rattle.mesh_topo.specs.Same.{SameAdvertised}
 
 -- these are the relays of each router with these settings and this neighbourhood, at each moment at which that is sound

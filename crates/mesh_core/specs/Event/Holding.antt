@@ -1,7 +1,7 @@
 -- What a router holds with what follows from it.
 use Rattle.mesh_atoms.specs.State.{State}
-use Rattle.mesh_core.specs.Held.Held.{Held}
-use Rattle.mesh_renewal.specs.declared.derived.Derived.{Derived}
+use Rattle.mesh_bases.specs.Held.Held.{Held}
+use Rattle.mesh_bases.specs.declared.derived.Derived.{Derived}
 
 -- the state of a router
 abbrev pub state_of : Held → Derived → State

@@ -5,7 +5,7 @@ use Rattle.mesh_core.specs.declared.event.outdated.Outdated.{Outdated}
 use Rattle.mesh_core.specs.declared.event.outdated.EventWants.{EventWants}
 use Rattle.mesh_core.specs.Deferred.{IsSoundButForDerived}
 use Rattle.mesh_core.specs.Event.Outdated.{KeepsWanted}
-use Rattle.mesh_core.specs.Held.Taking.{kept_fates}
+use Rattle.mesh_bases.specs.Held.Taking.{kept_fates}
 use Rattle.mesh_machine.specs.declared.arrival.Arrival.{Arrival}
 use Rattle.mesh_machine.specs.declared.fate.Heard.{Heard}
 use Rattle.mesh_machine.specs.declared.fate.Heard.TheVariants as heard

@@ -9,9 +9,8 @@ ghost use Rattle.mesh_machine.specs.Machine.{TicksAt};
 
 use crate::event::ending::end_event;
 use crate::event::outdated::EventWants;
-use crate::held::Outbox;
 use crate::router::RouterState;
-use crate::sending::{send_hellos, send_tcs};
+use mesh_bases::{Outbox, send_hellos, send_tcs};
 use mesh_expire::Bases;
 use std::alloc::AllocError;
 

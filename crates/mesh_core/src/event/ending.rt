@@ -6,14 +6,13 @@ ghost use Rattle.mesh_atoms.specs.State.{State};
 ghost use Rattle.mesh_core.specs.Event.Ending.{IsBeforeEvent, GivesRelays, GivesRoutes, GivesRows};
 ghost use Rattle.mesh_core.specs.Event.Outdated.{KeepsWanted};
 ghost use Rattle.mesh_machine.specs.Renewal.{Renews};
-ghost use Rattle.mesh_renewal.specs.Renewed.{HasDerived, IsAnsnAfter, IsEmptiedAt};
+ghost use Rattle.mesh_bases.specs.Renewed.{HasDerived, IsAnsnAfter, IsEmptiedAt};
 
 use crate::event::outdated::{EventWants, Outdated};
-use crate::held::{InformationBases, Quiet};
 use mesh_atoms::{Relays, RouterSettings};
+use mesh_bases::{Derived, InformationBases, Quiet, relays_of};
 use mesh_expire::Bases;
 use mesh_nbrs::Near4;
-use mesh_renewal::{Derived, relays_of};
 use mesh_routes::{RoutingSet, routes_of};
 use std::alloc::{AllocError, Global};
 

@@ -4,15 +4,14 @@ ghost use Rattle.mesh_core.specs.Deferred.{IsSoundButForDerived};
 ghost use Rattle.mesh_core.specs.Event.Holding.{state_of};
 ghost use Rattle.mesh_core.specs.Event.Outdated.{IsCurrent};
 ghost use Rattle.mesh_core.specs.Event.Promises.{HearsAndKeeps, HearsTo};
-ghost use Rattle.mesh_core.specs.Reading.Content.{IsContentOf, IsPacketOf};
+ghost use Rattle.mesh_bases.specs.Reading.Content.{IsContentOf, IsPacketOf};
 ghost use Rattle.mesh_machine.specs.declared.fate.Heard.{Heard as HeardValue};
 ghost use Rattle.mesh_packet.specs.Grammar.{FirstFault};
 
 use crate::event::ending::end_event;
 use crate::event::outdated::EventWants;
-use crate::held::Outbox;
-use crate::reading::{FrameContent, ReadPacket, TypedFrame, read_content};
 use crate::router::RouterState;
+use mesh_bases::{FrameContent, Outbox, ReadPacket, TypedFrame, read_content};
 use mesh_expire::Bases;
 use mesh_machine::{Arrival, Heard};
 use mesh_packet::one_reading;

@@ -10,7 +10,7 @@ use Rattle.mesh_atoms.specs.Live.{Live}
 use Rattle.mesh_atoms.specs.RelayGraphs.{AreRelays}
 use Rattle.mesh_atoms.specs.State.{Bases, State}
 use Rattle.mesh_nbrs.specs.Same.{SameNear}
-use Rattle.mesh_renewal.proofs.RowMoments.{some_or_none}
+use Rattle.mesh_bases.proofs.RowMoments.{some_or_none}
 use Rattle.mesh_topo.specs.declared.advertised.spans.PartSpan.{PartSpan}
 use Rattle.mesh_trace.specs.machine.declared.arrival.Arrival.{Arrival}
 use Rattle.mesh_trace.specs.machine.declared.frame.Frame.{Frame}

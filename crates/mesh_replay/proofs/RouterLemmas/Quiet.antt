@@ -3,9 +3,9 @@ use Rattle.std.proofs.Common.{◌≡◌, ◌∙◌, ℕ, length, Bool, true, sym
 use Rattle.mesh_atoms.specs.declared.settings.RouterSettings.{RouterSettings}
 use Rattle.mesh_atoms.specs.State.{Bases, State}
 use Rattle.mesh_nbrs.specs.Same.{SameNear}
-use Rattle.mesh_renewal.proofs.Moments.{relays_stay}
-use Rattle.mesh_renewal.proofs.RowMoments.{rows_stay}
-use Rattle.mesh_renewal.proofs.Staying.{near_gives_same}
+use Rattle.mesh_bases.proofs.Moments.{relays_stay}
+use Rattle.mesh_bases.proofs.RowMoments.{rows_stay}
+use Rattle.mesh_bases.proofs.Staying.{near_gives_same}
 use Rattle.mesh_routes.specs.Staying.{SameTwoHops, SameWays}
 use Rattle.mesh_routes.proofs.SameBases.{tables_of}
 use Rattle.mesh_trace.specs.machine.Laws.{SoundBases}

@@ -1,7 +1,7 @@
 //! What is checked, the event at hand, and how far the checking came.
 use crate::traffic::TraceTraffic;
 use mesh_atoms::{RouterSettings, Scenario, Seq};
-use mesh_core::ArcsOut;
+use mesh_machine::ArcsOut;
 use mesh_trace::Reader;
 
 /// A trace with its scenario, and the arcs of this by the interfaces that they leave.

@@ -8,7 +8,7 @@ ghost use Rattle.mesh_replay.specs.Checking.Sending.{AreOnFaces, GoesOut, TellsS
 use crate::checking::case::{Case, CheckedEvent, Progress};
 use crate::checking::lines::{DueLine, take_due};
 use mesh_atoms::Bytes;
-use mesh_core::Outbox;
+use mesh_bases::Outbox;
 use std::alloc::{AllocError, Global};
 use std::rc::Rc;
 

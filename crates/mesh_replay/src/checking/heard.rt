@@ -19,8 +19,8 @@ use crate::checking::lines::{DueLine, take_due};
 use crate::checking::router::CheckedRouter;
 use crate::traffic::Delivered;
 use mesh_atoms::{DecodeFault, Scenario};
-use mesh_core::{Arrival, sender_of};
 use mesh_expire::Bases;
+use mesh_machine::{Arrival, sender_of};
 use mesh_packet::{Decoded, decode};
 use std::alloc::{AllocError, Global};
 

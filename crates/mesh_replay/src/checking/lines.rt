@@ -4,7 +4,7 @@ ghost use Rattle.mesh_replay.specs.Checking.Texts.{TakesText, front_text, told_t
 ghost use Rattle.mesh_trace.specs.Reading.Readers.{IsReaderOf};
 
 use mesh_atoms::{Addr4, Bytes, RouterSettings, Scenario};
-use mesh_core::Arrival;
+use mesh_machine::Arrival;
 use mesh_texts::{
     Piece, face_name, put_all, put_heard_line, put_lost_line, put_sent_line, put_tick_line,
 };

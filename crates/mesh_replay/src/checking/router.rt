@@ -13,10 +13,12 @@ ghost use Rattle.mesh_replay.specs.Checking.Events.{AreRowsWith, BeginsEvent, Ch
 ghost use Rattle.mesh_replay.specs.Checking.Kept.{AreFewRows, AreWithinRows, IsAtRest, event_items, hello_items, tc_items};
 
 use mesh_atoms::{Relays, RouterSettings, Seq, TcRow, are_same_rows};
-use mesh_core::{Arrival, InformationBases, Outbox, has_to_advertise, next_moment};
+use mesh_bases::{
+    InformationBases, Outbox, advertised_rows, has_to_advertise, next_moment, no_relays,
+};
 use mesh_expire::Bases;
+use mesh_machine::Arrival;
 use mesh_packet::Decoded;
-use mesh_renewal::{advertised_rows, no_relays};
 use mesh_topo::{PartSpan, parts};
 use std::alloc::{AllocError, Global};
 use std::marker::Model;

@@ -12,7 +12,7 @@ use crate::checking::frames::{send_out, tell_further};
 use crate::checking::octets::{DueMessage, take_message};
 use crate::checking::router::{CheckedRouter, EventLines};
 use mesh_atoms::{Tc, TcRow};
-use mesh_core::tc_of_rows;
+use mesh_bases::tc_of_rows;
 use mesh_expire::Bases;
 use mesh_topo::PartSpan;
 use std::alloc::{AllocError, Global};

@@ -15,8 +15,8 @@ use crate::checking::opening::{opening_net, opening_progress, routers_of};
 use crate::checking::scene::{CheckedNet, Outcome};
 use crate::checking::step::next_event;
 use mesh_atoms::Scenario;
-use mesh_core::ways_of;
 use mesh_expire::Bases;
+use mesh_machine::ways_of;
 use std::alloc::{AllocError, Global};
 
 /// Whether a trace is that of a run of the emulated network of a scenario up to its end: yes exactly where it is whole, and else the first

@@ -9,7 +9,7 @@ ghost use Rattle.mesh_trace.specs.machine.Ways.{AreArcsOut};
 
 use crate::traffic::air::{AwaitedFrames, Delivered};
 use mesh_atoms::{Bytes, Counts, RadioArc, Scenario, Seq};
-use mesh_core::{ArcsOut, Draws, leaving_of, loses};
+use mesh_machine::{ArcsOut, Draws, leaving_of, loses};
 use std::alloc::{AllocError, Global};
 use std::marker::Model;
 use std::rc::Rc;

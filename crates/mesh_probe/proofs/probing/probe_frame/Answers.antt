@@ -9,7 +9,7 @@ use Rattle.mesh_machine.proofs.nhdp.TcCounts.{tc_rows_few}
 use Rattle.mesh_wire.specs.Writes.{WritesLeastTc}
 use Rattle.mesh_probe.proofs.OneTime.{least_is_rounded}
 use Rattle.mesh_probe.proofs.probing.probe_frame.Goals as goal
-use Rattle.mesh_core.proofs.SendingLemmas.Written.{sent_if_some, rows_one_type, rows_whole}
+use Rattle.mesh_bases.proofs.SendingLemmas.Written.{sent_if_some, rows_one_type, rows_whole}
 
 pub write_tc-requires-clause-few : goal.write_tc-requires-clause-few
 write_tc-requires-clause-few g c =

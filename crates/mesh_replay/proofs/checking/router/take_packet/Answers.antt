@@ -4,7 +4,7 @@ use Rattle.mesh_atoms.specs.State.{IsOriginator}
 use Rattle.mesh_packet.specs.declared.packet.Span.{Span}
 use Rattle.mesh_packet.specs.declared.packet.Message.{Message}
 use Rattle.mesh_packet.specs.Fields.{fields_of_message, fields_of_packet}
-use Rattle.mesh_core.proofs.HeldLemmas.Quiet.{both_true, near_after}
+use Rattle.mesh_bases.proofs.HeldLemmas.Quiet.{both_true, near_after}
 use Rattle.mesh_trace.specs.machine.Laws.{SoundBases}
 use Rattle.mesh_trace.specs.machine.Messages.{TakesMessages}
 use Rattle.mesh_trace.proofs.machine.Soundness.{messages_sound}

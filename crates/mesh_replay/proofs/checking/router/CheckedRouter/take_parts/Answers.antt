@@ -3,7 +3,7 @@ use Rattle.std.proofs.lemmas.Bool.{cases_Bool}
 use Rattle.mesh_atoms.specs.declared.settings.RouterSettings.{RouterSettings}
 use Rattle.mesh_replay.proofs.RouterLemmas.Parts.{tcs_due, tcs_early, tcs_silent}
 use Rattle.mesh_replay.proofs.checking.router.CheckedRouter.take_parts.Goals as goal
-use Rattle.mesh_core.proofs.SendingLemmas.PartRows.{runs_within}
+use Rattle.mesh_bases.proofs.SendingLemmas.PartRows.{runs_within}
 
 pub returns-then-self-clause-due : goal.returns-then-self-clause-due
 returns-then-self-clause-due g c = rw (← c.self.view_is) (λ old next number. tcs_early old _ _ _ c.new.ensures (rw next c.if-self.true) (sym next) (sym number))

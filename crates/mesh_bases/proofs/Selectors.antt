@@ -1,0 +1,57 @@
+-- The neighbours that have chosen a router as a routing relay.
+use Rattle.std.proofs.Common.{◌≡◌, ◌<◌, ℕ, inl, inr, refl, sym, ap, subst, arith, ◌∙◌, Bool, true, false, cond, List, [], Option, Some, None}
+use Rattle.std.specs.Prelude.{◌&&◌}
+use Rattle.mesh_atoms.specs.declared.addr.Addr4.{Addr4}
+use Rattle.mesh_atoms.specs.declared.codes.metric.Metric.{Metric}
+use Rattle.mesh_atoms.specs.declared.tuples.Neighbour.{Neighbour}
+use Rattle.mesh_atoms.specs.Base.{Base}
+use Rattle.mesh_atoms.specs.State.{State}
+use Rattle.mesh_topo.specs.declared.advertised.rows.Selector.{Selector}
+use Rattle.mesh_topo.specs.Advertised.Selectors.{HasSelector, IsSelectorOf, AreSelectors}
+use Rattle.mesh_routes.specs.Passes.{Adds, GivenByElement}
+use Rattle.mesh_routes.proofs.Choosing.{adds_same}
+use Rattle.mesh_routes.proofs.Passes.{adds_start, adds_all}
+use Rattle.mesh_bases.specs.Selecting.{selector_metric, IsSelectorBy}
+
+abbrev metric_if : Bool → Bool → Option Metric → Option Metric
+metric_if a b o = cond (a && b) o None
+
+says : (a b : Bool) (o : Option Metric) (m : Metric) → metric_if a b o ≡ Some m → (a ≡ true) × (b ≡ true) × (o ≡ Some m)
+says true true o m h = (refl, refl, h)
+says true false o m h = absurd cc
+says false b o m h = absurd cc
+
+said : (a b : Bool) (o : Option Metric) (m : Metric) → a ≡ true → b ≡ true → o ≡ Some m → metric_if a b o ≡ Some m
+said a b o m p q r = rw (p, q) r
+
+-- one selector more
+pub one_selector : (o : Addr4) (n : Neighbour) (m : Metric) (old new : List Selector) → selector_metric n ≡ Some m → Adds (λ (x : Selector). let y : Selector = record { originator = o; addrs = n.addrs; metric = m } in y ≡ x) old new →
+    Adds (IsSelectorBy o n) old new
+one_selector o n m old new known adds = adds_same old new (λ x is. (m, known, is))
+    (λ x (k, known', is). let both : Some m ≡ Some k = sym known ∙ known' in let same : m ≡ k = cc in ap (λ (j : Metric). let y : Selector = record { originator = o; addrs = n.addrs; metric = j } in y) same ∙ is) adds
+
+-- all of them
+are : (s : State) (selectors : List Selector) → Adds (GivenByElement (λ (e : Addr4 × (Neighbour × ℕ)). IsSelectorBy e.0 e.1.0) s.bases.neighbourhood.neighbours) [] selectors → AreSelectors s selectors
+are s selectors adds = record {
+  each = λ x has. elim (adds.cases x has) [
+    | inl none ↦ let l : none.0 < 0 = none.1 in absurd (omega arith)
+    | inr (e, has_e, (m, known, is)) ↦
+        let (symmetric, selects, out) = says e.1.0.symmetric e.1.0.selector e.1.0.metric_out m known in
+        subst (λ (y : Selector). (n : Neighbour) × HasSelector s y.originator n y.metric × IsSelectorOf y y.originator n y.metric) is
+        (e.1.0, (((e.1.1, has_e), symmetric), selects, out), (refl, refl, λ a. (λ h. h, λ h. h)))
+  ];
+  all = λ o n m (symmetric, selects, out).
+      let x : Selector = record { originator = o; addrs = n.addrs; metric = m } in
+      (x, adds.has x ((o, (n, symmetric.0.0)), symmetric.0.1, (m, said n.symmetric n.selector n.metric_out m symmetric.1 selects out, refl)), (refl, refl, λ a. (λ h. h, λ h. h)));
+}
+
+pub selectors_are : (s : State) (neighbours : Base Addr4 Neighbour) (selectors : List Selector) → s.bases.neighbourhood.neighbours ≡ neighbours →
+    Adds (GivenByElement (λ (e : Addr4 × (Neighbour × ℕ)). IsSelectorBy e.0 e.1.0) neighbours) [] selectors → AreSelectors s selectors
+selectors_are s neighbours selectors same adds =
+    are s selectors (subst (λ (ns : Base Addr4 Neighbour). Adds (GivenByElement (λ (e : Addr4 × (Neighbour × ℕ)). IsSelectorBy e.0 e.1.0) ns) [] selectors) (sym same) adds)
+
+-- without neighbours there is none
+pub no_selectors : (s : State) → s.bases.neighbourhood.neighbours ≡ [] → AreSelectors s []
+no_selectors s none =
+    selectors_are s [] [] none
+    (adds_all (λ (e : Addr4 × (Neighbour × ℕ)). IsSelectorBy e.0 e.1.0) [] 0 [] [] (omega arith) (adds_start (λ (e : Addr4 × (Neighbour × ℕ)). IsSelectorBy e.0 e.1.0) [] []))

@@ -1,0 +1,66 @@
+-- What a router sends can be written.
+use Rattle.mesh_atoms.specs.Writable.{IsSentTime, IsSentIfSome, IsAlone, HaveSenderAlone, HaveStatusWhole, AreOneType, HaveTypeWhole}
+use Rattle.std.proofs.Common.{◌≡◌, ℕ, ◌⊎◌, inl, inr, sym, ap, subst, ◌∙◌, List, [], ◌∷◌, ◌++◌, length, Option, Some, None, Contains, IsTrue}
+use Rattle.std.specs.Prelude.{slice_get, IsSome}
+use Rattle.mesh_atoms.specs.declared.addr.NetAddr.{NetAddr}
+use Rattle.mesh_atoms.specs.declared.hello.Hello.{Hello}
+use Rattle.mesh_atoms.specs.declared.hello.HelloRow.{HelloRow}
+use Rattle.mesh_atoms.specs.declared.tc.TcRow.{TcRow}
+use Rattle.mesh_atoms.specs.Advertised.{AreTcRows, IsTcRow, Of_address, Of_network}
+use Rattle.mesh_atoms.specs.Hello.{IsHelloNow, IsRoundedUp}
+use Rattle.mesh_atoms.specs.declared.settings.RouterSettings.{RouterSettings}
+use Rattle.mesh_atoms.specs.declared.tuples.Relays.{Relays}
+use Rattle.mesh_atoms.specs.State.{Neighbourhood, State}
+use Rattle.mesh_machine.specs.Machine.{no_bases}
+use Rattle.mesh_machine.specs.declared.frame.Frame.{Frame}
+use Rattle.mesh_machine.specs.Sending.{IsHelloFrame}
+use Rattle.mesh_bases.proofs.Pushed.{at_pushed}
+
+-- a state with these settings, this neighbourhood and these relays
+abbrev pub state_with : RouterSettings → Neighbourhood → Relays → State
+state_with settings near relays = record {
+  settings = settings;
+  bases = record (no_bases 0) { neighbourhood = near };
+  relays = relays;
+  routes = [];
+  rows = [];
+  ansn = 0;
+  emptied = None;
+  sequence = 0;
+  next_hello = 0;
+  next_tc = 0;
+  last = 0;
+}
+
+pub sent_time : (ticks time : ℕ) → IsRoundedUp ticks time → IsSentTime time
+sent_time ticks time is = (is.code, is.sent, is.is)
+
+pub sent_if_some : (o : Option ℕ) (ticks time : ℕ) → o ≡ Some time → IsRoundedUp ticks time → IsSentIfSome o
+sent_if_some o ticks time at is = subst (λ (p : Option ℕ). IsSentIfSome p) (sym at) (sent_time ticks time is)
+
+pub no_other : (rows : List HelloRow) → ((row : HelloRow) → Contains rows row → IsSome row.local → IsAlone row) → HaveSenderAlone rows
+no_other rows alone row has local = let is = alone row has local in record { link = is.link; other = is.other; metrics = is.metrics; mpr = is.mpr }
+
+pub status_whole : (s : State) (i now : ℕ) (hello : Hello) → IsHelloNow s i now hello → HaveStatusWhole hello.rows
+status_whole s i now hello is row has says = let (a, row_is) = is.rows row has in ap (λ (n : NetAddr). n.prefix) row_is.addr
+
+pub one_type : (s : State) (row : TcRow) → IsTcRow s row → IsTrue row.origin ⊎ IsTrue row.routable → (row.gateway ≡ None) × (row.dest.prefix ≡ 32)
+one_type s row (Of_address a m dest origin routable gateway metric advertises) says = (gateway, ap (λ (n : NetAddr). n.prefix) dest)
+one_type s row (Of_network distance m origin routable gateway metric advertises) (inl is) = absurd cc
+one_type s row (Of_network distance m origin routable gateway metric advertises) (inr is) = absurd cc
+
+pub rows_one_type : (s : State) (rows : List TcRow) → AreTcRows s rows → AreOneType rows
+rows_one_type s rows are row has says = (one_type s row ((are.exactly row).0 has) says).0
+
+pub rows_whole : (s : State) (rows : List TcRow) → AreTcRows s rows → HaveTypeWhole rows
+rows_whole s rows are row has says = (one_type s row ((are.exactly row).0 has) says).1
+
+-- one frame more
+pub one_frame_more : (s : State) (sent : List Frame) (k : ℕ) (frame : Frame) → length sent ≡ k → ((i : ℕ) (f : Frame) → slice_get sent i ≡ Some f → IsHelloFrame s i f) → IsHelloFrame s k frame →
+    (i : ℕ) (f : Frame) → slice_get (sent ++ frame ∷ []) i ≡ Some f → IsHelloFrame s i f
+one_frame_more s sent k frame count before here i f at = elim (at_pushed sent frame f i at) [
+  | inl old ↦ before i f old
+  | inr new ↦
+      let place : k ≡ i = sym (new.0 ∙ count) in
+      subst (λ (n : ℕ). IsHelloFrame s n f) place (subst (λ (x : Frame). IsHelloFrame s k x) new.1 here)
+]

@@ -1,0 +1,28 @@
+use Rattle.std.proofs.Common.{ℕ, sym, arith, [], List, subst}
+use Rattle.mesh_atoms.specs.declared.addr.Addr4.{Addr4}
+use Rattle.mesh_atoms.specs.declared.tuples.Neighbour.{Neighbour}
+use Rattle.mesh_topo.specs.declared.advertised.rows.Selector.{Selector}
+use Rattle.mesh_routes.specs.Passes.{Adds, Given}
+use Rattle.mesh_routes.proofs.Passes.{adds_start, adds_more, adds_all}
+use Rattle.mesh_bases.specs.Selecting.{IsSelectorBy}
+use Rattle.mesh_atoms.proofs.Lists.{none_within}
+use Rattle.mesh_bases.proofs.advertise.selectors_of.Goals as goal
+use Rattle.mesh_bases.proofs.advertise.selectors_of.Goals.{in-Some+in_ok-put_selector, in_default}
+
+pub loop-place-init : goal.loop-place-init
+loop-place-init g c =
+    subst (λ (l : List Selector). Adds (Given (λ (e : Addr4 × (Neighbour × ℕ)). IsSelectorBy e.0 e.1.0) (g.N.Near4.near c.args.near.now).neighbours 0) [] l) (sym c.new-selectors.ensures.items) (adds_start _ _ [])
+
+pub loop-place-preserved : goal.loop-place-preserved
+loop-place-preserved g c =
+    let base = (g.N.Near4.near c.args.near.now).neighbours in
+    let k = c.loop-place.place in
+    elim c.match-neighbour.branch [
+      | in-Some+in_ok-put_selector w ↦
+          let e : Addr4 × (Neighbour × ℕ) = (w.in-Some.originator.now, (w.in-Some.neighbour.now, w.in-Some.field-0-2)) in
+          rw w.selectors-is (adds_more (λ (d : Addr4 × (Neighbour × ℕ)). IsSelectorBy d.0 d.1.0) base k e [] c.loop-place.selectors.items w.put_selector.new.selectors.items (sym w.in-Some.ensures) c.loop-place.invariant w.in_ok-put_selector.ensures)
+      | in_default w ↦ none_within base k (omega (arith, c.neighbour_count-place-end.ensures)) w.in_default.ensures
+    ]
+
+pub returns : goal.returns
+returns g c = adds_all _ _ c.loop-place.place _ _ (omega (arith, c.neighbour_count-place-end.ensures)) c.loop-place.invariant

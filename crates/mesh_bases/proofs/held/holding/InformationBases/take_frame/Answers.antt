@@ -1,0 +1,78 @@
+use Rattle.std.proofs.Common.{◌<◌, ◌∙◌, IsTrue, length, subst, sym}
+use Rattle.mesh_atoms.specs.declared.settings.RouterSettings.{RouterSettings}
+use Rattle.mesh_atoms.specs.State.{IsOriginator}
+use Rattle.mesh_packet.specs.Grammar.{Spells}
+use Rattle.mesh_bases.specs.Reading.Content.{AreReadAs}
+use Rattle.mesh_bases.proofs.HeldLemmas.Quiet.{advertised_after, both_true, near_after}
+use Rattle.mesh_bases.proofs.HeldLemmas.Taken.{live_held, taken_held}
+use Rattle.mesh_machine.specs.Messages.{TakesMessages}
+use Rattle.mesh_machine.proofs.Takes.{packet_spelled}
+use Rattle.mesh_bases.proofs.held.holding.InformationBases.take_frame.Goals as goal
+
+pub expire-requires-clause-now : goal.expire-requires-clause-now
+expire-requires-clause-now g c = c.requires.now
+
+pub expire-requires-clause-sound : goal.expire-requires-clause-sound
+expire-requires-clause-sound g c = c.requires.sound
+
+pub take_typed-requires-clause-now : goal.take_typed-requires-clause-now
+take_typed-requires-clause-now g c = c.requires.now
+
+pub take_typed-requires-clause-iface : goal.take_typed-requires-clause-iface
+take_typed-requires-clause-iface g c = subst (λ (r : RouterSettings). c.args.arrival.iface < length r.interfaces) (sym c.in_ok-idle.ensures.settings) c.requires.iface
+
+pub take_typed-requires-clause-sound : goal.take_typed-requires-clause-sound
+take_typed-requires-clause-sound g c = live_held c.args.self.now c.expire.new.self c.args.last c.args.arrival.now c.requires.sound c.in_ok-idle.ensures.live c.in_ok-idle.ensures.settings
+
+pub take_typed-requires-clause-messages : goal.take_typed-requires-clause-messages
+take_typed-requires-clause-messages g c =
+    let (packet, spells, reads) = c.requires.packet in
+    let spelled : Spells packet c.as_slice-spans.result.now c.args.bytes.now = rw c.as_slice-spans.ensures spells in
+    let read : AreReadAs packet.messages c.as_slice-typed.result.now = rw c.as_slice-typed.ensures reads in
+    (packet.messages, packet_spelled c.args.bytes.now packet c.as_slice-spans.result.now spelled, read)
+
+pub returns-clause-settings : goal.returns-clause-settings
+returns-clause-settings g c = c.take_typed.ensures.settings ∙ c.in_ok-idle.ensures.settings
+
+pub returns-clause-taken : goal.returns-clause-taken
+returns-clause-taken g c =
+    let (packet, spells, reads) = c.requires.packet in
+    let spelled : Spells packet c.as_slice-spans.result.now c.args.bytes.now = rw c.as_slice-spans.ensures spells in
+    let read : AreReadAs packet.messages c.as_slice-typed.result.now = rw c.as_slice-typed.ensures reads in
+    let (own, given, sent, is_own, fates, out, takes) = c.in_ok-fates.ensures.taken in (
+      given,
+      sent,
+      fates,
+      out,
+      record {
+        packet = packet;
+        spans = c.as_slice-spans.result.now;
+        spelled = spelled;
+        own = own;
+        is_own = subst (λ (r : RouterSettings). IsOriginator r own) c.in_ok-idle.ensures.settings is_own;
+        live = c.expire.new.self.bases;
+        is_live = c.in_ok-idle.ensures.live;
+        takes = subst (λ (r : RouterSettings). TakesMessages r own c.args.arrival c.args.bytes.now c.expire.new.self.bases packet.messages c.as_slice-spans.result.now c.take_typed.new.self.bases sent given) c.in_ok-idle.ensures.settings
+            (takes packet.messages (packet_spelled c.args.bytes.now packet c.as_slice-spans.result.now spelled) read);
+      },
+    )
+
+pub returns-clause-sound : goal.returns-clause-sound
+returns-clause-sound g c =
+    let (packet, spells, reads) = c.requires.packet in
+    let spelled : Spells packet c.as_slice-spans.result.now c.args.bytes.now = rw c.as_slice-spans.ensures spells in
+    let read : AreReadAs packet.messages c.as_slice-typed.result.now = rw c.as_slice-typed.ensures reads in
+    let (own, given, sent, is_own, fates, out, takes) = c.in_ok-fates.ensures.taken in
+    taken_held c.args.self.now c.expire.new.self c.take_typed.new.self c.args.last own c.args.arrival c.args.bytes.now packet.messages c.as_slice-spans.result.now sent given
+    c.requires.sound c.in_ok-idle.ensures.live c.in_ok-idle.ensures.settings (subst (λ (r : RouterSettings). IsOriginator r own) c.in_ok-idle.ensures.settings is_own) c.take_typed.ensures.settings
+    (takes packet.messages (packet_spelled c.args.bytes.now packet c.as_slice-spans.result.now spelled) read)
+
+pub returns-clause-near : goal.returns-clause-near
+returns-clause-near g c = λ both.
+    let (idle, quiet) = both_true c.in_ok-idle.idle.near c.in_ok-fates.quiet.near (subst IsTrue c.and.ensures.near both) in
+    near_after c.args.self.now.bases.neighbourhood c.args.last c.expire.new.self.bases.neighbourhood c.args.arrival.now c.take_typed.new.self.bases.neighbourhood c.args.arrival.now (c.in_ok-idle.ensures.near idle) (c.in_ok-fates.ensures.near quiet)
+
+pub returns-clause-advertised : goal.returns-clause-advertised
+returns-clause-advertised g c = λ both.
+    let (idle, quiet) = both_true c.in_ok-idle.idle.advertised c.in_ok-fates.quiet.advertised (subst IsTrue c.and.ensures.advertised both) in
+    advertised_after c.args.self.now.bases.topology c.expire.new.self.bases.topology c.take_typed.new.self.bases.topology (c.in_ok-idle.ensures.advertised idle) (c.in_ok-fates.ensures.advertised quiet)

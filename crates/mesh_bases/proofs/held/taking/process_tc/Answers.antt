@@ -1,0 +1,40 @@
+use Rattle.std.proofs.Common.{subst, ap, List, length}
+use Rattle.mesh_atoms.specs.declared.settings.Times.{Times}
+use Rattle.mesh_atoms.specs.declared.settings.RouterSettings.{RouterSettings}
+use Rattle.mesh_atoms.specs.State.{Bases}
+use Rattle.mesh_flood.specs.Noting.{AfterNote}
+use Rattle.mesh_machine.specs.declared.frame.Frame.{Frame}
+use Rattle.mesh_machine.specs.Messages.{ConsidersForwarding, forwarding}
+use Rattle.mesh_bases.proofs.HeldLemmas.Fates.{tc_processed, done_does, spelled_hop}
+use Rattle.mesh_bases.proofs.held.taking.process_tc.Goals as goal
+
+pub note-requires-clause-judged : goal.note-requires-clause-judged
+note-requires-clause-judged g c = let (link, selector, answered) = c.judge-verdict.ensures.forward in (c.args.own, link, c.judge-verdict.ensures.process, answered)
+
+pub note-requires-clause-processed : goal.note-requires-clause-processed
+note-requires-clause-processed g c = done_does c.in_ok-read.ensures.reads
+
+pub send_on-requires : goal.send_on-requires
+send_on-requires g c =
+    let (link, selector, answered) = c.judge-verdict.ensures.forward in
+    spelled_hop c.args.received.now.octets.now c.args.received.now.heading.now c.args.arrival.iface c.args.own link c.args.flood.now.noted c.judge-verdict.result.forward c.requires.octets c.requires.message answered
+
+pub returns-clause-taken : goal.returns-clause-taken
+returns-clause-taken g c =
+    let settings : RouterSettings = c.args.nhdp.now.settings in
+    let old : Bases = record { neighbourhood = c.args.nhdp.now.near; topology = c.args.topology.now; noted = c.args.flood.now.noted } in
+    let (link, selector, answered) = c.judge-verdict.ensures.forward in
+    let sent : List Frame = forwarding (length c.settings.result.now.interfaces) c.args.received.now.octets.now c.judge-verdict.result.forward in
+    let considered : ConsidersForwarding settings c.args.own c.args.arrival c.args.received.now.heading.now c.args.received.now.octets.now c.in_ok-read.processed old c.note.new.self.noted sent c.judge-verdict.result.forward =
+    record {
+      link = link;
+      selector = selector;
+      answered = answered;
+      notes = subst (λ (t : Times). AfterNote t c.args.arrival.now c.args.arrival.iface c.args.received.now.heading.now c.in_ok-read.processed c.judge-verdict.result.forward c.args.flood.now.noted c.note.new.self.noted) c.requires.times c.in_ok-note.ensures.ok;
+      sends = ap (λ (r : RouterSettings). forwarding (length r.interfaces) c.args.received.now.octets.now c.judge-verdict.result.forward) c.settings.ensures;
+    } in (
+      sent,
+      c.in_ok-send_on.ensures,
+      tc_processed settings c.args.own c.args.arrival old c.args.received.now.tc.now c.args.received.now.heading.now c.args.received.now.octets.now c.read_tc.new.topology c.note.new.self.noted sent c.judge-verdict.result.forward
+          c.in_ok-read.read c.in_ok-read.processed c.judge-verdict.result.process c.judge-verdict.ensures.process c.in_ok-read.ensures.reads considered,
+    )

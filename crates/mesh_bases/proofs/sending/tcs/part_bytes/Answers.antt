@@ -1,0 +1,45 @@
+use Rattle.std.proofs.Common.{◌≡◌, List, length, sym, ap, subst, arith, ◌∙◌}
+use Rattle.std.specs.List.{AllPairs}
+use Rattle.mesh_atoms.specs.declared.tc.TcRow.{TcRow}
+use Rattle.mesh_atoms.specs.Nodes.{IsBefore}
+use Rattle.mesh_atoms.specs.Writable.{AreOneType, HaveTypeWhole}
+use Rattle.mesh_topo.specs.Advertised.Spans.{part_of}
+use Rattle.mesh_machine.specs.Sending.{IsTcOfRows}
+use Rattle.mesh_bases.proofs.SendingLemmas.PartRows.{part_length, part_ordered, part_one_type, part_whole}
+use Rattle.mesh_bases.proofs.SendingLemmas.Written.{rows_one_type, rows_whole}
+use Rattle.mesh_bases.proofs.sending.tcs.part_bytes.Goals as goal
+use Rattle.mesh_atoms.proofs.Options.{if_ok_weaker}
+
+pub rows_of-rows-requires : goal.rows_of-rows-requires
+rows_of-rows-requires c = let within = c.requires.within in let same = ap (λ (rows : List TcRow). length rows) c.as_slice.ensures in omega (arith, within, same)
+
+pub tc_of_rows-requires-clause-ordered : goal.tc_of_rows-requires-clause-ordered
+tc_of_rows-requires-clause-ordered c =
+    let is : c.rows_of-rows.result.now ≡ part_of c.args.derived.now.rows c.args.span = c.rows_of-rows.ensures ∙ ap (λ (rows : List TcRow). part_of rows c.args.span) c.as_slice.ensures in
+    subst (λ (rows : List TcRow). AllPairs (λ r t. IsBefore r.dest t.dest) rows) (sym is)
+    (part_ordered (λ (r t : TcRow). IsBefore r.dest t.dest) c.args.derived.now.rows c.args.span.first c.args.span.len c.requires.within c.requires.rows.1.ordered)
+
+pub write_tc-requires-clause-few : goal.write_tc-requires-clause-few
+write_tc-requires-clause-few c =
+    let is : c.in_ok-tc.tc.rows ≡ part_of c.args.derived.now.rows c.args.span = c.in_ok-tc.ensures.rows ∙ (c.rows_of-rows.ensures ∙ ap (λ (rows : List TcRow). part_of rows c.args.span) c.as_slice.ensures) in
+    let size = ap (λ (rows : List TcRow). length rows) is ∙ part_length c.args.derived.now.rows c.args.span.first c.args.span.len c.requires.within in
+    let within = c.requires.within in let few = c.requires.few in omega (arith, size, within, few)
+
+pub write_tc-requires-clause-kinds : goal.write_tc-requires-clause-kinds
+write_tc-requires-clause-kinds c =
+    let is : c.in_ok-tc.tc.rows ≡ part_of c.args.derived.now.rows c.args.span = c.in_ok-tc.ensures.rows ∙ (c.rows_of-rows.ensures ∙ ap (λ (rows : List TcRow). part_of rows c.args.span) c.as_slice.ensures) in
+    subst (λ (rows : List TcRow). AreOneType rows) (sym is) (part_one_type c.args.derived.now.rows c.args.span.first c.args.span.len (rows_one_type c.requires.rows.0 c.args.derived.now.rows c.requires.rows.1))
+
+pub write_tc-requires-clause-whole : goal.write_tc-requires-clause-whole
+write_tc-requires-clause-whole c =
+    let is : c.in_ok-tc.tc.rows ≡ part_of c.args.derived.now.rows c.args.span = c.in_ok-tc.ensures.rows ∙ (c.rows_of-rows.ensures ∙ ap (λ (rows : List TcRow). part_of rows c.args.span) c.as_slice.ensures) in
+    subst (λ (rows : List TcRow). HaveTypeWhole rows) (sym is) (part_whole c.args.derived.now.rows c.args.span.first c.args.span.len (rows_whole c.requires.rows.0 c.args.derived.now.rows c.requires.rows.1))
+
+pub returns : goal.returns
+returns c =
+    let is : c.rows_of-rows.result.now ≡ part_of c.args.derived.now.rows c.args.span = c.rows_of-rows.ensures ∙ ap (λ (rows : List TcRow). part_of rows c.args.span) c.as_slice.ensures in
+    if_ok_weaker c.write_tc.result (λ bytes writes. (
+      c.in_ok-tc.tc,
+      writes,
+      λ s settings has. subst (λ (rows : List TcRow). IsTcOfRows s c.args.validity.now c.args.complete c.args.sequence rows c.in_ok-tc.tc) is (c.in_ok-tc.ensures.is s settings has.ansn),
+    )) c.write_tc.ensures.writes

@@ -1,6 +1,0 @@
-use Rattle.std.proofs.Common.{◌≡◌, ◌++◌}
-use Rattle.mesh_machine.specs.Frames.{on_each}
-use Rattle.mesh_core.proofs.held.outbox.Outbox.send_on_each.Given as goal
-
-abbrev pub invariant-loop-iface : goal.invariant-loop-iface
-invariant-loop-iface l = l.self ≡ l.initial.self ++ on_each l.iface l.bytes

@@ -1,9 +1,0 @@
--- Lemmas for crates above, each file with the crates that cite it.
-pub mod Existing  -- core
-pub mod Moments  -- replay
-pub mod Pushed  -- core
-pub mod RowMoments  -- replay
-pub mod Staying  -- core, replay
--- Lemmas of this crate alone.
-mod Chosen
-mod Selectors

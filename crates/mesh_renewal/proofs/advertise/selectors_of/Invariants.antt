@@ -1,7 +1,0 @@
-use Rattle.std.proofs.Common.{[]}
-use Rattle.mesh_routes.specs.Passes.{Adds, Given}
-use Rattle.mesh_renewal.specs.Selecting.{IsSelectorBy}
-use Rattle.mesh_renewal.proofs.advertise.selectors_of.Given as goal
-
-abbrev pub invariant-loop-place : goal.invariant-loop-place
-invariant-loop-place g l = Adds (Given (λ e. IsSelectorBy e.0 e.1.0) (g.N.Near4.near l.near).neighbours l.place) [] l.selectors.items

@@ -1,7 +1,0 @@
-use Rattle.std.proofs.Common.{sym, subst, List}
-use Rattle.mesh_atoms.specs.declared.tc.TcRow.{TcRow}
-use Rattle.mesh_atoms.specs.Advertised.{AreTcRows}
-use Rattle.mesh_renewal.proofs.derived.Derived.renew_rows.Goals as goal
-
-pub returns-clause-rows : goal.returns-clause-rows
-returns-clause-rows g c = λ s settings near. subst (λ (rows : List TcRow). AreTcRows s rows) (sym c.take_rows.ensures.rows) (c.in_ok-rows.ensures s settings near)

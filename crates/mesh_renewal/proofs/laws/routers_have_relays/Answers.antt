@@ -1,5 +1,0 @@
-use Rattle.mesh_renewal.proofs.Existing.{relays_exist}
-use Rattle.mesh_renewal.proofs.laws.routers_have_relays.Goals as goal
-
-pub returns : goal.returns
-returns c = relays_exist

@@ -1,3 +1,0 @@
-pub mod Existing
-pub mod Renewed
-pub mod Selecting
