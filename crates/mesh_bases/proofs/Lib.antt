@@ -2,11 +2,11 @@
 pub mod Existing  -- core
 pub mod HeldLemmas  -- core, replay
 pub mod Moments  -- replay
-pub mod Pushed  -- core
-pub mod RowMoments  -- replay
-pub mod SendingLemmas  -- core, replay
+pub mod RowMoments  -- core, replay
+pub mod SendingLemmas  -- probe, replay
 pub mod Staying  -- core, replay
 -- Lemmas of this crate alone.
 mod Chosen
+mod Pushed
 mod ReadingLemmas
 mod Selectors
