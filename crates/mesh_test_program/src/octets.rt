@@ -1,13 +1,5 @@
-//! Frames that several tests look at.
+//! A frame that several tests hear.
 
-/// The HELLO of a router 10.0.0.1 that hears nobody, valid for 49152 ticks and sent each 16384: its message TLV block stands at 9, its
-/// address TLV block at 29.
+/// The HELLO of a router 10.0.0.1 that hears nobody, valid for 49152 ticks and sent each 16384.
 pub(crate) const LONE: &[u8; 35] =
     b"\x00\x00\x83\x00\x22\x0a\x00\x00\x01\x00\x0c\x01\x10\x01\x64\x00\x10\x01\x58\x07\x10\x01\x77\x01\x00\x0a\x00\x00\x01\x00\x04\x02\x10\x01\x00";
-
-/// A TC of 10.0.0.2 with a validity of 2 s up to 2 hops away, and of 15 s further out; as it is sent, and as it comes from 3 hops away.
-pub(crate) const BY_DISTANCE: &[u8] =
-    b"\x00\x01\xf3\x00\x1d\x0a\x00\x00\x02\xff\x00\x00\x05\x00\x0f\x01\x10\x03\x58\x02\x6f\x00\x10\x01\x62\x08\x10\x02\x00\x07";
-
-pub(crate) const FROM_AFAR: &[u8] =
-    b"\x00\x01\xf3\x00\x1d\x0a\x00\x00\x02\xfd\x02\x00\x05\x00\x0f\x01\x10\x03\x58\x02\x6f\x00\x10\x01\x62\x08\x10\x02\x00\x07";

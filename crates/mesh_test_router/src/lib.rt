@@ -1,27 +1,12 @@
-//! Tests of a router: what it holds (its tables and the sets over them, its neighbourhood, its topology, the messages that it has
-//! seen), by worked calls, and what it hears and sends, by frames; over plain lists, over indexed tables and over tables that hold
-//! nothing.
+//! Tests of routers by the frames that they hear and send, over plain lists, over indexed tables and over tables that hold nothing; of
+//! calls that a router doesn't make; and of the tables by drawn calls.
 #![tactic(auto)]
 
 #[cfg(test)]
-mod fixtures;
+mod calls;
+#[cfg(test)]
+mod draws;
 #[cfg(test)]
 mod frames;
 #[cfg(test)]
-mod near;
-#[cfg(test)]
-mod rows;
-#[cfg(test)]
-mod rules;
-#[cfg(test)]
 mod runs;
-#[cfg(test)]
-mod sets;
-#[cfg(test)]
-mod tables;
-#[cfg(test)]
-mod topology;
-#[cfg(test)]
-mod tried;
-#[cfg(test)]
-mod values;

@@ -1,6 +1,4 @@
-//! Relays, certificates of routes, and radio graphs, on worked graphs whose answers are written by hand. Settled networks and their
-//! routes are cases of the program's text.
+//! Relays and least walks by the calls that the program doesn't make, and what the greedy choice of relays gives.
 
 mod paths;
-mod radio;
 mod relays;

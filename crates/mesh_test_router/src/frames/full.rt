@@ -1,10 +1,10 @@
 //! Sets that are full: one of each kind by frames that a router hears, over indexed tables.
-use crate::fixtures::{ONE, THREE};
 use crate::frames::looks::{EMPTY, Held, Look};
 use crate::frames::octets::{CHOOSES_TWO, HEARS_TWO, LONE, ONE_SAYS, PACKET, Part};
 use crate::frames::steps::Event::{Hears, Looks};
 use crate::frames::steps::Step::{At, Count};
 use crate::frames::steps::{Answer, HEARD};
+use crate::frames::{ONE, THREE};
 use crate::runs::{Case, Run};
 use mesh_atoms::Base;
 use mesh_core::Read;
@@ -239,7 +239,7 @@ const FULL_OF_FORWARDED: Answer = Answer::Taken(&[(
 
 const SEEN: Answer = Answer::Taken(&[(1, Read::Other, Forward::Seen { until: 1820 })]);
 
-pub(crate) static CASES: [Case; 6] = [
+pub(crate) static CASES: [Case; 5] = [
     (
         "addresses of neighbours fill their set",
         Run::Frames(
@@ -288,24 +288,6 @@ pub(crate) static CASES: [Case; 6] = [
                     0,
                     Looks(Look::Holds(Held {
                         last: 300,
-                        near: [1, 16384, 1, 0],
-                        ..EMPTY
-                    })),
-                ),
-            ],
-        ),
-    ),
-    (
-        "a HELLO of as many 2-hop neighbours as there is room for, and one of one more",
-        Run::Frames(
-            ROUTERS,
-            &[
-                At(0, Hears(100, ONE, MOST_TWO_HOPS, HEARD)),
-                At(0, Hears(200, ONE, TOO_MANY_TWO_HOPS, FULL_OF_TWO_HOPS)),
-                At(
-                    0,
-                    Looks(Look::Holds(Held {
-                        last: 200,
                         near: [1, 16384, 1, 0],
                         ..EMPTY
                     })),

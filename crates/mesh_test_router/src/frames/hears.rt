@@ -1,12 +1,12 @@
 //! A router that hears TCs, and messages of other types.
-use crate::fixtures::{FAR, LinkHas, ONE};
 use crate::frames::looks::{Held, Look};
 use crate::frames::octets::{CHOOSES_TWO, ONE_SAYS, PACKET, Part};
 use crate::frames::steps::Answer;
 use crate::frames::steps::Event::{Hears, Looks};
 use crate::frames::steps::Step::{At, Count, Sent};
+use crate::frames::{FAR, ONE};
 use crate::runs::{Case, Run};
-use mesh_atoms::{Addr4, LinkState};
+use mesh_atoms::Addr4;
 use mesh_core::Read;
 use mesh_flood::{Forward, Heading, Process};
 
@@ -231,16 +231,6 @@ const SEEN: Answer = Answer::Taken(&[
 
 const ENDS: Answer = Answer::Taken(&[(1, Read::Other, Forward::NoHops)]);
 
-/// The link with 10.0.0.1, which has chosen the router.
-const LINK: LinkHas = LinkHas {
-    heard: 49252,
-    sym: 49252,
-    until: 98404,
-    link_in: 1,
-    link_out: Some(1),
-    selector: true,
-};
-
 pub(crate) static CASES: [Case; 3] = [
     (
         "a TC is valid by its distance",
@@ -249,13 +239,8 @@ pub(crate) static CASES: [Case; 3] = [
             &[
                 At(0, Hears(0, ONE, NEAR_BY, TAKEN)),
                 At(0, Looks(Look::Kept(Some((7, 16384))))),
-                At(0, Looks(Look::Tuple(FAR, 0x0a08_0001, Some((7, 1, 16384))))),
                 At(0, Hears(0, ONE, FROM_AFAR, TAKEN)),
                 At(0, Looks(Look::Kept(Some((8, 122880))))),
-                At(
-                    0,
-                    Looks(Look::Tuple(FAR, 0x0a08_0001, Some((8, 1, 122880)))),
-                ),
                 Count(0),
             ],
         ),
@@ -266,32 +251,15 @@ pub(crate) static CASES: [Case; 3] = [
             TWO_INTERFACES,
             &[
                 At(0, Hears(0, ONE, FIRST, TAKEN)),
-                At(
-                    0,
-                    Looks(Look::Tuple(FAR, 0x0a08_0001, Some((65535, 1, 122880)))),
-                ),
                 At(0, Hears(0, ONE, AGAIN, DONE)),
-                At(
-                    0,
-                    Looks(Look::Tuple(FAR, 0x0a08_0001, Some((65535, 1, 122880)))),
-                ),
                 At(0, Hears(0, ONE, OLDER, OLD)),
-                At(
-                    0,
-                    Looks(Look::Tuple(FAR, 0x0a08_0001, Some((65535, 1, 122880)))),
-                ),
+                At(0, Looks(Look::Kept(Some((65535, 122880))))),
                 At(0, Looks(ONE_ROW)),
                 At(0, Hears(0, ONE, ROUND, TAKEN)),
-                At(
-                    0,
-                    Looks(Look::Tuple(FAR, 0x0a08_0004, Some((0, 1, 122880)))),
-                ),
+                At(0, Looks(Look::Kept(Some((0, 122880))))),
                 At(0, Looks(ONE_ROW)),
                 At(0, Hears(0, ONE, HALF_ROUND, TAKEN)),
-                At(
-                    0,
-                    Looks(Look::Tuple(FAR, 0x0a08_0005, Some((32768, 1, 122880)))),
-                ),
+                At(0, Looks(Look::Kept(Some((32768, 122880))))),
                 At(0, Looks(ONE_ROW)),
                 Count(0),
             ],
@@ -305,10 +273,6 @@ pub(crate) static CASES: [Case; 3] = [
                 At(0, Looks(Look::Noted(TC_HEADING, false))),
                 At(0, Hears(100, ONE, THREE_MESSAGES, ONWARD)),
                 Sent(SENT),
-                At(
-                    0,
-                    Looks(Look::Link(ONE, Some((LinkState::Symmetric, LINK)))),
-                ),
                 At(0, Looks(Look::Noted(TC_HEADING, true))),
                 At(0, Looks(Look::Noted(OTHER_HEADING, true))),
                 At(0, Looks(Look::Noted(MIXED_HEADING, false))),

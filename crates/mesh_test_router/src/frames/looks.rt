@@ -1,7 +1,5 @@
 //! What is seen of a router.
-use crate::fixtures::{LinkHas, TupleHas, link_has, link_key, router_key, tuple_has};
-use crate::values::metric;
-use mesh_atoms::{Addr4, Advertiser, LinkState, NetAddr, Relays, Route, TcRow};
+use mesh_atoms::{Addr4, Advertiser, NetAddr, Relays, Route};
 use mesh_core::RouterView;
 use mesh_expire::Table;
 use mesh_flood::Heading;
@@ -27,15 +25,14 @@ pub(crate) const EMPTY: Held = Held {
 };
 
 /// What is seen beside the view of a router: whether it is spent, the moments of its last event and of the next one that is due, how many
-/// advertisers it has, and of 10.9.9.9 the number that is kept and until when; and its advertised rows, with their ANSN.
+/// advertisers it has, of 10.9.9.9 the number that is kept and until when, and its own ANSN.
 #[derive(Clone, Copy)]
-pub(crate) struct Beside<'a> {
+pub(crate) struct Beside {
     pub(crate) spent: bool,
     pub(crate) last: u64,
     pub(crate) due: u64,
     pub(crate) advertisers: usize,
     pub(crate) kept: Option<(u16, u64)>,
-    pub(crate) rows: &'a [TcRow],
     pub(crate) ansn: u16,
 }
 
@@ -70,55 +67,12 @@ fn held_by<V: RouterView>(view: &V, beside: &Beside) -> Held {
     }
 }
 
-/// A link of the first interface, with its state at the last event.
-fn link_of<V: RouterView>(view: &V, addr: u32) -> Option<(LinkState, LinkHas)> {
-    match view.link_of(0, &link_key(addr)) {
-        Some((link, until)) => Some((link.state(view.last()), link_has(link, until))),
-        None => None,
-    }
-}
-
-/// The router tuple that leads from one router to another.
-fn tuple_of<V: RouterView>(view: &V, from: u32, to: u32) -> Option<TupleHas> {
-    match view.router_of(&router_key(from, to)) {
-        Some((tuple, until)) => Some(tuple_has(tuple, until)),
-        None => None,
-    }
-}
-
 /// Whether the one router is the only relay, for flooding on the first interface and for routing; or whether there is none.
 fn are_relays(relays: &Relays, wanted: &[Addr4]) -> bool {
     match relays.flooding.get(0) {
         Some(flooding) => flooding.as_slice() == wanted && relays.routing.as_slice() == wanted,
         None => false,
     }
-}
-
-/// The row of a router that is a neighbour at that cost.
-fn row_of(addr: u32, cost: u16) -> TcRow {
-    TcRow {
-        dest: NetAddr {
-            addr: Addr4(addr),
-            prefix: 32,
-        },
-        origin: true,
-        routable: true,
-        gateway: None,
-        metric: Some(metric(cost)),
-    }
-}
-
-fn advertise(rows: &[TcRow], wanted: &[(u32, u16)]) -> bool {
-    if rows.len() != wanted.len() {
-        return false;
-    }
-    for place in 0..rows.len() {
-        let (addr, cost) = wanted[place];
-        if rows[place] != row_of(addr, cost) {
-            return false;
-        }
-    }
-    true
 }
 
 /// A route on the first interface: the address and the prefix length of where it leads, the cost, the next address, and the address of
@@ -154,17 +108,11 @@ fn are_routes(routes: &[Route], wanted: &[RouteHas]) -> bool {
 pub(crate) enum Look {
     Spent(bool),
     Holds(Held),
-    // the address; the link, and its state at the last event
-    Link(u32, Option<(LinkState, LinkHas)>),
-    // from where to where the tuple leads; the tuple
-    Tuple(u32, u32, Option<TupleHas>),
     // of 10.9.9.9: the number, and until when
     Kept(Option<(u16, u64)>),
     // for flooding on the first interface, and for routing
     Relays(&'static [Addr4]),
     Routes(&'static [RouteHas]),
-    // the neighbours that are advertised, with the cost to each
-    Rows(&'static [(u32, u16)]),
     // whether the message was noted
     Noted(Heading, bool),
     // whether a set of messages is full
@@ -176,12 +124,9 @@ pub(crate) fn shows<V: RouterView>(view: &V, beside: &Beside, look: &Look) -> bo
     match *look {
         Look::Spent(want) => beside.spent == want,
         Look::Holds(want) => held_by(view, beside) == want,
-        Look::Link(addr, want) => link_of(view, addr) == want,
-        Look::Tuple(from, to, want) => tuple_of(view, from, to) == want,
+        Look::Kept(want) => beside.kept == want,
         Look::Relays(want) => are_relays(view.relays(), want),
         Look::Routes(want) => are_routes(view.routes(), want),
-        Look::Rows(want) => advertise(beside.rows, want),
-        Look::Kept(want) => beside.kept == want,
         Look::Noted(heading, want) => view.has_noted(&heading) == want,
         Look::Full(want) => view.has_full_set() == want,
     }

@@ -1,13 +1,12 @@
 //! Three routers in a row, a, b and c, whose frames are handed to each other, until each has routes to all that is there.
-use crate::fixtures::{LinkHas, ONE, THREE, TWO};
 use crate::frames::looks::{Held, Look, RouteHas};
 use crate::frames::octets::Part;
 use crate::frames::steps::Event::{Hears, Looks, Ticks};
-use crate::frames::steps::Step::{At, Count, Tells};
+use crate::frames::steps::Step::{At, Count};
 use crate::frames::steps::{Answer, HEARD};
-use crate::rows::{Row, Telling};
+use crate::frames::{ONE, THREE, TWO};
 use crate::runs::{Case, Run};
-use mesh_atoms::{Addr4, LinkState};
+use mesh_atoms::Addr4;
 use mesh_core::Read;
 use mesh_flood::{Forward, Process};
 
@@ -71,14 +70,6 @@ const TAKEN: Answer = Answer::Taken(&[(1, Read::Topology, Forward::NotSelector)]
 
 const BACK: Answer = Answer::Taken(&[(1, Read::Passed(Process::Own), Forward::Own)]);
 
-/// What c says when it has chosen b as its relay.
-const CHOOSES: Telling = Telling::All(THREE, &[Row::Relay(TWO, 4, 5), Row::This(THREE)]);
-
-/// The neighbours that b advertises, at first and then.
-const ROWS_FIRST: &[(u32, u16)] = &[(THREE, 4)];
-
-const ROWS: &[(u32, u16)] = &[(ONE, 3), (THREE, 4)];
-
 /// Where each leads, at first and in the end.
 const TO_B: RouteHas = (TWO, 32, 2, TWO, ONE);
 
@@ -108,16 +99,6 @@ const AT_C_FIRST: &[RouteHas] = &[(ONE, 32, 8, TWO, TWO), (TWO, 32, 5, TWO, THRE
 
 const RELAY: &[Addr4] = &[Addr4(TWO)];
 
-/// The link of b with a, when both have chosen b.
-const LINK: LinkHas = LinkHas {
-    heard: 81929,
-    sym: 81929,
-    until: 131081,
-    link_in: 2,
-    link_out: Some(3),
-    selector: true,
-};
-
 /// What a holds at the end.
 const HELD: Held = Held {
     last: 45065,
@@ -125,6 +106,15 @@ const HELD: Held = Held {
     near: [1, 1, 1, 0],
     far: [1, 2, 2, 0],
     ansn: 0,
+};
+
+/// What b holds once c is lost: its address is, and the link stays for the hold time.
+const LOST: Held = Held {
+    last: 73737,
+    due: 86016,
+    near: [2, 0, 2, 1],
+    far: [1, 0, 0, 1],
+    ansn: 3,
 };
 
 pub(crate) static CASES: [Case; 1] = [(
@@ -161,17 +151,10 @@ pub(crate) static CASES: [Case; 1] = [(
             Count(1),
             // they choose it as their relay, and it advertises them
             At(C, Ticks(24576, Some(40960))),
-            Tells(0, 0, CHOOSES),
             At(B, Hears(24585, THREE, FIRST_SENT, HEARD)),
-            At(B, Looks(Look::Rows(ROWS_FIRST))),
             Count(1),
             At(A, Ticks(32768, Some(40960))),
             At(B, Hears(32777, ONE, FIRST_SENT, HEARD)),
-            At(B, Looks(Look::Rows(ROWS))),
-            At(
-                B,
-                Looks(Look::Link(ONE, Some((LinkState::Symmetric, LINK)))),
-            ),
             Count(1),
             // a advertises its network, by way of b
             At(A, Ticks(40960, Some(49152))),
@@ -186,10 +169,12 @@ pub(crate) static CASES: [Case; 1] = [(
             At(A, Hears(45065, TWO, FIRST_SENT, HEARD)),
             At(A, Hears(45065, TWO, SECOND_SENT, TAKEN)),
             Count(2),
-            At(A, Looks(Look::Tuple(TWO, ONE, Some((2, 3, 167945))))),
-            At(A, Looks(Look::Tuple(TWO, THREE, Some((2, 4, 167945))))),
             At(A, Looks(Look::Holds(HELD))),
             At(A, Looks(Look::Routes(AT_A))),
+            // what c said last is valid up to now; two HELLOs are late, and one is sent for both
+            At(B, Ticks(73737, Some(86016))),
+            At(B, Looks(Look::Holds(LOST))),
+            Count(1),
         ],
     ),
 )];

@@ -1,10 +1,7 @@
 //! Steps of routers: what happens to them, and what must come of each.
-use crate::fixtures::FAR;
+use crate::frames::FAR;
 use crate::frames::looks::{Beside, Look, kept_of, shows};
 use crate::frames::octets::{Part, frame_of};
-use crate::frames::reads::is_hello;
-use crate::rows::Telling;
-use crate::tried::Tried;
 use mesh_atoms::{Addr4, Refusal, RouterSettings};
 use mesh_config::scenario_of;
 use mesh_core::{Core, Fate, Heard, Outbox, Read};
@@ -82,8 +79,6 @@ pub(crate) enum Event {
 pub(crate) enum Step {
     // the router's number, and what happens to it
     At(usize, Event),
-    // the place of a frame among those that were sent, its interface, and the HELLO that it is
-    Tells(usize, usize, Telling),
     // the frames that were sent, with their interfaces; they are forgotten then
     Sent(&'static [(usize, &'static [Part])]),
     // how many were sent; they are forgotten then
@@ -107,7 +102,7 @@ pub(crate) trait Router: Sized + Drop {
     /// Lets its clock tick; nothing where the moment is before the last event.
     fn ticks(&mut self, out: &mut Outbox, now: u32) -> Option<Result<(), AllocError>>;
 
-    fn beside(&self) -> Beside<'_>;
+    fn beside(&self) -> Beside;
 
     fn looks(&self, look: &Look) -> bool;
 }
@@ -139,8 +134,8 @@ impl<B: Bases> Router for Core<B> {
         Some(self.tick(now, out))
     }
 
-    fn beside(&self) -> Beside<'_> {
-        let (rows, ansn) = self.advertised();
+    fn beside(&self) -> Beside {
+        let (_, ansn) = self.advertised();
         let advertisers = self.topology().advertisers();
         Beside {
             spent: self.is_spent(),
@@ -148,7 +143,6 @@ impl<B: Bases> Router for Core<B> {
             due: self.due(),
             advertisers: advertisers.len(),
             kept: kept_of(advertisers, FAR),
-            rows,
             ansn,
         }
     }
@@ -227,18 +221,10 @@ fn are_sent(alloc: Global, out: &Outbox, wanted: &[(usize, &[Part])]) -> Result<
     Ok(out.len() == wanted.len())
 }
 
-fn is_told(alloc: Global, out: &Outbox, place: usize, iface: usize, telling: Telling) -> bool {
-    match out.frame(place) {
-        Some((on, octets)) => on == iface && is_hello(alloc, octets, telling),
-        None => false,
-    }
-}
-
 /// Whether what was sent is as a step says that looks at it.
 fn shows_sent(alloc: Global, out: &mut Outbox, step: &Step) -> Result<bool, AllocError> {
     match *step {
         Step::At(..) => Ok(false),
-        Step::Tells(place, iface, telling) => Ok(is_told(alloc, out, place, iface, telling)),
         Step::Sent(wanted) => {
             let right = are_sent(alloc, out, wanted)?;
             out.clear();
@@ -282,7 +268,7 @@ fn start_each<R: Router>(
     Ok(())
 }
 
-/// The same of those that settings tell; none where they are refused.
+/// Starts the routers that settings tell; none where they are refused.
 fn start_all<R: Router>(
     alloc: Global,
     settings: &[u8],
@@ -294,28 +280,28 @@ fn start_all<R: Router>(
     }
 }
 
-/// The routers of a scenario, and what they have sent.
-#[derive(Drop)]
-pub(crate) struct Network<R> {
-    routers: Vec<R>,
-    out: Outbox,
+fn are_taken<R: Router>(
+    alloc: Global,
+    routers: &mut [R],
+    out: &mut Outbox,
+    steps: &[Step],
+) -> Result<bool, AllocError> {
+    for step in steps {
+        if !is_taken(alloc, routers, out, step)? {
+            return Ok(false);
+        }
+    }
+    Ok(true)
 }
 
-impl<R: Router> Tried for Network<R> {
-    type Setup = &'static [u8];
-
-    type Call = Step;
-
-    fn start(alloc: Global, settings: &&'static [u8]) -> Result<Network<R>, AllocError> {
-        let mut routers = Vec::new(alloc);
-        start_all(alloc, *settings, &mut routers)?;
-        Ok(Network {
-            routers,
-            out: Outbox::new(alloc),
-        })
-    }
-
-    fn answers(&mut self, alloc: Global, step: &Step) -> Result<bool, AllocError> {
-        is_taken(alloc, self.routers.as_mut_slice(), &mut self.out, step)
-    }
+/// Whether each step of the routers that settings tell comes to what it must.
+pub(crate) fn goes_right<R: Router>(
+    alloc: Global,
+    settings: &[u8],
+    steps: &[Step],
+) -> Result<bool, AllocError> {
+    let mut routers = Vec::<R>::new(alloc);
+    start_all(alloc, settings, &mut routers)?;
+    let mut out = Outbox::new(alloc);
+    are_taken(alloc, routers.as_mut_slice(), &mut out, steps)
 }

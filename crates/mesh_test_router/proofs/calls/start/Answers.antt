@@ -1,4 +1,4 @@
-use Rattle.mesh_test_router.proofs.near.listener.NhdpListener.start.Goals as goal
+use Rattle.mesh_test_router.proofs.calls.start.Goals as goal
 
 -- an empty neighbourhood is sound at every moment
 pub returns : goal.returns

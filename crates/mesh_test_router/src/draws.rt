@@ -14,6 +14,7 @@ enum Reply {
     Renewed(Option<u64>),
     Removed(bool),
     Set(bool),
+    Written(Option<u64>),
     Expired(usize),
 }
 
@@ -28,9 +29,9 @@ struct Draw {
 
 fn draw_of(word: u32, value: u64) -> Draw {
     Draw {
-        kind: word % 6,
-        key: Addr4(word / 6 % 32),
-        moment: u64::from(word / 192 % 64),
+        kind: word % 7,
+        key: Addr4(word / 7 % 32),
+        moment: u64::from(word / 224 % 64),
         value,
     }
 }
@@ -49,6 +50,18 @@ fn remove_by_place<T: PlacedTable<Addr4, u64>>(table: &mut T, key: Addr4) -> boo
     false
 }
 
+/// Writes a value where the key is there, and gives the one before.
+fn write<T: Table<Addr4, u64>>(table: &mut T, key: &Addr4, value: u64) -> Option<u64> {
+    match table.value_mut(key) {
+        Some(place) => {
+            let old = *place;
+            *place = value;
+            Some(old)
+        }
+        None => None,
+    }
+}
+
 fn call<T: PlacedTable<Addr4, u64>>(table: &mut T, draw: Draw) -> Result<Reply, AllocError> {
     match draw.kind {
         0 => {
@@ -59,6 +72,7 @@ fn call<T: PlacedTable<Addr4, u64>>(table: &mut T, draw: Draw) -> Result<Reply, 
         2 => Ok(Reply::Removed(table.remove(&draw.key))),
         3 => Ok(Reply::Removed(remove_by_place(table, draw.key))),
         4 => Ok(Reply::Set(table.set_until(&draw.key, draw.moment)?)),
+        5 => Ok(Reply::Written(write(table, &draw.key, draw.value))),
         _ => Ok(Reply::Expired(table.expire(draw.moment))),
     }
 }

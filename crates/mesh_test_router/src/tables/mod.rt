@@ -1,5 +1,0 @@
-//! Tables by themselves.
-
-pub(crate) mod callers;
-mod draws;
-pub(crate) mod worked;
