@@ -10,7 +10,7 @@ use Rattle.mesh_paths.specs.Search.{Settles}
 use Rattle.mesh_paths.specs.Tree.{OffersTo, IsAsGood, MeetsRow, IsGrounded, IsClosed, IsTree}
 use Rattle.mesh_paths.proofs.NewOffers.{HasRow, HasNoRow, row_or_none, Leads, IsNew, IsLeastNew, least_new, put_in}
 use Rattle.mesh_paths.proofs.Order.{as_good_itself, no_dearer}
-use Rattle.mesh_paths.proofs.RoundsLaw.{sums_less}
+use Rattle.mesh_paths.proofs.ReachedLaw.{sums_less}
 use Rattle.mesh_paths.proofs.Rows.{move_offer}
 use Rattle.mesh_paths.proofs.SearchLaw.{offers_more, meets_more}
 use Rattle.mesh_paths.proofs.ShortLists.{only}

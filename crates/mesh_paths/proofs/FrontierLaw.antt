@@ -11,12 +11,12 @@ use Rattle.mesh_paths.specs.declared.frontier.ArcRun.{ArcRun}
 use Rattle.mesh_paths.specs.declared.frontier.SearchStep.{SearchStep}
 use Rattle.mesh_paths.specs.Tree.{IsAsGood, MeetsBy}
 use Rattle.mesh_paths.specs.Search.{number_of, IsIndex, IsPart, PutsStep, Settles, IsSettledRow, row_of, step_of}
-use Rattle.mesh_paths.specs.Rounds.{RowMap, IsMetIn, Betters, IsOfferBy, IsInRange, IsRounds}
+use Rattle.mesh_paths.specs.Reached.{RowMap, IsMetIn, Betters, IsOfferBy, IsInRange, HasLedRows}
 use Rattle.mesh_paths.specs.Frontier.{IsMetOrWaits, IsSearch, IsTaking, OffersAll, offered, OffersArc, work_in}
 use Rattle.mesh_paths.proofs.Order.{same_node, as_good_trans}
 use Rattle.mesh_paths.proofs.Index.{in_run}
 use Rattle.mesh_paths.proofs.Rows.{of_each}
-use Rattle.mesh_paths.proofs.RoundsLaw.{settled_at, lighter_in, rounds_new, met_already}
+use Rattle.mesh_paths.proofs.ReachedLaw.{settled_at, lighter_in, reached_new, met_already}
 use Rattle.mesh_atoms.proofs.Values.{at_most_itself, at_most_of_before}
 use Rattle.mesh_atoms.proofs.Lists.{contains_cases}
 
@@ -85,19 +85,19 @@ module _ (old new : RowMap) (arcs : List Arc4) (from : NetAddr) (first : PathRow
 
     taking_new : IsTaking new arcs from first steps'
     taking_new = record {
-      rounds = rounds_new old new arc (offered first arc) betters fits arcs from there cost offer taking.rounds;
+      led = reached_new old new arc (offered first arc) betters fits arcs from there cost offer taking.led;
       found = found_new;
       others = λ a in_arcs off. carried old new (offered first arc) steps steps' betters puts a (taking.others a in_arcs off);
     }
 
     work_less : work_in new arcs steps' ≤ work_in old arcs steps
-    work_less = omega (arith, lighter_in old new arc (offered first arc) betters fits arcs from there cost offer taking.rounds, puts.more)
+    work_less = omega (arith, lighter_in old new arc (offered first arc) betters fits arcs from there cost offer taking.led, puts.more)
 
   -- is offered in its turn
   pub offered_next : OffersArc old steps first arc new steps' → OffersAll old steps arcs from first (arc ∷ []) new steps'
   offered_next (inl (same, same_steps, good)) =
       let has : tree.get net_cmp old arc.from ≡ Some first = subst (λ (n : NetAddr). tree.get net_cmp old n ≡ Some first) (sym begins) taking.found in
-      let met : IsMetIn old arc = met_already old arc first (first.metric + arc.metric) taking.rounds.keyed has refl good in
+      let met : IsMetIn old arc = met_already old arc first (first.metric + arc.metric) taking.led.keyed has refl good in
       let now : OffersAll old steps arcs from first (arc ∷ []) old steps = record { taking = taking; carried = λ a h. h; done = one_done arc old steps (inl met); work = omega arith } in
       subst (λ (m : RowMap). OffersAll old steps arcs from first (arc ∷ []) m steps') (sym same) (subst (λ (s : List SearchStep). OffersAll old steps arcs from first (arc ∷ []) old s) (sym same_steps) now)
   offered_next (inr (betters, fits, puts)) = record {
@@ -120,10 +120,10 @@ offered_on old now new steps waits steps' arcs from first run i arc is l carried
 -- The steps
 
 -- the first step is put in
-pub begun : (old map : RowMap) (arcs : List Arc4) (from : NetAddr) (steps : List SearchStep) → ((r : PathRow) → IsSettledRow old r → ⊥) → Settles (IsSettledRow old) (record { node = from; metric = 0; parent = from }) (IsSettledRow map) → IsRounds map arcs from →
+pub begun : (old map : RowMap) (arcs : List Arc4) (from : NetAddr) (steps : List SearchStep) → ((r : PathRow) → IsSettledRow old r → ⊥) → Settles (IsSettledRow old) (record { node = from; metric = 0; parent = from }) (IsSettledRow map) → HasLedRows map arcs from →
     Contains steps (record { metric = 0; node = from; parent = from }) → IsSearch map arcs from steps
-begun old map arcs from steps none settles rounds waits = record {
-  rounds = rounds;
+begun old map arcs from steps none settles led waits = record {
+  led = led;
   each = λ a there. elim (same_node a.from from) [
     | inl same ↦ inr (record { node = from; metric = 0; parent = from }, settles.new, sym same, waits)
     | inr off ↦ inl (λ r has at. elim (settles.cases r has) [
@@ -135,20 +135,20 @@ begun old map arcs from steps none settles rounds waits = record {
 
 -- the least step is taken
 pub taken : (map : RowMap) (arcs : List Arc4) (from : NetAddr) (all rest : List SearchStep) (s : SearchStep) (first : PathRow) → all ≡ s ∷ rest → tree.get net_cmp map s.node ≡ Some first → IsSearch map arcs from all → IsTaking map arcs from first rest
-taken map arcs from all rest s first popped found now = record { rounds = now.rounds; found = settled_at map s.node first now.rounds.keyed found; others = others }
+taken map arcs from all rest s first popped found now = record { led = now.led; found = settled_at map s.node first now.led.keyed found; others = others }
   where
     others : (a : Arc4) → Contains arcs a → a.from ≢ first.node → IsMetOrWaits map rest a
     others a there off = elim (now.each a there) [
       | inl met ↦ inl met
       | inr (r, has, at, waits) ↦ elim (contains_cases s rest (step_of r) (subst (λ (x : List SearchStep). Contains x (step_of r)) popped waits)) [
-        | inl same ↦ absurd (off (sym at ∙ sym (ap (λ (x : SearchStep). x.node) same) ∙ sym (now.rounds.keyed s.node first found)))
+        | inl same ↦ absurd (off (sym at ∙ sym (ap (λ (x : SearchStep). x.node) same) ∙ sym (now.led.keyed s.node first found)))
         | inr later ↦ inr (r, has, at, later)
       ]
     ]
 
 -- it is passed over, since a better one has followed it
 pub passed : (map : RowMap) (arcs : List Arc4) (from : NetAddr) (all rest : List SearchStep) (s : SearchStep) → all ≡ s ∷ rest → tree.get net_cmp map s.node ≢ Some (row_of s) → IsSearch map arcs from all → IsSearch map arcs from rest
-passed map arcs from all rest s popped stale now = record { rounds = now.rounds; each = each }
+passed map arcs from all rest s popped stale now = record { led = now.led; each = each }
   where
     each : (a : Arc4) → Contains arcs a → IsMetOrWaits map rest a
     each a there = elim (now.each a there) [
@@ -162,7 +162,7 @@ passed map arcs from all rest s popped stale now = record { rounds = now.rounds;
 -- all runs of its node are offered
 pub all_offered : (map : RowMap) (arcs : List Arc4) (runs part : List ArcRun) (from : NetAddr) (first : PathRow) (steps : List SearchStep) (number i : ℕ) → number ≡ number_of first.node → IsIndex arcs runs → IsPart runs number part → IsTaking map arcs from first steps → length part ≤ i →
     AllWithin (λ (r : ArcRun). (a : Arc4) → Contains (slice_range arcs r.start r.end) a → IsMetOrWaits map steps a) part 0 i → IsSearch map arcs from steps
-all_offered map arcs runs part from first steps number i is_number index is taking end done = record { rounds = taking.rounds; each = each }
+all_offered map arcs runs part from first steps number i is_number index is taking end done = record { led = taking.led; each = each }
   where
     each : (a : Arc4) → Contains arcs a → IsMetOrWaits map steps a
     each a (k, l, e) = elim (same_node a.from first.node) [

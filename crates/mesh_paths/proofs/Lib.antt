@@ -19,7 +19,7 @@ mod Index
 mod JoinedParts
 mod NewOffers
 mod RadioLaw
-mod RoundsLaw
+mod ReachedLaw
 mod SettledArcs
 mod SettledHops
 mod SettledLeast

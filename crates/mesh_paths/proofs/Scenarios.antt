@@ -1,6 +1,6 @@
 -- Each scenario is sound: its type keeps that addresses are distinct, that no network is a router's address, and what arcs join.
 use Rattle.std.proofs.Common.{◌≡◌, ◌≢◌, ℕ, zero, suc, ◌<◌, ◌≤◌, inl, inr, refl, sym, ◌∙◌, ap, subst, arith, List, [], ◌∷◌, map, length, Contains, slice_get, Some}
-use Rattle.std.specs.Prelude.{Bool, true, false, not, nat_eq, nat_lt, slice_index}
+use Rattle.std.specs.Prelude.{Bool, true, not, nat_eq, nat_lt, slice_index}
 use Rattle.std.specs.List.{flat_map, list_all, list_any}
 use Rattle.std.proofs.lemmas.Bool.{eq-eqb, ltb-true, and_parts, or_left, or_right}
 use Rattle.mesh_atoms.specs.declared.addr.Addr4.{Addr4}

@@ -5,7 +5,7 @@ use Rattle.mesh_atoms.specs.declared.graphs.Arc4.{Arc4}
 use Rattle.mesh_atoms.specs.declared.graphs.PathRow.{PathRow}
 use Rattle.mesh_paths.specs.declared.frontier.SearchStep.{SearchStep}
 use Rattle.mesh_paths.specs.Search.{IsSettledRow, PutsStep, step_of}
-use Rattle.mesh_paths.specs.Rounds.{RowMap, weight_in, IsMetIn, Betters, HasAsGood, IsInRange, IsRounds}
+use Rattle.mesh_paths.specs.Reached.{RowMap, weight_in, IsMetIn, Betters, HasAsGood, IsInRange, HasLedRows}
 
 -- what the arc offers is met, or the step to the node that it leaves waits
 abbrev pub IsMetOrWaits : RowMap → List SearchStep → Arc4 → Type 0
@@ -13,12 +13,12 @@ IsMetOrWaits map steps arc = IsMetIn map arc ⊎ ((row : PathRow) × IsSettledRo
 
 -- so for each arc
 pub record IsSearch (map : RowMap) (arcs : List Arc4) (from : NetAddr) (steps : List SearchStep) : Type 0 where
-  pub rounds : IsRounds map arcs from
+  pub led : HasLedRows map arcs from
   pub each : (a : Arc4) → Contains arcs a → IsMetOrWaits map steps a
 
 -- so for each arc that doesn't leave the row's node
 pub record IsTaking (map : RowMap) (arcs : List Arc4) (from : NetAddr) (first : PathRow) (steps : List SearchStep) : Type 0 where
-  pub rounds : IsRounds map arcs from
+  pub led : HasLedRows map arcs from
   pub found : IsSettledRow map first
   pub others : (a : Arc4) → Contains arcs a → a.from ≢ first.node → IsMetOrWaits map steps a
 

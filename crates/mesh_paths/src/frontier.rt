@@ -9,10 +9,10 @@ ghost use Rattle.std.specs.BTreeMap.{get, values, IsOrdered};
 ghost use Rattle.mesh_paths.specs.Paths.{HasCosts, IsCertificate};
 ghost use Rattle.mesh_atoms.specs.Nodes.{net_cmp};
 ghost use Rattle.mesh_paths.specs.Search.{number_of, number_from, IsRun, IsIndex, IsPart, PutsStep, IsSettledRow, IsKeyed, Settles, row_of};
-ghost use Rattle.mesh_paths.specs.Rounds.{IsRounds, IsMetIn};
+ghost use Rattle.mesh_paths.specs.Reached.{HasAsGood, HasLedRows, IsMetIn};
 ghost use Rattle.mesh_paths.specs.Frontier.{OffersArc, IsTaking, OffersAll, IsSearch, work_in};
 
-use crate::rounds::{has_as_good, row_at};
+use crate::certificate::is_as_good;
 use mesh_atoms::{Arc4, Certificate, Graph, NetAddr, PathRow, Seq};
 use std::alloc::{AllocError, Global};
 use std::collections::{BTreeMap, BTreeSet};
@@ -122,7 +122,7 @@ fn reach_nearest(
     requires few { length arcs.now < 2 ^ 32 }
     requires index { IsIndex arcs.now runs.now }
     requires order { IsNonDecreasingBy (λ run. run.number) runs.now }
-    ensures rows { IfOk result (λ reached. IsRounds reached arcs.now from) }
+    ensures rows { IfOk result (λ reached. HasLedRows reached arcs.now from) }
     ensures met { IfOk result (λ reached. (arc : Arc4) → Contains arcs.now arc → IsMetIn reached arc) }
 {
     let mut reached = BTreeMap::new(alloc);
@@ -304,4 +304,21 @@ fn put_step(frontier: &mut BTreeSet<SearchStep>, step: SearchStep) -> Result<(),
 {
     frontier.insert(step)?;
     Ok(())
+}
+
+// The row at a node.
+fn row_at(reached: &BTreeMap<NetAddr, PathRow>, node: NetAddr) -> Option<PathRow>
+    ensures { result ≡ get net_cmp reached.now node }
+{
+    reached.get(&node).copied()
+}
+
+// Whether the row's node has one that is as good.
+fn has_as_good(reached: &BTreeMap<NetAddr, PathRow>, row: &PathRow) -> bool
+    ensures { IsTrue result ↔ HasAsGood reached.now row.now.node row.now.metric row.now.parent }
+{
+    match row_at(reached, row.node) {
+        Some(before) => is_as_good(&before, u128::from(row.metric), row.parent),
+        None => false,
+    }
 }

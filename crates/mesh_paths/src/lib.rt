@@ -6,7 +6,6 @@ mod certificate;
 mod frontier;
 mod joined;
 mod radio;
-mod rounds;
 mod settled;
 
 pub use certificate::{check, every_graph_has_certificate, one_certificate};
@@ -14,5 +13,4 @@ pub use frontier::search;
 pub use joined::is_joined;
 pub use mesh_atoms::{Arc4, Certificate, Graph, Pair, PathRow, RadioGraph};
 pub use radio::radio_graph;
-pub use rounds::search_by_rounds;
 pub use settled::{scenarios_are_sound, settled_routes};

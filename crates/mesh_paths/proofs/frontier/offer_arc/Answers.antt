@@ -1,8 +1,8 @@
 use Rattle.std.proofs.Common.{ℕ, ◌+◌, inl, inr, refl, subst, arith}
 use Rattle.mesh_atoms.specs.declared.graphs.PathRow.{PathRow}
 use Rattle.mesh_paths.specs.Search.{PutsStep, step_of}
-use Rattle.mesh_paths.specs.Rounds.{Betters, HasAsGood, IsInRange}
-use Rattle.mesh_paths.proofs.RoundsLaw.{betters_by}
+use Rattle.mesh_paths.specs.Reached.{Betters, HasAsGood, IsInRange}
+use Rattle.mesh_paths.proofs.ReachedLaw.{betters_by}
 use Rattle.mesh_paths.proofs.frontier.offer_arc.Goals as goal
 
 pub returns-then-has_as_good : goal.returns-then-has_as_good

@@ -1,6 +1,6 @@
 use Rattle.std.proofs.Common.{List, Contains, subst}
 use Rattle.mesh_atoms.specs.declared.graphs.Arc4.{Arc4}
-use Rattle.mesh_paths.proofs.RoundsLaw.{certificate_of_rounds}
+use Rattle.mesh_paths.proofs.ReachedLaw.{certificate_of_reached}
 use Rattle.mesh_paths.proofs.frontier.search.Goals as goal
 
 pub reach_nearest-requires-clause-costs : goal.reach_nearest-requires-clause-costs
@@ -8,5 +8,5 @@ reach_nearest-requires-clause-costs c = λ arc has. c.requires.costs arc (subst 
 
 pub returns : goal.returns
 returns c = record {
-  certificate = certificate_of_rounds c.in_ok-reached.reached c.as_slice-arcs.result.now c.args.from c.in_ok-reached.ensures.rows c.in_ok-reached.ensures.met c.args.graph.now c.requires.costs c.as_slice-arcs.ensures c.in_ok-rows.ensures.ordered c.in_ok-rows.rows c.in_ok-rows.ensures.all;
+  certificate = certificate_of_reached c.in_ok-reached.reached c.as_slice-arcs.result.now c.args.from c.in_ok-reached.ensures.rows c.in_ok-reached.ensures.met c.args.graph.now c.requires.costs c.as_slice-arcs.ensures c.in_ok-rows.ensures.ordered c.in_ok-rows.rows c.in_ok-rows.ensures.all;
 }

@@ -1,6 +1,6 @@
--- The state of a search by rounds: rows that may yet get better, and what is left before none can.
-use Rattle.std.specs.Prelude.{◌≡◌, ◌≢◌, ℕ, ◌+◌, ◌*◌, ◌<◌, ◌≤◌, ◌⊎◌, Bool, true, false, List, Contains, length, Option, Some, None}
-use Rattle.std.specs.List.{sum_by, AllWithin}
+-- The rows that a search has reached: each may yet get better, and what is left before none can.
+use Rattle.std.specs.Prelude.{◌≡◌, ◌≢◌, ℕ, ◌+◌, ◌*◌, ◌<◌, ◌≤◌, ◌⊎◌, List, Contains, length, Option, Some, None}
+use Rattle.std.specs.List.{sum_by}
 use Rattle.std.specs.BTreeMap as tree
 use Rattle.mesh_atoms.specs.declared.addr.NetAddr.{NetAddr}
 use Rattle.mesh_atoms.specs.declared.graphs.Arc4.{Arc4}
@@ -56,11 +56,6 @@ HasAsGood map node metric parent = (before : PathRow) × (tree.get net_cmp map n
 abbrev pub IsInRange : Arc4 → PathRow → Type 0
 IsInRange arc row = (row.metric < 18446744073709551616) × (row.parent.addr.0 < 4294967296) × (arc.metric < 4294967296)
 
--- the arc is tried: what it offers goes into the map, or is met already and nothing changes
-abbrev pub Tries : Bool → RowMap → Arc4 → RowMap → Type 0
-Tries true old arc new = (row : PathRow) × IsOfferBy old arc row × Betters old row new × IsInRange arc row
-Tries false old arc new = (new ≡ old) × IsMetIn new arc
-
 -- the row is the start's, or no cheaper than what an arc offers from the row of its parent
 abbrev pub IsLedTo : RowMap → List Arc4 → NetAddr → PathRow → Type 0
 IsLedTo map arcs from row =
@@ -69,13 +64,8 @@ IsLedTo map arcs from row =
     × (arc.to ≡ row.node) × (first.metric + arc.metric ≤ row.metric) × (first.node ≡ row.parent))
 
 -- each row stands at its node and is led to, the start's is the best, and no metric is large
-pub record IsRounds (map : RowMap) (arcs : List Arc4) (from : NetAddr) : Type 0 where
+pub record HasLedRows (map : RowMap) (arcs : List Arc4) (from : NetAddr) : Type 0 where
   pub keyed : IsKeyed map
   pub start : IsSettledRow map (record { node = from; metric = 0; parent = from })
   pub led : (row : PathRow) → IsSettledRow map row → IsLedTo map arcs from row
   pub small : (row : PathRow) → IsSettledRow map row → row.metric + 4294967295 * missing_in map arcs ≤ 4294967295 * length arcs
-
--- the first arcs of a round are tried: some row got better, or none changed and what they offer is met
-abbrev pub Goes : Bool → RowMap → List Arc4 → ℕ → RowMap → Type 0
-Goes true old arcs count new = weight_in new arcs < weight_in old arcs
-Goes false old arcs count new = (new ≡ old) × AllWithin (IsMetIn new) arcs 0 count

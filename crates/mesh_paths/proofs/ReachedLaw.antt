@@ -1,12 +1,11 @@
--- Rounds over all arcs keep their state, come nearer to their end with each row that gets better, and have found a tree when none does.
-use Rattle.std.proofs.Common.{◌≡◌, ◌≢◌, ◌↔◌, ℕ, ◌+◌, ◌*◌, ◌<◌, ◌≤◌, ◌⊎◌, inl, inr, refl, sym, ◌∙◌, ap, subst, arith, Bool, true, false, cond, IsTrue, List, [], ◌∷◌, length, Contains, Option, Some, None, slice_index_or}
-use Rattle.std.specs.List.{sum_by, AllWithin}
+-- A row that gets better keeps the state of a search and brings it nearer to its end; when none does any more, it has found a tree.
+use Rattle.std.proofs.Common.{◌≡◌, ◌≢◌, ◌↔◌, ℕ, ◌+◌, ◌*◌, ◌<◌, ◌≤◌, ◌⊎◌, inl, inr, refl, sym, ◌∙◌, ap, subst, arith, Bool, true, false, cond, IsTrue, List, [], ◌∷◌, length, Contains, Option, Some, None}
+use Rattle.std.specs.List.{sum_by}
 use Rattle.std.specs.Ordering.{is_eq}
 use Rattle.std.specs.BTreeMap as tree
 use Rattle.std.proofs.lemmas.Bool.{cases_lt, cases_Bool}
 use Rattle.std.proofs.lemmas.Cmp.{tied_itself}
 use Rattle.std.proofs.lemmas.List.Sums.{sum_by-cons}
-use Rattle.std.proofs.lemmas.List.Elements.{AllWithin-more, at_read}
 use Rattle.std.specs.Map.{lookup, values_of}
 use Rattle.mesh_atoms.specs.declared.addr.NetAddr.{NetAddr}
 use Rattle.mesh_atoms.specs.declared.graphs.Arc4.{Arc4}
@@ -17,9 +16,8 @@ use Rattle.mesh_atoms.proofs.NetOrder.{net_total, net_exact, is_equal}
 use Rattle.mesh_paths.specs.Paths.{HasCosts, IsCertificate}
 use Rattle.mesh_paths.specs.Tree.{OffersBy, IsAsGood}
 use Rattle.mesh_paths.specs.Search.{IsSettledRow, IsKeyed, Settles}
-use Rattle.mesh_paths.specs.Rounds.{RowMap, missing_of, weight_of, missing_in, weight_in, IsMetIn, Betters, IsOfferBy, HasAsGood, IsInRange, Tries, IsLedTo, IsRounds, Goes}
+use Rattle.mesh_paths.specs.Reached.{RowMap, missing_of, weight_of, missing_in, weight_in, IsMetIn, Betters, IsOfferBy, HasAsGood, IsInRange, IsLedTo, HasLedRows}
 use Rattle.mesh_paths.proofs.Order.{same_node, at_most_or_before}
-use Rattle.mesh_paths.proofs.Rows.{of_each, item_in}
 use Rattle.mesh_paths.proofs.Found.{tree_found, certificate_of_rows}
 use Rattle.mesh_atoms.proofs.Lists.{contains_tail as in_tail, contains_cases}
 
@@ -92,7 +90,7 @@ module _ (old new : RowMap) (arc : Arc4) (row : PathRow) (betters : Betters old 
   ]
 
   -- An arc that offers the row
-  module _ (arcs : List Arc4) (from : NetAddr) (there : Contains arcs arc) (cost : 1 ≤ arc.metric) (offer : IsOfferBy old arc row) (now : IsRounds old arcs from) where
+  module _ (arcs : List Arc4) (from : NetAddr) (there : Contains arcs arc) (cost : 1 ≤ arc.metric) (offer : IsOfferBy old arc row) (now : HasLedRows old arcs from) where
     pub lighter_in : weight_in new arcs < weight_in old arcs
     lighter_in = sums_less (λ (a : Arc4). weight_of (tree.get net_cmp new a.to)) (λ (a : Arc4). weight_of (tree.get net_cmp old a.to)) arcs arc (λ a _. no_heavier a.to) there
         (lighter_at arc.to ends (subst (λ (n : NetAddr). tree.get net_cmp new n ≡ Some row) (sym ends) betters.has))
@@ -163,41 +161,8 @@ module _ (old new : RowMap) (arc : Arc4) (row : PathRow) (betters : Betters old 
       | inr is ↦ omega (arith, no_more_in, now.small r (sym is ∙ has))
     ]
 
-    pub rounds_new : IsRounds new arcs from
-    rounds_new = record { keyed = keyed_new; start = start_new; led = led_new; small = small_new }
-
--- A round
-
-goes_better : (changed : Bool) (old before new : RowMap) (arcs : List Arc4) (i : ℕ) → weight_in new arcs < weight_in before arcs → Goes changed old arcs i before → Goes true old arcs (i + 1) new
-goes_better true old before new arcs i less gone = omega arith
-goes_better false old before new arcs i less (same, _) = subst (λ (m : RowMap). weight_in new arcs < weight_in m arcs) same less
-
-goes_met : (changed : Bool) (old before new : RowMap) (arcs : List Arc4) (i : ℕ) (arc : Arc4) → arc ≡ slice_index_or arcs i arc → i < length arcs → new ≡ before → IsMetIn new arc → Goes changed old arcs i before → Goes changed old arcs (i + 1) new
-goes_met true old before new arcs i arc is l same met gone = subst (λ (m : RowMap). weight_in m arcs < weight_in old arcs) (sym same) gone
-goes_met false old before new arcs i arc is l same met (e, all) =
-    (same ∙ e, AllWithin-more (IsMetIn new) arcs 0 i (subst (λ (m : RowMap). AllWithin (IsMetIn m) arcs 0 i) (sym same) all) (at_read arcs (IsMetIn new) i arc l is met))
-
--- an arc of the round is tried
-pub goes_on : (changed after better : Bool) (old before new : RowMap) (arcs : List Arc4) (from : NetAddr) (i : ℕ) (arc : Arc4) → arc ≡ slice_index_or arcs i arc → i < length arcs → ((a : Arc4) → Contains arcs a → 1 ≤ a.metric) →
-    IsRounds before arcs from → Goes changed old arcs i before → Tries better before arc new → ((better ≡ true) × (after ≡ true)) ⊎ ((better ≡ false) × (after ≡ changed)) → IsRounds new arcs from × Goes after old arcs (i + 1) new
-goes_on changed after true old before new arcs from i arc is l costs now gone (row, offer, betters, fits) (inl (_, e)) =
-    let there : Contains arcs arc = item_in arcs i arc is l in
-    let less : weight_in new arcs < weight_in before arcs = lighter_in before new arc row betters fits arcs from there (costs arc there) offer now in
-    (rounds_new before new arc row betters fits arcs from there (costs arc there) offer now, subst (λ (b : Bool). Goes b old arcs (i + 1) new) (sym e) (goes_better changed old before new arcs i less gone))
-goes_on changed after true old before new arcs from i arc is l costs now gone tries (inr (e, _)) = absurd (cc)
-goes_on changed after false old before new arcs from i arc is l costs now gone tries (inl (e, _)) = absurd (cc)
-goes_on changed after false old before new arcs from i arc is l costs now gone (same, met) (inr (_, e)) = (
-  subst (λ (m : RowMap). IsRounds m arcs from) (sym same) now,
-  subst (λ (b : Bool). Goes b old arcs (i + 1) new) (sym e) (goes_met changed old before new arcs i arc is l same met gone),
-)
-
-pub gone_lighter : (changed : Bool) (old new : RowMap) (arcs : List Arc4) (i : ℕ) → changed ≡ true → Goes changed old arcs i new → weight_in new arcs < weight_in old arcs
-gone_lighter true old new arcs i e gone = gone
-gone_lighter false old new arcs i e gone = absurd (cc)
-
-pub gone_met : (changed : Bool) (old new : RowMap) (arcs : List Arc4) → changed ≡ false → Goes changed old arcs (length arcs) new → (arc : Arc4) → Contains arcs arc → IsMetIn new arc
-gone_met true old new arcs e gone = absurd (cc)
-gone_met false old new arcs e (_, all) = of_each (IsMetIn new) arcs (length arcs) (omega arith) all
+    pub reached_new : HasLedRows new arcs from
+    reached_new = record { keyed = keyed_new; start = start_new; led = led_new; small = small_new }
 
 -- An arc is tried
 
@@ -224,11 +189,6 @@ met_already map arc first metric keyed found sum (b, at, good) r has begins =
     let two : IsAsGood b (r.metric + arc.metric) arc.from = subst (λ (x : PathRow). IsAsGood b (x.metric + arc.metric) arc.from) same one in
     (b, settled_at map arc.to b keyed at, e, subst (λ (n : NetAddr). IsAsGood b (r.metric + arc.metric) n) (sym begins) two)
 
-pub unreached : (map : RowMap) (arc : Arc4) → tree.get net_cmp map arc.from ≡ None → IsMetIn map arc
-unreached map arc none r has begins =
-    let found : tree.get net_cmp map arc.from ≡ Some r = subst (λ (n : NetAddr). tree.get net_cmp map n ≡ Some r) begins has in
-    absurd (cc)
-
 better_of : (before : PathRow) (metric : ℕ) (parent : NetAddr) → (IsAsGood before metric parent → ⊥) → (metric < before.metric) ⊎ ((metric ≡ before.metric) × IsBefore parent before.parent)
 better_of before metric parent not = elim (cases_lt metric before.metric) [
   | inl less ↦ inl less
@@ -253,15 +213,7 @@ betters_by map new row b test not updates = record {
       | inr e ↦ updates q ∙ ap (λ (x : Bool). cond x (Some row) (tree.get net_cmp map q)) e
     ]
 
-pub tried : (map new : RowMap) (arc : Arc4) (first row : PathRow) (b : Bool) → IsKeyed map → tree.get net_cmp map arc.from ≡ Some first →
-    row.node ≡ arc.to → row.metric ≡ first.metric + arc.metric → row.parent ≡ arc.from → IsInRange arc row →
-    IsTrue b ↔ HasAsGood map row.node row.metric row.parent → b ≡ false →
-    ((q : NetAddr) → tree.get net_cmp new q ≡ cond (is_eq (net_cmp row.node q)) (Some row) (tree.get net_cmp map q)) → Tries true map arc new
-tried map new arc first row b keyed found node metric parent fits test not updates =
-    let at : first.node ≡ arc.from = keyed arc.from first found in
-    (row, (first, settled_at map arc.from first keyed found, at, at ∙ sym parent, sym node, sym metric), betters_by map new row b test not updates, fits)
-
--- The rounds begin
+-- The search begins
 
 -- an empty map has no row
 pub none_settled : (map : RowMap) → map.entries ≡ [] → (r : PathRow) → IsSettledRow map r → ⊥
@@ -269,8 +221,8 @@ none_settled map empty r has =
     let none : tree.get net_cmp map r.node ≡ None = ap (λ (entries : List (NetAddr × PathRow)). lookup (λ k. is_eq (net_cmp r.node k)) entries) empty in
     (cc)
 
-pub rounds_start : (old new : RowMap) (arcs : List Arc4) (from : NetAddr) → ((r : PathRow) → IsSettledRow old r → ⊥) → Settles (IsSettledRow old) (record { node = from; metric = 0; parent = from }) (IsSettledRow new) → IsKeyed new → IsRounds new arcs from
-rounds_start old new arcs from none settles keyed = record {
+pub reached_start : (old new : RowMap) (arcs : List Arc4) (from : NetAddr) → ((r : PathRow) → IsSettledRow old r → ⊥) → Settles (IsSettledRow old) (record { node = from; metric = 0; parent = from }) (IsSettledRow new) → IsKeyed new → HasLedRows new arcs from
+reached_start old new arcs from none settles keyed = record {
   keyed = keyed;
   start = settles.new;
   led = λ r has. elim (settles.cases r has) [
@@ -290,8 +242,8 @@ rounds_start old new arcs from none settles keyed = record {
     few : missing_in new arcs ≤ length arcs
     few = sums_short (λ (a : Arc4). missing_of (tree.get net_cmp new a.to)) arcs (λ a. one (tree.get net_cmp new a.to))
 
--- The rounds end
-module _ (m : RowMap) (arcs : List Arc4) (from : NetAddr) (now : IsRounds m arcs from) (met : (arc : Arc4) → Contains arcs arc → IsMetIn m arc) where
+-- The search ends
+module _ (m : RowMap) (arcs : List Arc4) (from : NetAddr) (now : HasLedRows m arcs from) (met : (arc : Arc4) → Contains arcs arc → IsMetIn m arc) where
   offered : (r : PathRow) → IsSettledRow m r → OffersBy (IsSettledRow m) arcs from r.node r.metric r.parent
   offered r has = elim (now.led r has) [
     | inl start ↦ inl start
@@ -307,7 +259,7 @@ module _ (m : RowMap) (arcs : List Arc4) (from : NetAddr) (now : IsRounds m arcs
         ]
   ]
 
-  pub certificate_of_rounds : (g : Graph) → HasCosts g → arcs ≡ g.arcs → tree.IsOrdered net_cmp m → (rows : List PathRow) → rows ≡ values_of m.entries → IsCertificate g from (record { rows = rows })
-  certificate_of_rounds g costs is ordered rows e = certificate_of_rows g from costs arcs (values_of m.entries) is
+  pub certificate_of_reached : (g : Graph) → HasCosts g → arcs ≡ g.arcs → tree.IsOrdered net_cmp m → (rows : List PathRow) → rows ≡ values_of m.entries → IsCertificate g from (record { rows = rows })
+  certificate_of_reached g costs is ordered rows e = certificate_of_rows g from costs arcs (values_of m.entries) is
       (tree_found m now.keyed ordered arcs from (record { node = from; metric = 0; parent = from }, now.start, refl, inr (refl, inr (refl, omega arith)))
       (λ r a has there begins. met a there r has (sym begins)) offered) rows e
