@@ -110,20 +110,6 @@ fn checked(
 }
 
 /// Relays for the graph (RFC 7181, sections 18.3 and 18.6): ids in ascending order that cover, each of which is needed. Ids must be
-/// distinct. Only an allocation failure refuses. Which such relays are chosen is not promised: all willing neighbours are taken, and then those
-/// that the others make up for are left out, the greatest id first.
-pub fn choose_by_dropping(alloc: Global, graph: &NeighbourGraph) -> Result<Seq<Addr4>, AllocError>
-    requires { HasDistinctIds graph.now }
-    ensures covers { IfOk result (Covers graph.now) }
-    ensures needed { IfOk result (Needed graph.now) }
-    ensures order { IfOk result IsAscending }
-{
-    let willing = willing_of(alloc, graph)?;
-    let ways = ways_of(alloc, graph, &willing)?;
-    drop_from_all(alloc, graph, &willing, &ways)
-}
-
-/// Relays for the graph (RFC 7181, sections 18.3 and 18.6): ids in ascending order that cover, each of which is needed. Ids must be
 /// distinct. Only an allocation failure refuses. Which such relays are chosen is not promised, nor the time: the neighbours of willingness 15
 /// are taken first, then again and again the one by which most addresses come to be reached at their least cost, the least id among
 /// equals; then those that the others make up for are left out, the greatest id first. The choice is checked before it is told; were it

@@ -1,9 +1,9 @@
-//! The search by rounds and the test of a certificate, which the program doesn't call.
+//! The test of a certificate, which the program doesn't call.
 ghost use Rattle.std.specs.Prelude.{IfOk, ◌≡◌, ◌<◌, ◌^◌, length};
 ghost use Rattle.mesh_paths.specs.Paths.{HasCosts};
 
 use mesh_atoms::{Addr4, NetAddr, Seq};
-use mesh_paths::{Arc4, Graph, PathRow, check, search, search_by_rounds};
+use mesh_paths::{Arc4, Graph, check, search};
 use std::alloc::{AllocError, Global};
 use std::test::Fail;
 
@@ -57,41 +57,25 @@ static ARCS: [(u32, u32, u32); 11] = [
     (7, 8, 1),
 ];
 
-fn is_found_by_rounds(
-    alloc: Global,
-    graph: &Graph,
-    start: u32,
-    rows: &[PathRow],
-) -> Result<bool, AllocError>
-    requires costs { HasCosts graph.now }
-    requires few { length graph.now.arcs < 2 ^ 32 }
-{
-    let found = search_by_rounds(alloc, graph, node(start))?;
-    Ok(found.rows.as_slice() == rows)
-}
-
-// Whether both searches find the same from node 1, and that is a certificate, and none from node 2.
-fn agree_on(alloc: Global, graph: &Graph) -> Result<bool, AllocError>
+// Whether what is found from node 1 is a certificate, and none from node 2.
+fn is_certified(alloc: Global, graph: &Graph) -> Result<bool, AllocError>
     requires costs { HasCosts graph.now }
     requires few { length graph.now.arcs < 2 ^ 32 }
 {
     let found = search(alloc, graph, node(1))?;
-    if !check(graph, node(1), &found) || check(graph, node(2), &found) {
-        return Ok(false);
-    }
-    is_found_by_rounds(alloc, graph, 1, found.rows.as_slice())
+    Ok(check(graph, node(1), &found) && !check(graph, node(2), &found))
 }
 
-fn agree(alloc: Global, arcs: &[(u32, u32, u32)]) -> Result<bool, AllocError> {
+fn is_right(alloc: Global, arcs: &[(u32, u32, u32)]) -> Result<bool, AllocError> {
     if arcs.len() >= 1000 {
         return Ok(false);
     }
     let graph = graph_of(alloc, arcs)?;
-    agree_on(alloc, &graph)
+    is_certified(alloc, &graph)
 }
 
 #[test]
-fn both_searches_agree(rt: HostRuntime) -> Result<(), Fail> {
-    assert!(rt; agree(rt.alloc(), &ARCS)?);
+fn a_certificate_is_of_its_start(rt: HostRuntime) -> Result<(), Fail> {
+    assert!(rt; is_right(rt.alloc(), &ARCS)?);
     Ok(())
 }

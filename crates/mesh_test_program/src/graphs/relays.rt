@@ -1,20 +1,17 @@
-//! Both ways to choose relays on worked graphs: the program chooses greedily alone.
-ghost use Rattle.mesh_atoms.specs.Relays.{HasDistinctIds};
-
+//! The choice of relays on worked graphs.
 use mesh_atoms::{Addr4, Direct, Far, Near, NeighbourGraph, Seq};
-use mesh_relay::{choose, choose_by_dropping, covers, has_distinct_ids, irredundant};
+use mesh_relay::{choose, covers, has_distinct_ids, irredundant};
 use std::alloc::{AllocError, Global};
 use std::test::Fail;
 
 /// What is shown; neighbours as id, cost and willingness; direct entries as address and cost; far entries as neighbour, address and cost;
-/// and the relays that each of both ways gives.
+/// and the relays that are chosen.
 struct Case<'a> {
     name: &'a str,
     near: &'a [(u32, u32, u8)],
     direct: &'a [(u32, u32)],
     far: &'a [(u32, u32, u32)],
-    greedy: &'a [u32],
-    dropping: &'a [u32],
+    relays: &'a [u32],
 }
 
 fn near_of(alloc: Global, rows: &[(u32, u32, u8)]) -> Result<Seq<Near>, AllocError> {
@@ -83,35 +80,12 @@ fn are_right(graph: &NeighbourGraph, relays: &[Addr4], numbers: &[u32]) -> bool 
     are_numbered(relays, numbers) && covers(graph, relays) && irredundant(graph, relays)
 }
 
-fn chooses(alloc: Global, graph: &NeighbourGraph, numbers: &[u32]) -> Result<bool, AllocError>
-    requires { HasDistinctIds graph.now }
-{
-    let relays = choose(alloc, graph)?;
-    Ok(are_right(graph, relays.as_slice(), numbers))
-}
-
-fn chooses_by_dropping(
-    alloc: Global,
-    graph: &NeighbourGraph,
-    numbers: &[u32],
-) -> Result<bool, AllocError>
-    requires { HasDistinctIds graph.now }
-{
-    let relays = choose_by_dropping(alloc, graph)?;
-    Ok(are_right(graph, relays.as_slice(), numbers))
-}
-
-/// Whether both ways give what is wanted, and that covers and is irredundant.
-fn both_choose(
-    alloc: Global,
-    graph: &NeighbourGraph,
-    greedy: &[u32],
-    dropping: &[u32],
-) -> Result<bool, AllocError> {
+fn chooses(alloc: Global, graph: &NeighbourGraph, numbers: &[u32]) -> Result<bool, AllocError> {
     if !has_distinct_ids(graph) {
         return Ok(false);
     }
-    Ok(chooses(alloc, graph, greedy)? && chooses_by_dropping(alloc, graph, dropping)?)
+    let relays = choose(alloc, graph)?;
+    Ok(are_right(graph, relays.as_slice(), numbers))
 }
 
 static WORKED: [Case; 6] = [
@@ -120,55 +94,49 @@ static WORKED: [Case; 6] = [
         near: &[(1, 1, 7), (2, 1, 7)],
         direct: &[(9, 3)],
         far: &[(1, 9, 1), (2, 9, 1)],
-        greedy: &[1],
-        dropping: &[1],
+        relays: &[1],
     },
     Case {
         name: "a third of willingness 15 leads nowhere",
         near: &[(1, 1, 7), (2, 1, 7), (3, 1, 15)],
         direct: &[],
         far: &[(1, 9, 1), (2, 9, 1)],
-        greedy: &[1, 3],
-        dropping: &[1, 3],
+        relays: &[1, 3],
     },
     Case {
         name: "near costs differ: 5 + 1 and 1 + 3",
         near: &[(1, 5, 7), (2, 1, 7)],
         direct: &[],
         far: &[(1, 9, 1), (2, 9, 3)],
-        greedy: &[2],
-        dropping: &[2],
+        relays: &[2],
     },
     Case {
         name: "one neighbour makes up for two",
         near: &[(1, 1, 7), (2, 1, 7), (3, 1, 7), (4, 1, 7)],
         direct: &[],
         far: &[(1, 23, 1), (3, 22, 1), (4, 22, 1), (4, 23, 1)],
-        greedy: &[4],
-        dropping: &[1, 3],
+        relays: &[4],
     },
     Case {
         name: "the same with its lists turned",
         near: &[(4, 1, 7), (3, 1, 7), (2, 1, 7), (1, 1, 7)],
         direct: &[],
         far: &[(4, 23, 1), (4, 22, 1), (3, 22, 1), (1, 23, 1)],
-        greedy: &[4],
-        dropping: &[1, 3],
+        relays: &[4],
     },
     Case {
         name: "costs of nothing, and an address with two direct entries",
         near: &[(1, 0, 7), (2, 0, 7)],
         direct: &[(9, 1), (9, 0)],
         far: &[(1, 9, 0), (1, 8, 0), (2, 8, 0)],
-        greedy: &[1],
-        dropping: &[1],
+        relays: &[1],
     },
 ];
 
 /// The same of the graph of a case.
 fn goes_right(alloc: Global, case: &Case) -> Result<bool, AllocError> {
     let graph = graph_of(alloc, case.near, case.direct, case.far)?;
-    both_choose(alloc, &graph, case.greedy, case.dropping)
+    chooses(alloc, &graph, case.relays)
 }
 
 #[test]
