@@ -5,6 +5,5 @@ mod LineFeeds
 mod Listed
 mod OneText
 mod Pairs
-mod Stops
 mod Wide
 mod Written

@@ -1,5 +1,5 @@
--- Each line says one thing, and the listing of an input is one text.
-use Rattle.std.proofs.Common.{◌≡◌, ℕ, ◌+◌, inl, inr, List, [], ◌∷◌, length, Result, Ok, Err, Bool, refl, sym, ap, subst, ◌∙◌}
+-- Each line says one thing, and the listing of an input is one list of pieces.
+use Rattle.std.proofs.Common.{◌≡◌, ℕ, ◌+◌, inl, inr, List, [], ◌∷◌, ◌++◌, length, Some, Result, Ok, Err, Bool, refl, sym, ap, subst, ◌∙◌}
 use Rattle.std.specs.Str.Lines.{lines}
 use Rattle.hex.proofs.HexLemmas.{decode_of-same}
 use Rattle.mesh_atoms.specs.declared.refusal.Refusal.{Refusal}
@@ -7,8 +7,8 @@ use Rattle.mesh_packet.specs.declared.packet.Span.{Span}
 use Rattle.mesh_packet.specs.Fields.{PacketFields}
 use Rattle.mesh_packet.proofs.OneReading.{one_packet, one_fault, spells_or_faults, not_both}
 use Rattle.mesh_report.specs.Packets.{IsLineText}
-use Rattle.mesh_report.proofs.OneListing.{same_both, one_listing}
-use Rattle.mesh_dump.specs.Dump.{IsLinesText, IsDumpText, total_text}
+use Rattle.mesh_report.proofs.OneListing.{one_listing}
+use Rattle.mesh_dump.specs.Dump.{AreListings, DumpMakes, total_text}
 use Rattle.mesh_dump.specs.Lines.{FrameSays, ReadsAs, refusals}
 use Rattle.mesh_dump.proofs.Hex.{written_or_not, not_hex_once, not_hex_too}
 
@@ -43,15 +43,16 @@ always_reads line = elim (written_or_not line) [
   | inr (refusal, not) ↦ (Err refusal, inr (refusal, not, refl))
 ]
 
-one_lines : (recode : Bool) (number : ℕ) (lines : List (List ℕ)) (m n : ℕ) (a b : List ℕ) → IsLinesText recode number lines m a → IsLinesText recode number lines n b → (m ≡ n) × (a ≡ b)
+one_lines : (recode : Bool) (number : ℕ) (lines : List (List ℕ)) (m n : ℕ) (a b : List (List ℕ)) → AreListings recode number lines m a → AreListings recode number lines n b → (m ≡ n) × (a ≡ b)
 one_lines recode number [] m n a b h k = (h.0 ∙ sym k.0, h.1 ∙ sym k.1)
-one_lines recode number (line ∷ lines) m n a b (r, x, i, y, reads, is, more, count, e) (s, x', j, y', reads', is', more', count', e') =
-    let same : r ≡ s = reads_once line r s reads reads' in
-    let others = one_lines recode (number + 1) lines i j y y' more more' in
-    let first : x ≡ x' = one_listing recode number s x x' (subst (λ (t : Read). IsLineText recode number t x) same is) is' in
-    (count ∙ ap (λ (t : Read). refusals t + i) same ∙ ap (λ (k : ℕ). refusals s + k) others.0 ∙ sym count', same_both e e' first others.1)
+one_lines recode number (line ∷ lines) m n a b (i, x, j, y, is, more, sum, e) (i', x', j', y', is', more', sum', e') =
+    let same : is.read ≡ is'.read = reads_once line is.read is'.read is.reads is'.reads in
+    let others = one_lines recode (number + 1) lines j j' y y' more more' in
+    let first : x ≡ x' = one_listing recode number is'.read x x' (subst (λ (t : Read). IsLineText recode number t x) same is.is) is'.is in
+    let count : i ≡ i' = is.count_is ∙ ap (λ (t : Read). refusals t) same ∙ sym is'.count_is in
+    (sum ∙ ap (λ (k : ℕ). k + j) count ∙ ap (λ (k : ℕ). i' + k) others.0 ∙ sym sum', e ∙ ap (λ (t : List ℕ). t ∷ y) first ∙ ap (λ (ps : List (List ℕ)). x' ∷ ps) others.1 ∙ sym e')
 
-pub one_text : (input : List ℕ) (recode : Bool) (m n : ℕ) (a b : List ℕ) → IsDumpText input recode m a → IsDumpText input recode n b → (m ≡ n) × (a ≡ b)
-one_text input recode m n a b (x, is, e) (x', is', e') =
-    let same = one_lines recode 1 (lines input) m n x x' is is' in
-    (same.0, same_both e e' same.1 (ap (λ (k : ℕ). total_text (length (lines input)) k) same.0))
+pub one_text : (input : List ℕ) (recode : Bool) (m n : ℕ) (a b : List (List ℕ)) → DumpMakes input recode a (Some m) → DumpMakes input recode b (Some n) → (m ≡ n) × (a ≡ b)
+one_text input recode m n a b (x, are, e) (x', are', e') =
+    let same = one_lines recode 1 (lines input) m n x x' are are' in
+    (same.0, e ∙ ap (λ (ps : List (List ℕ)). ps ++ total_text (length (lines input)) m ∷ []) same.1 ∙ ap (λ (k : ℕ). x' ++ total_text (length (lines input)) k ∷ []) same.0 ∙ sym e')

@@ -1,44 +1,37 @@
--- The listing of some first lines, and of one line more.
-use Rattle.std.proofs.Common.{◌≡◌, ℕ, ◌+◌, ◌≤◌, Bool, List, [], ◌∷◌, ◌++◌, length, take, Result, Ok, Err, refl, sym, ap, ◌∙◌, arith, append_assoc, length-append}
+-- The listings of some first lines, of one line more, and of all with the line that counts.
+use Rattle.std.proofs.Common.{◌≡◌, ℕ, ◌+◌, ◌≤◌, Bool, List, [], ◌∷◌, ◌++◌, length, take, Option, Some, None, Result, Ok, Err, refl, sym, ap, subst, ◌∙◌, arith, append_assoc, length-append}
+use Rattle.std.specs.Prelude.{option_map}
 use Rattle.std.specs.Str.Lines.{lines}
 use Rattle.std.proofs.lemmas.List.{append-nil, take_all, take_at}
 use Rattle.mesh_atoms.specs.declared.refusal.Refusal.{Refusal}
 use Rattle.mesh_packet.specs.declared.packet.Span.{Span}
 use Rattle.mesh_packet.specs.Fields.{PacketFields}
-use Rattle.mesh_dump.specs.Dump.{IsLinesText, IsFirstLinesText}
+use Rattle.mesh_io.specs.Pieces.{MakesOne}
+use Rattle.mesh_dump.specs.Dump.{AreListings, AreFirstListings, LinesMake, DumpMakes, total_text}
 use Rattle.mesh_dump.specs.Lines.{IsListing, refusals}
+use Rattle.mesh_dump.specs.declared.listing.LineCounts.{LineCounts}
 
--- this is the listing of so many lines, after which the rest comes
-pub record Listed (recode : Bool) (all rest : List (List ℕ)) (number refused : ℕ) (text : List ℕ) : Type 0 where
+-- these are the listings of so many lines, after which the rest comes
+pub record Listed (recode : Bool) (all rest : List (List ℕ)) (number refused : ℕ) (pieces : List (List ℕ)) : Type 0 where
   pub done : List (List ℕ)
   pub all_is : all ≡ done ++ rest
   pub number_is : length done ≡ number
-  pub is : IsLinesText recode 1 done refused text
+  pub are : AreListings recode 1 done refused pieces
 
-lines_more : (recode : Bool) (number at : ℕ) (done : List (List ℕ)) (refused count : ℕ) (line text last : List ℕ) → at ≡ number + length done
-    → IsLinesText recode number done refused text → IsListing recode at line count last → IsLinesText recode number (done ++ line ∷ []) (refused + count) (text ++ last)
-lines_more recode number at [] refused count line text last e (none, empty) this =
-    let here : at ≡ number = omega (arith, e) in (
-      this.read,
-      last,
-      0,
-      [],
-      this.reads,
-      rw here at this.is,
-      (refl, refl),
-      omega (arith, none, this.count_is),
-      ap (λ (l : List ℕ). l ++ last) empty ∙ sym (append-nil last),
-    )
-lines_more recode number at (l ∷ done) refused count line text last e (read, first, others, rest, reads, is, more, sum, whole) this = (
-  read,
+lines_more : (recode : Bool) (number at : ℕ) (done : List (List ℕ)) (refused count : ℕ) (line : List ℕ) (pieces : List (List ℕ)) (last : List ℕ) → at ≡ number + length done
+    → AreListings recode number done refused pieces → IsListing recode at line count last → AreListings recode number (done ++ line ∷ []) (refused + count) (pieces ++ last ∷ [])
+lines_more recode number at [] refused count line pieces last e (none, empty) this =
+    let here : at ≡ number = omega (arith, e) in
+    (count, last, 0, [], subst (λ (n : ℕ). IsListing recode n line count last) here this, (refl, refl), omega (arith, none), ap (λ (ps : List (List ℕ)). ps ++ last ∷ []) empty)
+lines_more recode number at (l ∷ done) refused count line pieces last e (first, piece, others, rest, is, more, sum, whole) this = (
   first,
+  piece,
   others + count,
-  rest ++ last,
-  reads,
+  rest ++ last ∷ [],
   is,
   lines_more recode (number + 1) at done others count line rest last (omega (arith, e)) more this,
   omega (arith, sum),
-  ap (λ (t : List ℕ). t ++ last) whole ∙ append_assoc first rest last,
+  ap (λ (ps : List (List ℕ)). ps ++ last ∷ []) whole,
 )
 
 pub at_most_one : (recode : Bool) (number : ℕ) (line : List ℕ) (count : ℕ) (text : List ℕ) → IsListing recode number line count text → count ≤ 1
@@ -48,28 +41,40 @@ at_most_one recode number line count text is = omega (arith, is.count_is, by is.
   by (Err e) = omega arith
 
 -- one line more
-pub one_more_line : (recode : Bool) (all rest more : List (List ℕ)) (number refused count : ℕ) (line text last : List ℕ) → rest ≡ line ∷ more
-    → Listed recode all rest number refused text → IsListing recode (number + 1) line count last → Listed recode all more (number + 1) (refused + count) (text ++ last)
-one_more_line recode all rest more number refused count line text last cut so_far this = record {
+pub one_more_line : (recode : Bool) (all rest more : List (List ℕ)) (number refused count : ℕ) (line : List ℕ) (pieces : List (List ℕ)) (last : List ℕ) → rest ≡ line ∷ more
+    → Listed recode all rest number refused pieces → IsListing recode (number + 1) line count last → Listed recode all more (number + 1) (refused + count) (pieces ++ last ∷ [])
+one_more_line recode all rest more number refused count line pieces last cut so_far this = record {
   done = so_far.done ++ line ∷ [];
   all_is = so_far.all_is ∙ ap (λ (l : List (List ℕ)). so_far.done ++ l) cut ∙ sym (append_assoc so_far.done (line ∷ []) more);
   number_is = length-append so_far.done (line ∷ []) ∙ ap (λ (n : ℕ). n + 1) so_far.number_is;
-  is = lines_more recode 1 (number + 1) so_far.done refused count line text last (omega (arith, so_far.number_is)) so_far.is this;
+  are = lines_more recode 1 (number + 1) so_far.done refused count line pieces last (omega (arith, so_far.number_is)) so_far.are this;
 }
 
 -- the lines before the rest are some first lines of all
-pub first_lines : (input : List ℕ) (recode : Bool) (rest : List (List ℕ)) (number refused : ℕ) (text : List ℕ)
-    → Listed recode (lines input) rest number refused text → IsFirstLinesText input recode text
-first_lines input recode rest number refused text so_far =
-    (number, refused, rw (so_far.all_is, take_at so_far.done rest number so_far.number_is) so_far.is)
+first_lines : (input : List ℕ) (recode : Bool) (rest : List (List ℕ)) (number refused : ℕ) (pieces : List (List ℕ))
+    → Listed recode (lines input) rest number refused pieces → AreFirstListings input recode pieces
+first_lines input recode rest number refused pieces so_far =
+    (number, refused, rw (so_far.all_is, take_at so_far.done rest number so_far.number_is) so_far.are)
 
--- nothing more
-pub no_more : (recode : Bool) (all rest : List (List ℕ)) (number refused : ℕ) (text last : List ℕ) → last ≡ []
-    → Listed recode all rest number refused text → Listed recode all rest number refused (text ++ last)
-no_more recode all rest number refused text last none so_far = rw (none, append-nil) so_far
+-- so are they with what the next line makes
+pub first_lines_more : (input : List ℕ) (recode : Bool) (rest more : List (List ℕ)) (number refused : ℕ) (line : List ℕ) (before : List (List ℕ)) → rest ≡ line ∷ more
+    → Listed recode (lines input) rest number refused before → (pieces : List (List ℕ)) (x : Option ℕ) → MakesOne (IsListing recode (number + 1) line) pieces x → AreFirstListings input recode (before ++ pieces)
+first_lines_more input recode rest more number refused line before cut so_far pieces (Some count) (text, is, same) =
+    first_lines input recode more (number + 1) (refused + count) (before ++ pieces) (rw same (one_more_line recode (lines input) rest more number refused count line before text cut so_far is))
+first_lines_more input recode rest more number refused line before cut so_far pieces None none =
+    first_lines input recode rest number refused (before ++ pieces) (rw (none, append-nil) so_far)
 
--- all lines
-pub all_lines : (input : List ℕ) (recode : Bool) (refused : ℕ) (text : List ℕ) → IsLinesText recode 1 (lines input) refused text → IsFirstLinesText input recode text
-all_lines input recode refused text is =
+-- all lines are some first ones
+pub lines_first : (input : List ℕ) (recode : Bool) (pieces : List (List ℕ)) (x : Option LineCounts) → LinesMake input recode pieces x → AreFirstListings input recode pieces
+lines_first input recode pieces (Some counts) (all, are) =
     let whole : take (length (lines input)) (lines input) ≡ lines input = take_all (length (lines input)) (lines input) (omega arith) in
-    (length (lines input), refused, rw whole is)
+    (length (lines input), counts.refused, rw whole are)
+lines_first input recode pieces None are = are
+
+-- all lines, and then what the line that counts makes
+pub total_more : (input : List ℕ) (recode : Bool) (counts : LineCounts) (listings : List (List ℕ)) → LinesMake input recode listings (Some counts)
+    → (pieces : List (List ℕ)) (x : Option (Unit {0})) → MakesOne (λ (u : Unit {0}) (text : List ℕ). text ≡ total_text counts.lines counts.refused) pieces x
+    → DumpMakes input recode (listings ++ pieces) (option_map (λ (u : Unit {0}). counts.refused) x)
+total_more input recode counts listings (all, are) pieces (Some u) (text, is, same) =
+    (listings, are, ap (λ (ps : List (List ℕ)). listings ++ ps) (same ∙ ap (λ (t : List ℕ). t ∷ []) (is ∙ ap (λ (n : ℕ). total_text n counts.refused) all)))
+total_more input recode counts listings made pieces None none = rw (none, append-nil) (lines_first input recode listings (Some counts) made)

@@ -1,9 +1,9 @@
 -- That the definition of a listing leaves no choice.
-use Rattle.std.specs.Prelude.{◌≡◌, ℕ, List, Result, Bool}
+use Rattle.std.specs.Prelude.{◌≡◌, ℕ, List, Some, Result, Bool}
 use Rattle.mesh_atoms.specs.declared.refusal.Refusal.{Refusal}
 use Rattle.mesh_packet.specs.declared.packet.Span.{Span}
 use Rattle.mesh_packet.specs.Fields.{PacketFields}
-use Rattle.mesh_dump.specs.Dump.{IsDumpText}
+use Rattle.mesh_dump.specs.Dump.{DumpMakes}
 use Rattle.mesh_dump.specs.Lines.{ReadsAs}
 
 -- each line says something
@@ -14,6 +14,9 @@ AlwaysReads = (line : List ℕ) → (read : Result (PacketFields × List Span) R
 abbrev pub ReadsAsOne : Type 0
 ReadsAsOne = (line : List ℕ) (a b : Result (PacketFields × List Span) Refusal) → ReadsAs line a → ReadsAs line b → a ≡ b
 
--- the listing of an input is one text, with its packets written again or without, and so many of its lines are refused
+-- the listing of an input, with its packets written again or without, is one list of pieces, and so one text; and so many of its lines
+-- are refused
 abbrev pub HasOneText : Type 0
-HasOneText = (input : List ℕ) (recode : Bool) (m n : ℕ) (a b : List ℕ) → IsDumpText input recode m a → IsDumpText input recode n b → (m ≡ n) × (a ≡ b)
+HasOneText =
+    (input : List ℕ) (recode : Bool) (m n : ℕ) (a b : List (List ℕ)) → DumpMakes input recode a (Some m) → DumpMakes input recode b (Some n) →
+    (m ≡ n) × (a ≡ b)

@@ -4,4 +4,3 @@ pub mod Laws
 pub mod Lines
 pub mod Pairs
 pub mod Values
-pub mod Writes

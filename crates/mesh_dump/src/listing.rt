@@ -1,11 +1,8 @@
 //! The listing of lines of hexadecimal text as packets.
-ghost use Rattle.std.specs.Prelude.{◌≡◌, ◌++◌, ◌≤◌, ℕ, List, [], Err, length, take, IfOk, OnOk};
-ghost use Rattle.std.specs.Io.KnownBytes.{Appends};
-ghost use Rattle.std.specs.Str.Lines.{lines};
-ghost use Rattle.mesh_io.specs.Faults.{Rose};
-ghost use Rattle.mesh_dump.specs.Dump.{IsLinesText, IsDumpText, IsDumpFront, IsFirstLinesText, total_text};
+ghost use Rattle.std.specs.Prelude.{◌≡◌, ◌++◌, ◌≤◌, OnOk};
+ghost use Rattle.mesh_io.specs.Pieces.{MakesOne, PutsPieces};
+ghost use Rattle.mesh_dump.specs.Dump.{LinesMake, DumpMakes, total_text};
 ghost use Rattle.mesh_dump.specs.Lines.{IsListing};
-ghost use Rattle.mesh_dump.specs.Writes.{Writes};
 
 use crate::lines::{Desk, first_line, put_line};
 use mesh_atoms::{Bytes, put_decimal};
@@ -31,8 +28,8 @@ fn put_total(out: &mut Bytes, counts: LineCounts) -> Result<(), AllocError>
 
 // Writes the line that counts, by one write. What `part` holds is lost.
 fn write_total<O: Sink>(part: &mut Bytes, counts: LineCounts, out: &mut O) -> Result<(), Stop>
-    ensures text { Writes (λ _ text. text ≡ total_text counts.lines counts.refused) (λ text. text ≡ total_text counts.lines counts.refused)
-        (λ text. text ≡ []) (O.content out.old) (O.content out.new) (O.faults out.old) (O.faults out.new) result }
+    ensures puts { PutsPieces (MakesOne (λ _ text. text ≡ total_text counts.lines counts.refused))
+        (O.content out.old) (O.content out.new) (O.faults out.old) (O.faults out.new) result }
     ensures later { O.faults out.old ≤ O.faults out.new }
 {
     part.clear();
@@ -51,8 +48,8 @@ fn write_line<O: Sink>(
     recode: bool,
     out: &mut O,
 ) -> Result<u64, Stop>
-    ensures text { Writes (IsListing recode number line.now) (λ text. (count : ℕ) × IsListing recode number line.now count text)
-        (λ text. text ≡ []) (O.content out.old) (O.content out.new) (O.faults out.old) (O.faults out.new) result }
+    ensures puts { PutsPieces (MakesOne (IsListing recode number line.now))
+        (O.content out.old) (O.content out.new) (O.faults out.old) (O.faults out.new) result }
     ensures later { O.faults out.old ≤ O.faults out.new }
 {
     if line.is_empty() {
@@ -74,9 +71,8 @@ fn write_lines<O: Sink>(
     recode: bool,
     out: &mut O,
 ) -> Result<LineCounts, Stop>
-    ensures lines { IfOk result (λ counts. counts.lines ≡ length (lines input.now)) }
-    ensures text { Writes (λ counts. IsLinesText recode 1 (lines input.now) counts.refused) (IsFirstLinesText input.now recode)
-        (IsFirstLinesText input.now recode) (O.content out.old) (O.content out.new) (O.faults out.old) (O.faults out.new) result }
+    ensures puts { PutsPieces (LinesMake input.now recode)
+        (O.content out.old) (O.content out.new) (O.faults out.old) (O.faults out.new) result }
     ensures later { O.faults out.old ≤ O.faults out.new }
 {
     let mut at = 0;
@@ -97,17 +93,11 @@ fn write_lines<O: Sink>(
 /// Lists the input on `out`, with each packet written again where `recode` says so: each line's listing by one write, then the
 /// last line, which counts. Gives how many lines are refused.
 pub fn dump<O: Sink>(alloc: Global, input: &[u8], recode: bool, out: &mut O) -> Result<u64, Stop>
-    // The whole listing, of which so many lines are refused, was put on `out`.
-    ensures whole { IfOk result (λ refused. (text : List ℕ) × IsDumpText input.now recode refused text
-        × Appends (O.content out.old) (O.content out.new) text) }
-
-    // The sink counted a fault; a front of the listing, or of that of some first lines, stands on `out`.
-    ensures write { result ≡ Err Stop.Write → Rose (O.faults out.old) (O.faults out.new)
-        × (text : List ℕ) × IsDumpFront input.now recode text × (n : ℕ) × Appends (O.content out.old) (O.content out.new) (take n text) }
-
-    // The listing of some first lines stands on `out`.
-    ensures memory { result ≡ Err Stop.Memory → (text : List ℕ) × IsFirstLinesText input.now recode text
-        × Appends (O.content out.old) (O.content out.new) text }
+    // At `Ok` all pieces of the listing were put on `out`, and so many lines of it are refused. At a failed write the sink counted a
+    // fault, and the pieces before the one that was written were put, and then a prefix of it. At an allocation failure the listings of
+    // some first lines were put, maybe of none.
+    ensures puts { PutsPieces (DumpMakes input.now recode)
+        (O.content out.old) (O.content out.new) (O.faults out.old) (O.faults out.new) result }
     ensures later { O.faults out.old ≤ O.faults out.new }
 {
     let mut desk = Desk::new(alloc);

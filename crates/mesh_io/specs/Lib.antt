@@ -3,6 +3,7 @@ pub mod Clocks
 pub mod Faults
 pub mod MemAir
 pub mod Memory
+pub mod Pieces
 pub mod Sinks
 pub mod Sources
 pub mod Told
