@@ -1,6 +1,5 @@
 -- What a run leaves by its answer, part by part.
-use Rattle.std.proofs.Common.{◌≡◌, ℕ, ◌^◌, ◌<◌, ◌≤◌, List, map, take, length, Option, None, Result, Ok, Err, refl, sym, ap, subst, arith, inl, inr}
-use Rattle.std.specs.Io.KnownBytes.{Appends}
+use Rattle.std.proofs.Common.{◌≡◌, ℕ, ◌^◌, ◌<◌, ◌≤◌, List, map, take, length, Option, Some, None, Result, Ok, Err, refl, sym, ap, subst, arith, inl, inr}
 use Rattle.std.specs.Prelude.{OnOk}
 use Rattle.std.proofs.Math.Seq.{take-length}
 use Rattle.mesh_atoms.specs.declared.settings.Port.{Port}
@@ -10,13 +9,15 @@ use Rattle.mesh_atoms.specs.State.{State}
 use Rattle.mesh_config.specs.RunSettings.{run_refusals}
 use Rattle.mesh_core.specs.Deferred.{IsKeptOf}
 use Rattle.mesh_io.proofs.Fronts.{keeps_same}
+use Rattle.mesh_io.proofs.Pieces.{stops_in}
 use Rattle.mesh_io.specs.Airs.{Report}
 use Rattle.mesh_io.specs.Faults.{Rose, RoseByOne}
+use Rattle.mesh_io.specs.Pieces.{MakesOne, PutsAll, PutsPieces}
 use Rattle.mesh_io.specs.Told.{TellsMore}
 use Rattle.mesh_io.specs.declared.stop.Stop.{Stop}
 use Rattle.mesh_io.specs.declared.stop.Stop.TheVariants as stop
-use Rattle.mesh_run.specs.Ends.{Completes, LeavesText, FinishesTurns, Spends, ToldNothing, RouterEnds, EndsRun}
-use Rattle.mesh_run.specs.Run.{StatesSetup, ToldInCall, told, ArePortsAttached, IsTold, WholeRouterRun, SpendsTurns, RunsShort}
+use Rattle.mesh_run.specs.Ends.{Completes, FinishesTurns, Spends, ToldNothing, RouterMakes, RouterEnds, EndsRun}
+use Rattle.mesh_run.specs.Run.{StatesSetup, ToldInCall, told, ArePortsAttached, IsTold, WholeRouterRun, SpendsTurns, RunsShort, RunMakes}
 use Rattle.mesh_run.specs.Run.RunsShort.{Before_turns, In_turns}
 use Rattle.mesh_run.specs.Text.{IsReport}
 use Rattle.mesh_run.specs.declared.fault.RunFault.{RunFault}
@@ -67,15 +68,21 @@ module _ (setup : RunSetup) (most : ℕ) (state : State) (ended : Ended) (k l : 
     };
   }
 
-  -- what is left by the report of what is kept of it
+  -- what the report of what is kept of it makes
+  report_makes : ended.turns ≤ most → setup.end ≤ ended.greatest → (rest : State) → IsKeptOf setup.end state rest → (pieces : List (List ℕ)) (x : Option (Unit {0})) →
+      MakesOne (λ (u : Unit {0}) (text : List ℕ). IsReport setup.end ended rest text) pieces x → RouterMakes setup most k l a b pieces x
+  report_makes within reached rest kept pieces (Some u) (text, report, is) = (text, finishes within reached rest kept text report, is)
+  report_makes within reached rest kept pieces None none = (none, inr (stops_behind setup most state ended k l a b within does))
+
+  -- what is left by it
   pub report_left : ended.turns ≤ most → setup.end ≤ ended.greatest → (rest : State) → IsKeptOf setup.end state rest → (o o' : Option (List ℕ)) (f f' : ℕ) →
-      (text : List ℕ) × IsReport setup.end ended rest text × Appends o o' text → RouterEnds setup most k l a b o o' f f' (Ok tt)
-  report_left within reached rest kept o o' f f' (text, report, stands) = (text, finishes within reached rest kept text report, stands)
+      PutsAll (MakesOne (λ (u : Unit {0}) (text : List ℕ). IsReport setup.end ended rest text)) o o' tt → RouterEnds setup most k l a b o o' f f' (Ok tt)
+  report_left within reached rest kept o o' f f' (pieces, made, stands) = (pieces, report_makes within reached rest kept pieces (Some tt) made, stands)
 
   pub report_stops : ended.turns ≤ most → setup.end ≤ ended.greatest → (rest : State) → IsKeptOf setup.end state rest → (o o' : Option (List ℕ)) (f f' : ℕ) (why : Stop) →
-      LeavesText (IsReport setup.end ended rest) o o' f f' (Err why) → RouterEnds setup most k l a b o o' f f' (Err (fault.Stopped why))
-  report_stops within reached rest kept o o' f f' stop.Write (rose, text, report, n, stands) = (rose, text, finishes within reached rest kept text report, n, stands)
-  report_stops within reached rest kept o o' f f' stop.Memory keeps = (inr (stops_behind setup most state ended k l a b within does), keeps)
+      PutsPieces (MakesOne (λ (u : Unit {0}) (text : List ℕ). IsReport setup.end ended rest text)) o o' f f' (Err why) → RouterEnds setup most k l a b o o' f f' (Err (fault.Stopped why))
+  report_stops within reached rest kept o o' f f' why stops =
+      stops_in (MakesOne (λ (u : Unit {0}) (text : List ℕ). IsReport setup.end ended rest text)) (RouterMakes setup most k l a b) (λ x. x) o o' f f' why refl stops (report_makes within reached rest kept)
 
   -- all its turns were done, below the end
   pub spends : ended.greatest < setup.end → Spends setup ended.turns ended.greatest setup.end k l a b
@@ -144,16 +151,21 @@ module _ (input : List ℕ) (setup : RunSetup) (stated : StatesSetup input setup
   stops_short : StopsTurns setup most k l b c → RunsShort input most (told k l a c n)
   stops_short s = In_turns setup s.moments s.reports stated (is_told s.moments s.reports s.clock_tells s.air_tells) s.within s.stops
 
+  -- what is made behind the attaches is what the run makes
+  run_makes : (pieces : List (List ℕ)) (x : Option (Unit {0})) → RouterMakes setup most k l b c pieces x → RunMakes input most (told k l a c n) pieces x
+  unfolding whole_run
+  run_makes pieces (Some u) (text, finishes, is) = (whole_run text finishes, is)
+  run_makes pieces None (none, inl quiet) = (none, Before_turns setup stated (attached_alone quiet))
+  run_makes pieces None (none, inr s) = (none, stops_short s)
+
   pub ends_behind : (o o' : Option (List ℕ)) (f f' af af' : ℕ) (r : Result (Unit {0}) RunFault) →
       RouterEnds setup most k l b c o o' f f' r → EndsRun input most (told k l a c n) o o' f f' af af' r
-  unfolding whole_run
-  ends_behind o o' f f' af af' (Ok u) (text, finishes, stands) = (whole_run text finishes, stands)
+  ends_behind o o' f f' af af' (Ok u) (pieces, made, stands) = (pieces, run_makes pieces (Some u) made, stands)
   ends_behind o o' f f' af af' (Err (fault.Refused number key)) h = absurd h
   ends_behind o o' f f' af af' (Err (fault.Attach interface)) h = absurd h
   ends_behind o o' f f' af af' (Err (fault.Turns turns greatest end)) (all, s, keeps) = (all, spends_turns turns greatest end s, keeps)
-  ends_behind o o' f f' af af' (Err (fault.Stopped stop.Write)) (rose, text, finishes, size, stands) = (rose, whole_run text finishes, size, stands)
-  ends_behind o o' f f' af af' (Err (fault.Stopped stop.Memory)) (inl quiet, keeps) = (Before_turns setup stated (attached_alone quiet), keeps)
-  ends_behind o o' f f' af af' (Err (fault.Stopped stop.Memory)) (inr s, keeps) = (stops_short s, keeps)
+  ends_behind o o' f f' af af' (Err (fault.Stopped why)) stops =
+      stops_in (RouterMakes setup most k l b c) (RunMakes input most (told k l a c n)) (λ x. x) o o' f f' why refl stops run_makes
 
 -- an attach failed
 pub attach_left : (input : List ℕ) (setup : RunSetup) (most : ℕ) (k : Option (List ℕ)) (a b : Option (List Report)) (o : Option (List ℕ)) (n f af af' i : ℕ) →
@@ -168,7 +180,7 @@ attach_left input setup most k a b o n f af af' i stated fewer number tells rose
 -- By the answer
 
 module _ (input : List ℕ) (most : ℕ) (t : ToldInCall) (o o' : Option (List ℕ)) (f f' af af' : ℕ) where
-  pub done_left : (r : Result (Unit {0}) RunFault) → EndsRun input most t o o' f f' af af' r → OnOk r ((w : WholeRouterRun input most t) × Appends o o' w.text)
+  pub done_left : (r : Result (Unit {0}) RunFault) → EndsRun input most t o o' f f' af af' r → OnOk r (PutsAll (RunMakes input most t) o o' tt)
   done_left (Ok u) h = h
   done_left (Err e) h = tt
 
@@ -182,5 +194,5 @@ module _ (input : List ℕ) (most : ℕ) (t : ToldInCall) (o o' : Option (List �
   completes (Err (fault.Attach interface)) (fails, rose, keeps) clear attached whole =
       absurd (omega (arith, fails.fewer, fails.is_attached.attached, attached fails.setup fails.stated))
   completes (Err (fault.Turns turns greatest end)) h clear attached whole = tt
-  completes (Err (fault.Stopped stop.Write)) (rose, run, n, stands) clear attached whole = absurd (whole rose)
+  completes (Err (fault.Stopped stop.Write)) h clear attached whole = absurd (whole h.0)
   completes (Err (fault.Stopped stop.Memory)) h clear attached whole = tt

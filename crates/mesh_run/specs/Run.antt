@@ -1,5 +1,5 @@
 -- Runs of the router that an input states, by what a clock and an air tell.
-use Rattle.std.specs.Prelude.{◌≡◌, ℕ, ◌<◌, ◌≤◌, ◌++◌, List, All, length, map, take, Option, None}
+use Rattle.std.specs.Prelude.{◌≡◌, ℕ, ◌<◌, ◌≤◌, ◌++◌, List, [], ◌∷◌, All, length, map, take, Option, Some, None}
 use Rattle.mesh_atoms.specs.declared.settings.RunSetup.{RunSetup}
 use Rattle.mesh_atoms.specs.State.{State}
 use Rattle.mesh_config.specs.RunSettings.{SetupIs, run_refusals}
@@ -87,3 +87,8 @@ pub data RunsShort (input : List ℕ) (most : ℕ) (told : ToldInCall) : Type 0 
   Before_turns : (setup : RunSetup) → StatesSetup input setup → ArePortsAttached setup (length setup.ports) told → RunsShort input most told
   In_turns : (setup : RunSetup) (moments : List ℕ) (reports : List Report) → StatesSetup input setup → IsTold setup moments reports told →
       length moments ≤ most → TurnsStopShort setup moments reports → RunsShort input most told
+
+-- what a run makes: the text of a whole run, by one write; nothing before it, where memory was wanting
+abbrev pub RunMakes : List ℕ → ℕ → ToldInCall → List (List ℕ) → Option (Unit {0}) → Type 0
+RunMakes input most told pieces (Some u) = (r : WholeRouterRun input most told) × (pieces ≡ r.text ∷ [])
+RunMakes input most told pieces None = (pieces ≡ []) × RunsShort input most told

@@ -1,12 +1,13 @@
 //! A run of the router that an input states.
-ghost use Rattle.std.specs.Prelude.{◌≡◌, ◌≤◌, ℕ, List, Err, OnOk, None, length, take};
-ghost use Rattle.std.specs.Io.KnownBytes.{Appends, Keeps};
+ghost use Rattle.std.specs.Prelude.{◌≡◌, ◌≤◌, ℕ, List, Err, OnOk, None, length};
+ghost use Rattle.std.specs.Io.KnownBytes.{Keeps};
 ghost use Rattle.mesh_atoms.specs.declared.settings.RunSetup.{RunSetup};
 ghost use Rattle.mesh_config.specs.RunSettings.{run_refusals, FirstRunRefusal};
 ghost use Rattle.mesh_io.specs.Faults.{Rose, RoseByOne};
+ghost use Rattle.mesh_io.specs.Pieces.{PutsAll, PutsFront, PutsFirst};
 ghost use Rattle.mesh_run.specs.Attaching.{AttachesAtOnce};
 ghost use Rattle.mesh_run.specs.Ends.{EndsRun, Completes};
-ghost use Rattle.mesh_run.specs.Run.{StatesSetup, told, IsUntold, WholeRouterRun, SpendsTurns, FailsToAttach, RunsShort};
+ghost use Rattle.mesh_run.specs.Run.{StatesSetup, told, IsUntold, RunMakes, SpendsTurns, FailsToAttach};
 ghost use Rattle.mesh_run.specs.declared.fault.RunFault.TheVariants.{Refused, Attach, Turns, Stopped};
 ghost use Rattle.mesh_config.specs.Keys.Faults.{first};
 
@@ -57,9 +58,9 @@ pub fn run<B: Bases, O: Sink, A: Air, C: Clock>(
     requires { A.attached air.old ≡ 0 }
 
     // The text of a run, by the moments that the clock told and the reports of the air, was put on `out`.
-    ensures done { OnOk result ((r : WholeRouterRun input.now turns
+    ensures done { OnOk result (PutsAll (RunMakes input.now turns
         (told (C.moments clock.old) (C.moments clock.new) (A.reports air.old) (A.reports air.new) (A.attached air.new)))
-        × Appends (O.content out.old) (O.content out.new) r.text) }
+        (O.content out.old) (O.content out.new) tt) }
 
     // The input states no setup; nothing was attached or told, and nothing put on `out`.
     ensures refused { (number : ℕ) (key : List ℕ) → result ≡ Err (Refused number key) → FirstRunRefusal input.now number key
@@ -80,16 +81,15 @@ pub fn run<B: Bases, O: Sink, A: Air, C: Clock>(
         (told (C.moments clock.old) (C.moments clock.new) (A.reports air.old) (A.reports air.new) (A.attached air.new))
         × Keeps (O.content out.old) (O.content out.new) }
 
-    // The sink counted a fault; a front of the text of a run stands on `out`.
-    ensures write { result ≡ Err (Stopped Stop.Write) → Rose (O.faults out.old) (O.faults out.new)
-        × (r : WholeRouterRun input.now turns
+    // The sink counted a fault; a prefix of the text of a run was put on `out`.
+    ensures write { result ≡ Err (Stopped Stop.Write) → PutsFront (RunMakes input.now turns
         (told (C.moments clock.old) (C.moments clock.new) (A.reports air.old) (A.reports air.new) (A.attached air.new)))
-        × (n : ℕ) × Appends (O.content out.old) (O.content out.new) (take n r.text) }
+        (O.content out.old) (O.content out.new) (O.faults out.old) (O.faults out.new) }
 
     // What was told and handed over is that of some first turns, at most as many as were asked for; nothing was put on `out`.
-    ensures memory { result ≡ Err (Stopped Stop.Memory) → RunsShort input.now turns
-        (told (C.moments clock.old) (C.moments clock.new) (A.reports air.old) (A.reports air.new) (A.attached air.new))
-        × Keeps (O.content out.old) (O.content out.new) }
+    ensures memory { result ≡ Err (Stopped Stop.Memory) → PutsFirst (RunMakes input.now turns
+        (told (C.moments clock.old) (C.moments clock.new) (A.reports air.old) (A.reports air.new) (A.attached air.new)))
+        (O.content out.old) (O.content out.new) }
 
     // Where the input states a setup, all its ports are attached, and the sink counts no fault, it is done, or its turns are, or memory
     // was wanting.

@@ -1,7 +1,7 @@
 //! The report of a router at the end of its run.
 ghost use Rattle.std.specs.Prelude.{◌≡◌, ◌++◌, ◌≤◌, OnOk, IfOk};
 ghost use Rattle.mesh_atoms.specs.Sound.{Sound};
-ghost use Rattle.mesh_run.specs.Ends.{LeavesText};
+ghost use Rattle.mesh_io.specs.Pieces.{MakesOne, PutsPieces};
 ghost use Rattle.mesh_run.specs.Text.{run_line, IsReport};
 
 use crate::turns::Ended;
@@ -58,7 +58,7 @@ pub fn tell_report<R: RouterView, O: Sink>(
     out: &mut O,
 ) -> Result<(), Stop>
     requires { Sound (R.state router.now) }
-    ensures leaves { LeavesText (IsReport end ended.now (R.state router.now))
+    ensures puts { PutsPieces (MakesOne (λ _ text. IsReport end ended.now (R.state router.now) text))
         (O.content out.old) (O.content out.new) (O.faults out.old) (O.faults out.new) result }
     ensures later { O.faults out.old ≤ O.faults out.new }
 {
