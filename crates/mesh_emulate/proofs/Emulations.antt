@@ -1,29 +1,32 @@
--- What an emulation leaves on out, from what is left by what is told of its network.
-use Rattle.std.proofs.Common.{◌≡◌, ℕ, Bool, List, [], ◌++◌, Option, Some, None, Result, Err, take, refl, inl, inr, sym, ap, ◌∙◌, subst, append_assoc}
-use Rattle.std.specs.Io.KnownBytes.{Appends}
+-- The pieces of an emulation, from what is told of its network.
+use Rattle.std.proofs.Common.{◌≡◌, ℕ, Bool, List, [], ◌∷◌, ◌++◌, Option, Some, None, Result, Err, refl, sym, ap, ◌∙◌, subst, append_assoc}
+use Rattle.std.specs.List.{concat}
 use Rattle.std.specs.Prelude.{IsSome}
 use Rattle.std.proofs.lemmas.List.{append-nil}
 use Rattle.mesh_atoms.specs.declared.addr.Addr4.{Addr4}
 use Rattle.mesh_atoms.specs.State.{State}
 use Rattle.mesh_data.specs.Text.{text_of}
 use Rattle.mesh_data.specs.Trips.{IsTrip}
-use Rattle.mesh_io.specs.Faults.{Rose}
 use Rattle.mesh_io.specs.declared.stop.Stop.{Stop}
 use Rattle.mesh_io.specs.declared.stop.Stop.TheVariants as stop
-use Rattle.mesh_emulate.specs.Emulation.{TellsTrip, TellsProbe, Emulation, StoppedEmulation, IsRefused, without_both, without_probe, IsAllBut, But_the_trip, But_the_probe, IsFirstPart, Of_nothing, Of_first_events, Of_run, IsFront, Front_of_events, Front_of_run, Front_of_whole}
-use Rattle.mesh_emulate.specs.Left.{LeavesOut, IsTripTold, IsProbeTold, IsWholeText, IsRunAlone, IsTripAlone, IsFirstEventsText, IsFrontText, IsPartText}
+use Rattle.mesh_emulate.specs.Emulation.{IsPacketSent, IsProbed, TellsWanted, piece_if, TellsEvents, IsEndSummary, Emulation, IsRefused, without_both, IsFirstPart, Of_nothing, Of_first_events, But_the_trip, But_the_probe, EmulationMakes}
+use Rattle.mesh_emulate.specs.Parts.{In_first, In_next, MakesWanted, RunWithPieces, EventsMake, IsTripText, EndMakes, RunMakes, IsProbedText, ErrandMakes, Unopened, Opened}
+use Rattle.mesh_io.specs.Pieces.{MakesOne, PutsPieces}
 use Rattle.mesh_emulate.specs.Prepared.{IsPrepared, IsUnbegun}
 use Rattle.mesh_emulate.specs.Wants.{WantedPacket, Wants, IsNamed, Agree, Departs}
 use Rattle.mesh_emulate.specs.declared.emulation.EmulateFault.{EmulateFault}
 use Rattle.mesh_emulate.specs.declared.emulation.EmulateFault.TheVariants.{Refused, Stopped}
 use Rattle.mesh_emulate.specs.declared.prepared.Prepared.{Prepared}
 use Rattle.mesh_emulate.specs.declared.wanted.Departure.{Departure}
-use Rattle.mesh_texts.specs.Runs.{WholeRun, IsRunText, IsFirstTrace}
+use Rattle.mesh_emulate.proofs.Parts.{whole_run}
+use Rattle.mesh_emulate.proofs.Putting.{puts_as, both_made}
+use Rattle.mesh_texts.specs.machine.Net.{NetState}
+use Rattle.mesh_texts.specs.machine.NetRun.{IsOpeningNet}
 use Rattle.mesh_config.specs.Keys.Faults.{IfSettingRefused}
 use Rattle.mesh_config.specs.declared.keys.fault.ConfigFault.{ConfigFault}
 use Rattle.mesh_config.specs.declared.keys.fault.ConfigFault.TheVariants as faults
 
-pub same_stop : (a b : Stop) → ◌≡◌ {A = Result (Unit {0}) EmulateFault} (Err (Stopped a)) (Err (Stopped b)) → a ≡ b
+same_stop : (a b : Stop) → ◌≡◌ {A = Result (Unit {0}) EmulateFault} (Err (Stopped a)) (Err (Stopped b)) → a ≡ b
 same_stop a b e = cc
 
 -- Before the first event
@@ -43,100 +46,123 @@ unbegun_written (faults.Memory a) ends is e = cc
 
 -- From numbers to names
 
-some_wanted : {A B : Type 0} (R : A → B → Type 0) (x : Option A) (y : Option B) → Agree R x y → IsSome y → IsSome x
-some_wanted R (Some a) (Some b) is some = refl
-some_wanted R None None is some = some
-some_wanted R None (Some b) is some = absurd is
-some_wanted R (Some a) None is some = absurd is
+-- what is wanted is not made yet
+unmade : {A B : Type 0} (R : A → B → Type 0) (IsText : B → List ℕ → Type 0) (x : Option A) (y : Option B) (pieces : List (List ℕ)) → Agree R x y →
+    MakesWanted IsText y pieces None → IsSome x × (pieces ≡ [])
+unmade R IsText (Some a) (Some b) pieces is none = (refl, none)
+unmade R IsText None None pieces is made = absurd made
+unmade R IsText None (Some b) pieces is made = absurd is
+unmade R IsText (Some a) None pieces is made = absurd is
+
+-- what is wanted is made, by a relation of names where one of numbers is known
+made_wanted : {A B : Type 0} (R : A → B → Type 0) (IsText : B → List ℕ → Type 0) (IsText' : A → List ℕ → Type 0) (x : Option A) (y : Option B) (pieces : List (List ℕ)) →
+    ((a : A) (b : B) (text : List ℕ) → R a b → IsText b text → IsText' a text) → Agree R x y → MakesWanted IsText y pieces (Some tt) →
+    (text : List ℕ) × TellsWanted IsText' x text × (pieces ≡ piece_if x text)
+made_wanted R IsText IsText' (Some a) (Some b) pieces turn is (text, told, whole) = (text, turn a b text is told, whole)
+made_wanted R IsText IsText' None None pieces turn is none = ([], refl, none)
+made_wanted R IsText IsText' None (Some b) pieces turn is made = absurd is
+made_wanted R IsText IsText' (Some a) None pieces turn is made = absurd is
+
+-- the pieces of the parts, one behind the other
+joined : (pieces first next events end one trips trip probe : List (List ℕ)) (summary : List ℕ) → pieces ≡ first ++ next → first ≡ events ++ end → end ≡ one ++ trips →
+    one ≡ summary ∷ [] → trips ≡ trip → next ≡ probe → pieces ≡ events ++ summary ∷ (trip ++ probe)
+joined pieces first next events end one trips trip probe summary a b c d e f = rw (a, b, c, d, e, f) (append_assoc events (summary ∷ trip) probe)
 
 module _ (input : List ℕ) (wants : Wants) (p : Prepared) (ready : IsPrepared input wants p) where
-  trip_named : (states : List State) (send : Option WantedPacket) (departs : Option Departure) (text : List ℕ) → Agree (Departs p.scenario) send departs →
-      IsTripTold p.scenario states departs text → TellsTrip p.scenario states send text
-  trip_named states None None text departs told = told
-  trip_named states (Some packet) (Some departure) text departs (trip, is, text_is) = record {
+  trip_named : (states : List State) (packet : WantedPacket) (departure : Departure) (text : List ℕ) → Departs p.scenario packet departure →
+      IsTripText p.scenario states departure text → IsPacketSent p.scenario states packet text
+  trip_named states packet departure text departs (trip, is, text_is) = record {
     from = departure.from;
     named = departs.0;
     trip = trip;
     is_trip = subst (λ (a : Addr4). IsTrip p.scenario states departure.from a trip) departs.1 is;
     is_text = text_is ∙ ap (λ (a : Addr4). text_of p.scenario departure.from a trip) departs.1;
   }
-  trip_named states None (Some departure) text departs told = absurd departs
-  trip_named states (Some packet) None text departs told = absurd departs
 
-  probe_named : (states : List State) (probe : Option (List ℕ)) (origin : Option ℕ) (text : List ℕ) → Agree (IsNamed p.scenario) probe origin →
-      IsProbeTold p.scenario states origin text → TellsProbe p.scenario states probe text
-  probe_named states None None text is told = told
-  probe_named states (Some name) (Some origin) text is (probe, is_probe, text_is) =
+  probe_named : (states : List State) (name : List ℕ) (origin : ℕ) (text : List ℕ) → IsNamed p.scenario name origin → IsProbedText p.scenario states origin text →
+      IsProbed p.scenario states name text
+  probe_named states name origin text is (probe, is_probe, text_is) =
       record { origin = origin; named = is; probe = probe; is_probe = is_probe; is_text = text_is }
-  probe_named states None (Some origin) text is told = absurd is
-  probe_named states (Some name) None text is told = absurd is
 
-  -- an emulation of this run
-  emulation : (w : Wants) → wants.trace ≡ w.trace → (run : WholeRun p.scenario) (told trip probe text : List ℕ) → IsRunText p.scenario p.errand.trace run told →
-      TellsTrip p.scenario run.final.routers w.send trip → TellsProbe p.scenario run.final.routers w.probe probe → text ≡ told ++ (trip ++ probe) →
-      (e : Emulation input w) × (text ≡ e.text)
-  emulation w same run told trip probe text is_told is_trip is_probe is = (
-    record {
+  module _ (opening : NetState) (opens : IsOpeningNet p.scenario opening) where
+    -- some first events
+    first_events : (stopped : NetState) (pieces events : List (List ℕ)) → RunWithPieces p.errand.trace opening stopped events → pieces ≡ events → IsFirstPart input wants pieces
+    first_events stopped pieces events told same = Of_first_events (record {
       scenario = p.scenario;
       stated = ready.stated;
-      run = run;
-      told = told;
-      is_told = subst (λ (b : Bool). IsRunText p.scenario b run told) (ready.errand.trace ∙ same) is_told;
-      trip = trip;
-      is_trip = is_trip;
-      probe = probe;
-      is_probe = is_probe;
-      text = text;
-      whole = is;
-    },
-    refl,
-  )
+      first_events = record { opening = opening; events = told.events; stopped = stopped; is_opening = opens; runs = told.runs };
+      pieces = events;
+      are_pieces = subst (λ (b : Bool). TellsEvents b opening told.events stopped events) ready.errand.trace told.are_told;
+    }) same
 
-  whole : (text : List ℕ) → IsWholeText p.scenario p.errand text → (e : Emulation input wants) × (text ≡ e.text)
-  whole text (run, front, probe, (told, trip, is_told, trip_told, is_front), probe_told, is) =
-      emulation wants refl run told trip probe text is_told (trip_named run.final.routers wants.send p.errand.send trip ready.errand.departs trip_told)
-      (probe_named run.final.routers wants.probe p.errand.probe probe ready.errand.origin probe_told)
-      (is ∙ ap (λ (l : List ℕ). l ++ probe) is_front ∙ append_assoc told trip probe)
+    module _ (final : NetState) where
+      -- an emulation of this run
+      emulation : (w : Wants) → wants.trace ≡ w.trace → (events : List (List ℕ)) → EventsMake p.errand.trace opening final events (Some tt) →
+          (summary : List ℕ) → IsEndSummary p.scenario final summary → (trip : List ℕ) → TellsWanted (IsPacketSent p.scenario final.routers) w.send trip →
+          (probe : List ℕ) → TellsWanted (IsProbed p.scenario final.routers) w.probe probe → (pieces : List (List ℕ)) →
+          pieces ≡ events ++ summary ∷ (piece_if w.send trip ++ piece_if w.probe probe) → (e : Emulation input w) × (pieces ≡ e.pieces)
+      emulation w same events (told, over) summary is_summary trip is_trip probe is_probe pieces is = (
+        record {
+          scenario = p.scenario;
+          stated = ready.stated;
+          run = whole_run p.scenario p.errand.trace opening final events opens told over;
+          events = events;
+          are_events = subst (λ (b : Bool). TellsEvents b opening told.events final events) (ready.errand.trace ∙ same) told.are_told;
+          summary = summary;
+          is_summary = is_summary;
+          trip = trip;
+          is_trip = is_trip;
+          probe = probe;
+          is_probe = is_probe;
+          pieces = pieces;
+          are_pieces = is;
+          text = concat pieces;
+          whole = refl;
+        },
+        refl,
+      )
 
-  run_alone : (text : List ℕ) → IsRunAlone p.scenario p.errand text → IsAllBut input wants text
-  run_alone text (some, run, is_told) =
-      let e = emulation (without_both wants) refl run text [] [] text is_told refl refl (sym (append-nil text)) in
-      But_the_trip (some_wanted (Departs p.scenario) wants.send p.errand.send ready.errand.departs some) e.0 e.1
+      -- the run is told, and then the probe that is wanted
+      told : (wanted : Option (List ℕ)) (probe : List ℕ) (pieces first next : List (List ℕ)) → RunMakes p.scenario p.errand opening final first (Some tt) →
+          TellsWanted (IsProbed p.scenario final.routers) wanted probe → next ≡ piece_if wanted probe → pieces ≡ first ++ next →
+          (e : Emulation input (record { trace = wants.trace; send = wants.send; probe = wanted })) × (pieces ≡ e.pieces)
+      told wanted probe pieces first next run is_probe behind whole =
+          let (events, end, are_events, is_end, front) = both_made (EventsMake p.errand.trace opening final) (EndMakes p.scenario p.errand.send final) first run in
+          let (one, trips, (summary, is_summary, is_one), are_trips, whole_end) =
+          both_made (MakesOne (λ (u : Unit {0}). IsEndSummary p.scenario final)) (MakesWanted (IsTripText p.scenario final.routers) p.errand.send) end is_end in
+          let (trip, is_trip, is_trips) = made_wanted (Departs p.scenario) (IsTripText p.scenario final.routers) (IsPacketSent p.scenario final.routers) wants.send p.errand.send trips
+          (trip_named final.routers) ready.errand.departs are_trips in
+          emulation (record { trace = wants.trace; send = wants.send; probe = wanted }) refl events are_events summary is_summary trip is_trip probe is_probe pieces
+          (joined pieces first next events end one trips (piece_if wants.send trip) (piece_if wanted probe) summary whole front whole_end is_one is_trips behind)
 
-  trip_alone : (text : List ℕ) → IsTripAlone p.scenario p.errand text → IsAllBut input wants text
-  trip_alone text (some, run, (told, trip, is_told, trip_told, is)) =
-      let e = emulation (without_probe wants) refl run told trip [] text is_told (trip_named run.final.routers wants.send p.errand.send trip ready.errand.departs trip_told) refl
-      (is ∙ ap (λ (l : List ℕ). told ++ l) (sym (append-nil trip))) in
-      But_the_probe (some_wanted (IsNamed p.scenario) wants.probe p.errand.probe ready.errand.origin some) e.0 e.1
+      -- the run is not told whole
+      run_part : (pieces : List (List ℕ)) → RunMakes p.scenario p.errand opening final pieces None → IsFirstPart input wants pieces
+      run_part pieces (In_first (stopped, events) is) = first_events stopped pieces pieces events refl
+      run_part pieces (In_next events end (told, over) (In_first none is) whole) =
+          first_events final pieces events told (whole ∙ ap (λ (l : List (List ℕ)). events ++ l) none ∙ append-nil events)
+      run_part pieces (In_next events end are_events (In_next one trips (summary, is_summary, is_one) trip whole_end) whole) =
+          let (some, none) = unmade (Departs p.scenario) (IsTripText p.scenario final.routers) wants.send p.errand.send trips ready.errand.departs trip in
+          let e = emulation (without_both wants) refl events are_events summary is_summary [] refl [] refl pieces
+          (joined pieces pieces [] events end one trips [] [] summary (sym (append-nil pieces)) whole whole_end is_one none refl) in
+          But_the_trip some e.0 e.1
 
-  first_events : (text : List ℕ) → IsFirstEventsText p.scenario p.errand.trace text → (e : StoppedEmulation input wants.trace) × (text ≡ e.text)
-  first_events text (first, is) =
-      (record { scenario = p.scenario; stated = ready.stated; first_events = first; text = text; is_text = subst (λ (b : Bool). IsFirstTrace b first text) ready.errand.trace is }, refl)
+  pub makes : (pieces : List (List ℕ)) (answer : Option (Unit {0})) → ErrandMakes p.scenario p.errand pieces answer → EmulationMakes input wants pieces answer
+  makes pieces (Some u) (Unopened none is) = let bad : ⊥ = cc in absurd bad
+  makes pieces None (Unopened none is) = Of_nothing none
+  makes pieces (Some u) (Opened opening final opens both) =
+      let (first, next, run, probes, whole) = both_made (RunMakes p.scenario p.errand opening final) (MakesWanted (IsProbedText p.scenario final.routers) p.errand.probe) pieces both in
+      let (probe, is_probe, is_next) = made_wanted (IsNamed p.scenario) (IsProbedText p.scenario final.routers) (IsProbed p.scenario final.routers) wants.probe p.errand.probe next
+      (probe_named final.routers) ready.errand.origin probes in
+      told opening opens final wants.probe probe pieces first next run is_probe is_next whole
+  makes pieces None (Opened opening final opens (In_first run is)) = run_part opening opens final pieces run
+  makes pieces None (Opened opening final opens (In_next first next run probes whole)) =
+      let (some, none) = unmade (IsNamed p.scenario) (IsProbedText p.scenario final.routers) wants.probe p.errand.probe next ready.errand.origin probes in
+      let e = told opening opens final None [] pieces first next run refl none whole in
+      But_the_probe some e.0 e.1
 
-  pub emulated : (a b : Option (List ℕ)) → (text : List ℕ) × IsWholeText p.scenario p.errand text × Appends a b text →
-      (e : Emulation input wants) × Appends a b e.text
-  emulated a b (text, is, stands) = let e = whole text is in (e.0, subst (Appends a b) e.1 stands)
-
-  is_front : (text : List ℕ) → IsFrontText p.scenario p.errand text → IsFront input wants text
-  is_front text (inl first) = let e = first_events text first in Front_of_events e.0 e.1
-  is_front text (inr (inl alone)) = Front_of_run (run_alone text alone)
-  is_front text (inr (inr (inl alone))) = Front_of_run (trip_alone text alone)
-  is_front text (inr (inr (inr all))) = let e = whole text all in Front_of_whole e.0 e.1
-
-  is_part : (text : List ℕ) → IsPartText p.scenario p.errand text → IsFirstPart input wants text
-  is_part text (inl none) = Of_nothing none
-  is_part text (inr (inl first)) = let e = first_events text first in Of_first_events e.0 e.1
-  is_part text (inr (inr (inl alone))) = Of_run (run_alone text alone)
-  is_part text (inr (inr (inr alone))) = Of_run (trip_alone text alone)
-
-  pub cut_short : (a b : Option (List ℕ)) (f g : ℕ) (why : Stop) → why ≡ stop.Write →
-      LeavesOut (IsWholeText p.scenario p.errand) (IsFrontText p.scenario p.errand) (IsPartText p.scenario p.errand) a b f g (Err why) →
-      Rose f g × (text : List ℕ) × IsFront input wants text × (n : ℕ) × Appends a b (take n text)
-  cut_short a b f g stop.Write e (rose, text, is, n, stands) = (rose, text, is_front text is, n, stands)
-  cut_short a b f g stop.Memory e left = absurd cc
-
-  pub stopped_short : (a b : Option (List ℕ)) (f g : ℕ) (why : Stop) → why ≡ stop.Memory →
-      LeavesOut (IsWholeText p.scenario p.errand) (IsFrontText p.scenario p.errand) (IsPartText p.scenario p.errand) a b f g (Err why) →
-      (text : List ℕ) × IsFirstPart input wants text × Appends a b text
-  stopped_short a b f g stop.Write e left = absurd cc
-  stopped_short a b f g stop.Memory e (text, is, stands) = (text, is_part text is, stands)
+  -- what is left where the run stopped
+  pub stopped : (a b : Option (List ℕ)) (f g : ℕ) (why how : Stop) → ◌≡◌ {A = Result (Unit {0}) EmulateFault} (Err (Stopped why)) (Err (Stopped how)) →
+      PutsPieces (ErrandMakes p.scenario p.errand) a b f g (Err why) → PutsPieces (EmulationMakes input wants) a b f g (Err how)
+  stopped a b f g why how e left =
+      subst (λ (s : Stop). PutsPieces (EmulationMakes input wants) a b f g (Err s)) (same_stop why how e)
+      (puts_as (ErrandMakes p.scenario p.errand) (EmulationMakes input wants) a b f g (Err why) makes left)

@@ -3,7 +3,7 @@ pub mod Refusals  -- tool
 -- Lemmas of this crate alone.
 mod Emulations
 mod Ends
-mod Leaving
+mod EventTexts
 mod MakingLemmas
 mod Names
 mod Parts
@@ -11,6 +11,7 @@ mod PlainLines
 mod Preparing
 mod ProbeLines
 mod Probing
+mod Putting
 mod ToldProbes
 mod ToldRoutes
 mod TraceFacts

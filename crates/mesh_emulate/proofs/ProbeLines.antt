@@ -7,7 +7,7 @@ use Rattle.std.proofs.lemmas.List.Elements.{All-from_recursion}
 use Rattle.std.proofs.lemmas.List.Folds.{flat_map-map}
 use Rattle.mesh_atoms.specs.declared.settings.Scenario.{Scenario}
 use Rattle.mesh_atoms.specs.State.{State}
-use Rattle.mesh_emulate.specs.Emulation.{TellsProbe}
+use Rattle.mesh_emulate.specs.Emulation.{IsProbed, TellsWanted}
 use Rattle.mesh_emulate.proofs.PlainLines.{router_lacks, behind, behind_lacks}
 use Rattle.mesh_texts.specs.machine.Names.{router_name}
 use Rattle.mesh_probe.specs.declared.coverage.Coverage.{Coverage}
@@ -71,7 +71,7 @@ text_is_plain s origin peers (Done c) =
           ∙ ap (λ (l : List ℕ). first ++ l) (sym (flat_map-map (λ (l : List ℕ). l) (unreached_line s) rest));
     }
 
-pub probe_is_plain : (s : Scenario) (states : List State) (probe : Option (List ℕ)) (text : List ℕ) → TellsProbe s states probe text → ArePlain text
+pub probe_is_plain : (s : Scenario) (states : List State) (probe : Option (List ℕ)) (text : List ℕ) → TellsWanted (IsProbed s states) probe text → ArePlain text
 probe_is_plain s states None text none = nothing_plain text none
 probe_is_plain s states (Some name) text told =
     let (peers, are, is) = told.is_text in

@@ -2,7 +2,7 @@
 use Rattle.std.proofs.Common.{ℕ, List, Result, Ok, Err, IfOk}
 use Rattle.mesh_atoms.specs.declared.settings.Scenario.{Scenario}
 use Rattle.mesh_atoms.specs.State.{State}
-use Rattle.mesh_emulate.specs.Left.{IsProbedText}
+use Rattle.mesh_emulate.specs.Parts.{IsProbedText}
 use Rattle.mesh_probe.specs.declared.coverage.Probe.{Probe}
 use Rattle.mesh_probe.specs.Probes.{HasLeastNumber, TellsFlood, AreReached, IfDone}
 use Rattle.mesh_probe.specs.Text.{IsProbeText}

@@ -4,17 +4,17 @@ use Rattle.mesh_atoms.specs.declared.settings.Scenario.{Scenario}
 use Rattle.mesh_atoms.specs.State.{State}
 use Rattle.mesh_atoms.proofs.Options.{none_not}
 use Rattle.mesh_config.specs.Settings.{refusals}
-use Rattle.mesh_emulate.specs.Emulation.{TellsTrip, TellsProbe, Emulation, IsRefused, By_settings, By_name}
+use Rattle.mesh_emulate.specs.Emulation.{IsPacketSent, IsProbed, TellsWanted, Emulation, IsRefused, By_settings, By_name}
 use Rattle.mesh_emulate.specs.Wants.{WantedPacket, Wants, IsNamed, start_of, FirstUnknown, Of_send, Of_probe}
 use Rattle.mesh_config.specs.Keys.Faults.{fault, first}
 
 -- what is told is of routers that have the names
-start_named : (s : Scenario) (states : List State) (send : Option WantedPacket) (text name : List ℕ) → TellsTrip s states send text → start_of send ≡ Some name → (x : ℕ) × IsNamed s name x
+start_named : (s : Scenario) (states : List State) (send : Option WantedPacket) (text name : List ℕ) → TellsWanted (IsPacketSent s states) send text → start_of send ≡ Some name → (x : ℕ) × IsNamed s name x
 start_named s states (Some packet) text name told e =
     let same : packet.from ≡ name = cc in (told.from, subst (λ (n : List ℕ). IsNamed s n told.from) same told.named)
 start_named s states None text name told e = let bad : ⊥ = cc in absurd bad
 
-origin_named : (s : Scenario) (states : List State) (probe : Option (List ℕ)) (text name : List ℕ) → TellsProbe s states probe text → probe ≡ Some name → (x : ℕ) × IsNamed s name x
+origin_named : (s : Scenario) (states : List State) (probe : Option (List ℕ)) (text name : List ℕ) → TellsWanted (IsProbed s states) probe text → probe ≡ Some name → (x : ℕ) × IsNamed s name x
 origin_named s states (Some other) text name told e =
     let same : other ≡ name = cc in (told.origin, subst (λ (n : List ℕ). IsNamed s n told.origin) same told.named)
 origin_named s states None text name told e = let bad : ⊥ = cc in absurd bad

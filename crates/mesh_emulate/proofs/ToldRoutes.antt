@@ -23,6 +23,7 @@ use Rattle.mesh_emulate.specs.Emulation.{Emulation}
 use Rattle.mesh_emulate.specs.Laws.{RunsMachines, TellsSettled, PrintsLeastRoutes, PrintsNextHops, sending, TripsAreOnly, TripsReachRouters, TripsReachNetworks, TripsNeverStray}
 use Rattle.mesh_emulate.specs.Wants.{Wants}
 use Rattle.mesh_emulate.proofs.Ends.{at_end}
+use Rattle.mesh_emulate.proofs.EventTexts.{run_text, is_run_text, text_is}
 use Rattle.mesh_emulate.proofs.PlainLines.{both_plain}
 use Rattle.mesh_emulate.proofs.ProbeLines.{probe_is_plain}
 use Rattle.mesh_emulate.proofs.TripLines.{trip_is_plain}
@@ -40,15 +41,19 @@ plain input wants e =
 
 pub tells_settled : TellsSettled
 tells_settled input wants e =
-    subst (TellsWhetherSettled e.run) (sym e.whole)
-    (tells_whether e.scenario e.run e.is_told.gap (e.told ++ (e.trip ++ e.probe)) e.is_told.is_gap
-    (ends_settled e.scenario wants.trace e.run e.told (e.trip ++ e.probe) e.is_told (plain input wants e)))
+    let told = is_run_text input wants e in
+    subst (TellsWhetherSettled e.run) (sym (text_is input wants e))
+    (tells_whether e.scenario e.run told.gap (run_text input wants e ++ (e.trip ++ e.probe)) told.is_gap
+    (ends_settled e.scenario wants.trace e.run (run_text input wants e) (e.trip ++ e.probe) told (plain input wants e)))
 
 -- Routes
 
 module _ (input : List ℕ) (wants : Wants) (e : Emulation input wants) (says : SaysSettled e.text) where
+  abbrev told_text : List ℕ
+  told_text = run_text input wants e
+
   abbrev whole : List ℕ
-  whole = e.told ++ (e.trip ++ e.probe)
+  whole = told_text ++ (e.trip ++ e.probe)
 
   -- the routers at the end are a settled network
   pub network : IsSettledNetwork e.scenario e.run.final.routers e.scenario.end
@@ -68,11 +73,11 @@ module _ (input : List ℕ) (wants : Wants) (e : Emulation input wants) (says : 
       dest.addr.0 < 2 ^ 32 → metric < 2 ^ 64 → Prints e.text router.name dest metric ↔ RadioLeast e.scenario x dest metric
   least_routes x router is dest metric d m =
       let (p, at, same) = state_of x router is in
-      let told = prints_rows e.scenario wants.trace e.run e.told (e.trip ++ e.probe) e.is_told (plain input wants e) x p at dest metric d m in
+      let told = prints_rows e.scenario wants.trace e.run told_text (e.trip ++ e.probe) (is_run_text input wants e) (plain input wants e) x p at dest metric d m in
       let least = settled_rows e.scenario e.run.final.routers e.scenario.end x p network at dest metric in
       let named = ap (λ (r : RouterSettings). r.name) same in (
-        λ prints. least.0 (told.0 (subst (λ (name : List ℕ). Prints whole name dest metric) (sym named) (subst (λ (t : List ℕ). Prints t router.name dest metric) e.whole prints))),
-        λ radio. subst (λ (t : List ℕ). Prints t router.name dest metric) (sym e.whole) (subst (λ (name : List ℕ). Prints whole name dest metric) named (told.1 (least.1 radio))),
+        λ prints. least.0 (told.0 (subst (λ (name : List ℕ). Prints whole name dest metric) (sym named) (subst (λ (t : List ℕ). Prints t router.name dest metric) (text_is input wants e) prints))),
+        λ radio. subst (λ (t : List ℕ). Prints t router.name dest metric) (sym (text_is input wants e)) (subst (λ (name : List ℕ). Prints whole name dest metric) named (told.1 (least.1 radio))),
       )
 
   -- where the router that a row leads to leads on
@@ -81,8 +86,8 @@ module _ (input : List ℕ) (wants : Wants) (e : Emulation input wants) (says : 
   onwards dest n near metric d m (rows.Arrives host own same) = Arrives host own same
   onwards dest n near metric d m (rows.Goes_on q rest at has same) =
       Goes_on rest ((run_states e.scenario e.run).settings n q at)
-      (subst (λ (t : List ℕ). Prints t q.settings.name dest rest) (sym e.whole)
-      ((prints_rows e.scenario wants.trace e.run e.told (e.trip ++ e.probe) e.is_told (plain input wants e) n q at dest rest d (omega (arith, m, same))).1 has)) same
+      (subst (λ (t : List ℕ). Prints t q.settings.name dest rest) (sym (text_is input wants e))
+      ((prints_rows e.scenario wants.trace e.run told_text (e.trip ++ e.probe) (is_run_text input wants e) (plain input wants e) n q at dest rest d (omega (arith, m, same))).1 has)) same
   onwards dest n near metric d m (rows.At_gateway own attached le) = At_gateway own attached le
 
   named : (faces : List Interface) (i : ℕ) (face : Interface) → slice_get faces i ≡ Some face → face.name ≡ face_name faces i
@@ -126,8 +131,8 @@ module _ (input : List ℕ) (wants : Wants) (e : Emulation input wants) (says : 
   next_hops x router is dest metric next face d m a by =
       let (p, at, same) = state_of x router is in
       let named = ap (λ (r : RouterSettings). r.name) same in
-      let (row, stands, to, at_metric, by_next, on_face) = (prints_rows_by e.scenario wants.trace e.run e.told (e.trip ++ e.probe) e.is_told (plain input wants e) x p at dest metric next face d m a).0
-      (subst (λ (name : List ℕ). PrintsBy whole name dest metric next face) (sym named) (subst (λ (t : List ℕ). PrintsBy t router.name dest metric next face) e.whole by)) in
+      let (row, stands, to, at_metric, by_next, on_face) = (prints_rows_by e.scenario wants.trace e.run told_text (e.trip ++ e.probe) (is_run_text input wants e) (plain input wants e) x p at dest metric next face d m a).0
+      (subst (λ (name : List ℕ). PrintsBy whole name dest metric next face) (sym named) (subst (λ (t : List ℕ). PrintsBy t router.name dest metric next face) (text_is input wants e) by)) in
       subst (λ (f : List ℕ). LeadsThere e.scenario e.text x dest metric next f) on_face
       (subst (λ (b : Addr4). LeadsThere e.scenario e.text x dest metric b (face_name p.settings.interfaces row.iface)) by_next
       (subst (λ (c : ℕ). LeadsThere e.scenario e.text x dest c row.next (face_name p.settings.interfaces row.iface)) at_metric

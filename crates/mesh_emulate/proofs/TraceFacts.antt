@@ -1,23 +1,25 @@
 -- Traces of the network of a scenario, event by event.
-use Rattle.std.proofs.Common.{◌≡◌, ℕ, ◌<◌, ◌≤◌, true, List, [], ◌∷◌, ◌++◌, length, get_or, map, Option, Some, Result, Ok, Err, sym, ap, ◌∙◌, subst, arith, length-set}
+use Rattle.std.proofs.Common.{◌≡◌, ℕ, ◌<◌, ◌≤◌, true, List, [], ◌∷◌, ◌++◌, length, get_or, map, Option, Some, None, Result, Ok, Err, refl, sym, ap, ◌∙◌, subst, arith, length-set}
 use Rattle.std.specs.Io.KnownBytes.{Appends}
+use Rattle.std.specs.List.{concat}
 use Rattle.std.specs.Prelude.{slice_get, OnOk}
 use Rattle.std.proofs.lemmas.List.{append-nil, length-map, get_or-map}
 use Rattle.std.proofs.lemmas.Option.{slice_get_within, slice_get-get_or}
 use Rattle.mesh_atoms.specs.declared.settings.Scenario.{Scenario}
 use Rattle.mesh_atoms.specs.State.{State}
 use Rattle.mesh_io.specs.declared.stop.Stop.{Stop}
-use Rattle.mesh_io.proofs.Steps.{appends_more}
+use Rattle.mesh_io.specs.Pieces.{MakesOne, PutsAll, PutsPieces}
+use Rattle.mesh_io.proofs.Pieces.{pieces_more, stops_behind}
 use Rattle.mesh_texts.specs.machine.packet.Least.{Wrote}
 use Rattle.mesh_atoms.specs.declared.network.NetEvent.{NetEvent}
 use Rattle.mesh_texts.proofs.machine.Through.{moves_of}
 use Rattle.mesh_texts.specs.machine.Net.{NetState, NetStep}
 use Rattle.mesh_texts.specs.machine.NetRun.{IsOfPackets}
-use Rattle.mesh_texts.proofs.TraceSteps.{traces_more, traces_run}
+use Rattle.mesh_texts.proofs.TraceSteps.{traces_run}
 use Rattle.mesh_texts.specs.Trace.{IsEventText}
 use Rattle.mesh_texts.specs.Runs.{IsTraced}
-use Rattle.mesh_emulate.specs.Left.{LeavesOut, IsNothing, IsLastEvent, RunWithText, ToldToEnd, ToldSoFar}
-use Rattle.mesh_emulate.proofs.Leaving.{stops_then}
+use Rattle.mesh_emulate.specs.Parts.{IsLastEvent, RunWithPieces, EventsMake}
+use Rattle.mesh_emulate.proofs.EventTexts.{texts_more, joined_trace}
 
 -- a step that the network takes is one whose text can be told
 pub last_event : (s : Scenario) (old new : NetState) (event : NetEvent) → old.scenario ≡ s → NetStep old event new → IsOfPackets event →
@@ -29,11 +31,12 @@ last_event s old new event same step packets =
     record { scenario = moves.scenario ∙ same; router = omega (arith, within, count); packet = packets.heard }
 
 -- one event more
-pub told_more : (old mid new : NetState) (text : List ℕ) (event : NetEvent) (last : List ℕ) → RunWithText true old mid text →
-    NetStep mid event new → IsTraced new event last → RunWithText true old new (text ++ last)
-told_more old mid new text event last told step is =
-    let traced = traces_more old told.events mid new text event last told.is_told step is in
-    record { events = told.events ++ event ∷ []; runs = traces_run old (told.events ++ event ∷ []) new (text ++ last) traced; is_told = traced }
+told_more : (old mid new : NetState) (pieces : List (List ℕ)) (event : NetEvent) (last : List ℕ) → RunWithPieces true old mid pieces →
+    NetStep mid event new → IsTraced new event last → RunWithPieces true old new (pieces ++ last ∷ [])
+told_more old mid new pieces event last told step is =
+    let texts = texts_more old told.events mid new pieces event last told.are_told step is in
+    let events = told.events ++ event ∷ [] in
+    record { events = events; runs = traces_run old events new (concat (pieces ++ last ∷ [])) (joined_trace old events new (pieces ++ last ∷ []) texts); are_told = texts }
 
 -- the state of the router at a place
 pub router_at : {R : Type 0} (state : R → State) (routers : List R) (states : List State) (x : ℕ) (router : R) →
@@ -54,20 +57,29 @@ text_put s net event after old new (Ok u) last at none (text, put, is) =
     (after, at, subst (IsEventText net.scenario event after) (sym whole) (subst (λ (t : Scenario). IsEventText t event after text) (sym last.scenario) is))
 text_put s net event after old new (Err e) last at none put = tt
 
+-- behind the texts of some first events, that of one event more
+module _ (old mid new : NetState) (event : NetEvent) (step : NetStep mid event new) (before : List (List ℕ)) (told : RunWithPieces true old mid before) where
+  event_put : (pieces : List (List ℕ)) → MakesOne (λ (u : Unit {0}). IsTraced new event) pieces (Some tt) → RunWithPieces true old new (before ++ pieces)
+  event_put pieces (last, is, whole) =
+      subst (λ (l : List (List ℕ)). RunWithPieces true old new (before ++ l)) (sym whole) (told_more old mid new before event last told step is)
+
+  event_made : (end : NetState) (pieces : List (List ℕ)) (x : Option (Unit {0})) → MakesOne (λ (u : Unit {0}). IsTraced new event) pieces x →
+      EventsMake true old end (before ++ pieces) None
+  event_made end pieces (Some u) is = (new, event_put pieces is)
+  event_made end pieces None none =
+      (mid, subst (RunWithPieces true old mid) (sym (append-nil before) ∙ ap (λ (l : List (List ℕ)). before ++ l) (sym none)) told)
+
 -- a run whose next event isn't told whole
 pub event_left : (old mid new end : NetState) (event : NetEvent) (a b c : Option (List ℕ)) (f g h : ℕ) (why : Stop) →
-    NetStep mid event new → (text : List ℕ) × RunWithText true old mid text × Appends a b text → f ≤ g →
-    LeavesOut (IsTraced new event) (IsTraced new event) IsNothing b c g h (Err why) →
-    LeavesOut (ToldToEnd true old end) (ToldSoFar true old) (ToldSoFar true old) a c f h (Err why)
-event_left old mid new end event a b c f g h why step (text, told, stands) le left =
-    stops_then (IsTraced new event) (IsTraced new event) IsNothing (ToldToEnd true old end) (ToldSoFar true old) (ToldSoFar true old) a b c f g h text why stands le
-    (λ t is. (new, told_more old mid new text event t told step is))
-    (λ t none. (mid, subst (RunWithText true old mid) (sym (append-nil text) ∙ ap (λ (l : List ℕ). text ++ l) (sym none)) told))
-    left
+    NetStep mid event new → (before : List (List ℕ)) × RunWithPieces true old mid before × Appends a b (concat before) → f ≤ g →
+    PutsPieces (MakesOne (λ (u : Unit {0}). IsTraced new event)) b c g h (Err why) → PutsPieces (EventsMake true old end) a c f h (Err why)
+event_left old mid new end event a b c f g h why step (before, told, stands) le left =
+    stops_behind (MakesOne (λ (u : Unit {0}). IsTraced new event)) (EventsMake true old end) (λ (x : Option (Unit {0})). None) before a b c f g h why refl stands le left
+    (event_made old mid new event step before told end)
 
 -- a run with one event more that is told
 pub event_told : (old mid new : NetState) (event : NetEvent) (a b c : Option (List ℕ)) → NetStep mid event new →
-    (text : List ℕ) × RunWithText true old mid text × Appends a b text → (last : List ℕ) × IsTraced new event last × Appends b c last →
-    (text : List ℕ) × RunWithText true old new text × Appends a c text
-event_told old mid new event a b c step (text, told, stands) (last, is, follows) =
-    (text ++ last, told_more old mid new text event last told step is, appends_more a b c text last stands follows)
+    (before : List (List ℕ)) × RunWithPieces true old mid before × Appends a b (concat before) → PutsAll (MakesOne (λ (u : Unit {0}). IsTraced new event)) b c tt →
+    (pieces : List (List ℕ)) × RunWithPieces true old new pieces × Appends a c (concat pieces)
+event_told old mid new event a b c step (before, told, stands) (pieces, is, follows) =
+    (before ++ pieces, event_put old mid new event step before told pieces is, pieces_more a b c before pieces stands follows)

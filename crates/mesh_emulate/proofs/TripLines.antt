@@ -15,7 +15,7 @@ use Rattle.mesh_data.specs.declared.trip.Hop.{Hop}
 use Rattle.mesh_data.specs.declared.trip.Trip.{Trip}
 use Rattle.mesh_data.specs.Dotted.{dotted}
 use Rattle.mesh_data.specs.Text.{interface_name, interface_in, end_name, hop_start, hop_end, hop_line, trip_start, trip_end, text_of}
-use Rattle.mesh_emulate.specs.Emulation.{TellsTrip}
+use Rattle.mesh_emulate.specs.Emulation.{IsPacketSent, TellsWanted}
 use Rattle.mesh_emulate.specs.Wants.{WantedPacket}
 use Rattle.mesh_texts.specs.machine.Names.{router_name}
 use Rattle.mesh_texts.specs.Printed.{IsLine, IsPlain, ArePlain}
@@ -107,6 +107,6 @@ text_is_plain s from a trip =
       whole = ap (λ (l : List ℕ). first ++ l) (sym (flat_map-map (λ (l : List ℕ). l) (hop_line s) trip.hops));
     }
 
-pub trip_is_plain : (s : Scenario) (states : List State) (send : Option WantedPacket) (text : List ℕ) → TellsTrip s states send text → ArePlain text
+pub trip_is_plain : (s : Scenario) (states : List State) (send : Option WantedPacket) (text : List ℕ) → TellsWanted (IsPacketSent s states) send text → ArePlain text
 trip_is_plain s states None text none = nothing_plain text none
 trip_is_plain s states (Some packet) text sent = subst ArePlain (sym sent.is_text) (text_is_plain s sent.from packet.dest sent.trip)

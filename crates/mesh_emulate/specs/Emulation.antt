@@ -1,5 +1,8 @@
--- An emulation: the scenario that the input states, a run of its network, and the text of that run.
-use Rattle.std.specs.Prelude.{◌≡◌, ℕ, List, [], ◌++◌, Bool, Option, Some, None, IsSome}
+-- An emulation: the scenario that the input states, a run of its network, and what is told of it, piece by piece.
+use Rattle.std.specs.Prelude.{◌≡◌, ℕ, List, [], ◌∷◌, ◌++◌, Bool, true, false, Option, Some, None, IsSome}
+use Rattle.std.specs.List.{concat}
+use Rattle.mesh_atoms.specs.declared.gap.Gap.{Gap}
+use Rattle.mesh_atoms.specs.declared.network.NetEvent.{NetEvent}
 use Rattle.mesh_atoms.specs.declared.settings.Scenario.{Scenario}
 use Rattle.mesh_atoms.specs.State.{State}
 use Rattle.mesh_config.specs.Settings.{SettingsIs, FirstRefusal, refusals}
@@ -10,7 +13,9 @@ use Rattle.mesh_emulate.specs.Wants.{WantedPacket, Wants, IsNamed, FirstUnknown}
 use Rattle.mesh_probe.specs.declared.coverage.Probe.{Probe}
 use Rattle.mesh_probe.specs.Probes.{HasLeastNumber, TellsFlood, AreReached, IfDone}
 use Rattle.mesh_probe.specs.Text.{IsProbeText}
-use Rattle.mesh_texts.specs.Runs.{WholeRun, IsRunText, FirstEvents, IsFirstTrace}
+use Rattle.mesh_texts.specs.machine.Net.{NetState, NetStep}
+use Rattle.mesh_texts.specs.Network.{IsGapOf, IsSummary}
+use Rattle.mesh_texts.specs.Runs.{IsTraced, WholeRun, FirstEvents}
 use Rattle.mesh_config.specs.Keys.Faults.{first}
 
 -- the input states this scenario, and has no refusal
@@ -42,29 +47,52 @@ pub record IsProbed (s : Scenario) (states : List State) (name text : List ℕ) 
   pub is_probe : IsProbeOf s states origin probe
   pub is_text : IsProbeText s origin probe text
 
--- the trip that is wanted, and the probe; nothing where none is
-abbrev pub TellsTrip : Scenario → List State → Option WantedPacket → List ℕ → Type 0
-TellsTrip s states None text = text ≡ []
-TellsTrip s states (Some packet) text = IsPacketSent s states packet text
+-- The pieces
 
-abbrev pub TellsProbe : Scenario → List State → Option (List ℕ) → List ℕ → Type 0
-TellsProbe s states None text = text ≡ []
-TellsProbe s states (Some name) text = IsProbed s states name text
+-- the text of what is wanted; nothing where nothing is
+abbrev pub TellsWanted : {A : Type 0} → (A → List ℕ → Type 0) → Option A → List ℕ → Type 0
+TellsWanted IsText None text = text ≡ []
+TellsWanted IsText (Some wanted) text = IsText wanted text
 
--- the scenario that the input states, a run of its network from its opening to its end, the text of that run, and behind it the trip
--- and then the probe, both over the routers as the run left them
+-- the piece that such a text is; no piece where nothing is wanted
+abbrev pub piece_if : {A : Type 0} → Option A → List ℕ → List (List ℕ)
+piece_if None text = []
+piece_if (Some wanted) text = text ∷ []
+
+-- the events of a run and their texts, one text each, in order
+abbrev pub AreEventTexts : NetState → List NetEvent → NetState → List (List ℕ) → Type 0
+AreEventTexts old [] new pieces = (new ≡ old) × (pieces ≡ [])
+AreEventTexts old (event ∷ events) new pieces =
+    (mid : NetState) × NetStep old event mid × (text : List ℕ) × (rest : List (List ℕ)) × IsTraced mid event text
+    × AreEventTexts mid events new rest × (pieces ≡ text ∷ rest)
+
+-- the same where the trace is wanted; no piece where it isn't
+abbrev pub TellsEvents : Bool → NetState → List NetEvent → NetState → List (List ℕ) → Type 0
+TellsEvents false old events new pieces = pieces ≡ []
+TellsEvents true old events new pieces = AreEventTexts old events new pieces
+
+-- the summary of a network at the end of its run
+abbrev pub IsEndSummary : Scenario → NetState → List ℕ → Type 0
+IsEndSummary s net text = (gap : Option Gap) × IsGapOf s net.routers s.end gap × IsSummary s net.routers net.traffic.counts gap text
+
+-- the scenario that the input states, a run of its network from its opening to its end, and the pieces of what is told of it: the texts
+-- of the events, the summary, and then the trip and the probe that are wanted, both over the routers as the run left them
 pub record Emulation (input : List ℕ) (wants : Wants) : Type 0 where
   pub scenario : Scenario
   pub stated : States input scenario
   pub run : WholeRun scenario
-  pub told : List ℕ
-  pub is_told : IsRunText scenario wants.trace run told
+  pub events : List (List ℕ)
+  pub are_events : TellsEvents wants.trace run.opening run.events run.final events
+  pub summary : List ℕ
+  pub is_summary : IsEndSummary scenario run.final summary
   pub trip : List ℕ
-  pub is_trip : TellsTrip scenario run.final.routers wants.send trip
+  pub is_trip : TellsWanted (IsPacketSent scenario run.final.routers) wants.send trip
   pub probe : List ℕ
-  pub is_probe : TellsProbe scenario run.final.routers wants.probe probe
+  pub is_probe : TellsWanted (IsProbed scenario run.final.routers) wants.probe probe
+  pub pieces : List (List ℕ)
+  pub are_pieces : pieces ≡ events ++ summary ∷ (piece_if wants.send trip ++ piece_if wants.probe probe)
   pub text : List ℕ
-  pub whole : text ≡ told ++ (trip ++ probe)
+  pub whole : text ≡ concat pieces
 
 -- Refusals
 
@@ -74,37 +102,32 @@ pub data IsRefused (input : List ℕ) (wants : Wants) (number : ℕ) (key : List
   By_name : (scenario : Scenario) → States input scenario →
       ((other : Scenario) → States input other → FirstUnknown other wants number key) → IsRefused input wants number key
 
--- What is told of a part
+-- What an emulation makes
 
--- an emulation that stopped on the way: some first events of the network, and their trace where it is asked for
+-- an emulation that stopped on the way: some first events of the network, and their texts where the trace is wanted
 pub record StoppedEmulation (input : List ℕ) (trace : Bool) : Type 0 where
   pub scenario : Scenario
   pub stated : States input scenario
   pub first_events : FirstEvents scenario
-  pub text : List ℕ
-  pub is_text : IsFirstTrace trace first_events text
+  pub pieces : List (List ℕ)
+  pub are_pieces : TellsEvents trace first_events.opening first_events.events first_events.stopped pieces
 
--- the same without the trip and the probe, and without the probe alone
+-- what is wanted without the trip and the probe, and without the probe alone
 abbrev pub without_both : Wants → Wants
 without_both wants = record { trace = wants.trace; send = None; probe = None }
 
 abbrev pub without_probe : Wants → Wants
 without_probe wants = record { trace = wants.trace; send = wants.send; probe = None }
 
--- all but the trip that is wanted and what follows it, or all but the probe that is wanted
-pub data IsAllBut (input : List ℕ) (wants : Wants) (text : List ℕ) : Type 0 where
-  But_the_trip : IsSome wants.send → (e : Emulation input (without_both wants)) → text ≡ e.text → IsAllBut input wants text
-  But_the_probe : IsSome wants.probe → (e : Emulation input (without_probe wants)) → text ≡ e.text → IsAllBut input wants text
+-- the pieces where an emulation stops on the way: none before its first event, those of some first events, all but the trip that is
+-- wanted and what follows it, or all but the probe that is wanted
+pub data IsFirstPart (input : List ℕ) (wants : Wants) (pieces : List (List ℕ)) : Type 0 where
+  Of_nothing : pieces ≡ [] → IsFirstPart input wants pieces
+  Of_first_events : (e : StoppedEmulation input wants.trace) → pieces ≡ e.pieces → IsFirstPart input wants pieces
+  But_the_trip : IsSome wants.send → (e : Emulation input (without_both wants)) → pieces ≡ e.pieces → IsFirstPart input wants pieces
+  But_the_probe : IsSome wants.probe → (e : Emulation input (without_probe wants)) → pieces ≡ e.pieces → IsFirstPart input wants pieces
 
--- what is told where an emulation stops on the way: nothing before its first event, the text of some first events, or all but the
--- trip or the probe
-pub data IsFirstPart (input : List ℕ) (wants : Wants) (text : List ℕ) : Type 0 where
-  Of_nothing : text ≡ [] → IsFirstPart input wants text
-  Of_first_events : (e : StoppedEmulation input wants.trace) → text ≡ e.text → IsFirstPart input wants text
-  Of_run : IsAllBut input wants text → IsFirstPart input wants text
-
--- the text of some first events, all but the trip or the probe, or the whole
-pub data IsFront (input : List ℕ) (wants : Wants) (text : List ℕ) : Type 0 where
-  Front_of_events : (e : StoppedEmulation input wants.trace) → text ≡ e.text → IsFront input wants text
-  Front_of_run : IsAllBut input wants text → IsFront input wants text
-  Front_of_whole : (e : Emulation input wants) → text ≡ e.text → IsFront input wants text
+-- all pieces of an emulation; or some first ones, where more are to come
+abbrev pub EmulationMakes : List ℕ → Wants → List (List ℕ) → Option (Unit {0}) → Type 0
+EmulationMakes input wants pieces (Some u) = (e : Emulation input wants) × (pieces ≡ e.pieces)
+EmulationMakes input wants pieces None = IsFirstPart input wants pieces

@@ -1,6 +1,6 @@
 pub mod Emulation
 pub mod Laws
-pub mod Left
 pub mod Making
+pub mod Parts
 pub mod Prepared
 pub mod Wants

@@ -1,13 +1,13 @@
 //! The emulation of the network that an input states.
-ghost use Rattle.std.specs.Prelude.{◌≡◌, ◌≤◌, ◌<◌, ℕ, List, length, Err, OnOk, IfSome, take};
-ghost use Rattle.std.specs.Io.KnownBytes.{Appends, Keeps};
+ghost use Rattle.std.specs.Prelude.{◌≡◌, ◌≤◌, ◌<◌, ℕ, List, length, Err, OnOk, IfSome};
+ghost use Rattle.std.specs.Io.KnownBytes.{Keeps};
 ghost use Rattle.mesh_atoms.specs.Radio.{IsRadioGraph};
-ghost use Rattle.mesh_emulate.specs.Emulation.{Emulation, IsRefused, IsFirstPart, IsFront};
-ghost use Rattle.mesh_emulate.specs.Left.{LeavesOut, IsProbeTold, IsWithoutText, IsRunTold, IsRunFront, IsRunPart, IsWholeText, IsFrontText, IsPartText};
+ghost use Rattle.mesh_emulate.specs.Emulation.{IsRefused, EmulationMakes};
+ghost use Rattle.mesh_emulate.specs.Parts.{MakesWanted, IsProbedText, RunMakes, ErrandMakes};
 ghost use Rattle.mesh_emulate.specs.Prepared.{IsUnbegun};
 ghost use Rattle.mesh_emulate.specs.Wants.{wants_of, IsWithin};
 ghost use Rattle.mesh_emulate.specs.declared.emulation.EmulateFault.TheVariants.{Refused, Stopped};
-ghost use Rattle.mesh_io.specs.Faults.{Rose};
+ghost use Rattle.mesh_io.specs.Pieces.{PutsAll, PutsFront, PutsFirst, PutsPieces};
 ghost use Rattle.mesh_probe.specs.Probes.{AreRoutersAt};
 ghost use Rattle.mesh_texts.specs.machine.NetRun.{IsOpeningNet};
 
@@ -45,7 +45,7 @@ fn tell_net<N: Network, O: Sink>(
     requires opening { IsOpeningNet scenario.now (N.net net.old) }
     requires graph { IsRadioGraph scenario.now graph.now }
     requires within { IsWithin scenario.now errand }
-    ensures leaves { LeavesOut (IsRunTold scenario.now errand (N.net net.new)) (IsRunFront scenario.now errand) (IsRunPart scenario.now errand)
+    ensures leaves { PutsPieces (RunMakes scenario.now errand (N.net net.old) (N.net net.new))
         (O.content out.old) (O.content out.new) (O.faults out.old) (O.faults out.new) result }
     ensures later { O.faults out.old ≤ O.faults out.new }
 {
@@ -68,7 +68,7 @@ fn probe_net<N: Network, O: Sink>(
     requires routers { AreRoutersAt scenario.now (N.net net).routers scenario.now.end }
     requires graph { IsRadioGraph scenario.now graph.now }
     requires origin { IfSome probe (λ origin. origin < length scenario.now.routers) }
-    ensures leaves { LeavesOut (IsProbeTold scenario.now (N.net net).routers probe) (IsProbeTold scenario.now (N.net net).routers probe) (IsWithoutText probe)
+    ensures leaves { PutsPieces (MakesWanted (IsProbedText scenario.now (N.net net).routers) probe)
         (O.content out.old) (O.content out.new) (O.faults out.old) (O.faults out.new) result }
     ensures later { O.faults out.old ≤ O.faults out.new }
 {
@@ -88,7 +88,7 @@ fn tell_all<N: Network, O: Sink>(
     requires opening { IsOpeningNet scenario.now (N.net net) }
     requires graph { IsRadioGraph scenario.now graph.now }
     requires within { IsWithin scenario.now errand }
-    ensures leaves { LeavesOut (IsWholeText scenario.now errand) (IsFrontText scenario.now errand) (IsPartText scenario.now errand)
+    ensures leaves { PutsPieces (ErrandMakes scenario.now errand)
         (O.content out.old) (O.content out.new) (O.faults out.old) (O.faults out.new) result }
     ensures later { O.faults out.old ≤ O.faults out.new }
 {
@@ -107,7 +107,7 @@ fn tell<B: Bases, O: Sink>(
     out: &mut O,
 ) -> Result<(), Stop>
     requires within { IsWithin scenario.now errand }
-    ensures leaves { LeavesOut (IsWholeText scenario.now errand) (IsFrontText scenario.now errand) (IsPartText scenario.now errand)
+    ensures leaves { PutsPieces (ErrandMakes scenario.now errand)
         (O.content out.old) (O.content out.new) (O.faults out.old) (O.faults out.new) result }
     ensures later { O.faults out.old ≤ O.faults out.new }
 {
@@ -140,20 +140,19 @@ pub fn emulate<B: Bases, O: Sink>(
     wanted: &Wanted,
     out: &mut O,
 ) -> Result<(), EmulateFault>
-    // The text of a run of the network was put on `out`, then the trip, and then the probe.
-    ensures done { OnOk result ((e : Emulation input.now (wants_of wanted.now)) × Appends (O.content out.old) (O.content out.new) e.text) }
+    // All pieces of an emulation were put on `out`.
+    ensures done { OnOk result (PutsAll (EmulationMakes input.now (wants_of wanted.now)) (O.content out.old) (O.content out.new) tt) }
 
     // The input states no scenario, or none with routers of the names that are wanted; nothing was put on `out`.
     ensures refused { (number : ℕ) (key : List ℕ) → result ≡ Err (Refused number key)
         → IsRefused input.now (wants_of wanted.now) number key × Keeps (O.content out.old) (O.content out.new) }
 
-    // The sink counted a fault; a front of the text of a run, or of the trace of some first events, stands on `out`.
-    ensures write { result ≡ Err (Stopped Stop.Write) → Rose (O.faults out.old) (O.faults out.new)
-        × (text : List ℕ) × IsFront input.now (wants_of wanted.now) text × (n : ℕ) × Appends (O.content out.old) (O.content out.new) (take n text) }
+    // The sink counted a fault; the pieces before one stand on `out`, and a prefix of it.
+    ensures write { result ≡ Err (Stopped Stop.Write) → PutsFront (EmulationMakes input.now (wants_of wanted.now))
+        (O.content out.old) (O.content out.new) (O.faults out.old) (O.faults out.new) }
 
-    // The trace of some first events stands on `out`, or all but the trip and what follows it, or all but the probe, or nothing.
-    ensures memory { result ≡ Err (Stopped Stop.Memory) → (text : List ℕ) × IsFirstPart input.now (wants_of wanted.now) text
-        × Appends (O.content out.old) (O.content out.new) text }
+    // Some first pieces stand on `out`, and more were to come.
+    ensures memory { result ≡ Err (Stopped Stop.Memory) → PutsFirst (EmulationMakes input.now (wants_of wanted.now)) (O.content out.old) (O.content out.new) }
     ensures later { O.faults out.old ≤ O.faults out.new }
 {
     let ready = match prepare(alloc, input, wanted) {

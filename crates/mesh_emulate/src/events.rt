@@ -1,6 +1,7 @@
 //! The events of a network up to its end, with the text of each as it is done, or without.
 ghost use Rattle.std.specs.Prelude.{◌≡◌, ◌≤◌, true, OnOk};
-ghost use Rattle.mesh_emulate.specs.Left.{LeavesOut, IsNothing, IsLastEvent, ToldToEnd, ToldSoFar};
+ghost use Rattle.mesh_emulate.specs.Parts.{IsLastEvent, EventsMake};
+ghost use Rattle.mesh_io.specs.Pieces.{MakesOne, PutsPieces};
 ghost use Rattle.mesh_texts.specs.Runs.{IsTraced};
 
 use crate::network::Network;
@@ -35,7 +36,7 @@ fn write_event<N: Network, O: Sink>(
     out: &mut O,
 ) -> Result<(), Stop>
     requires { IsLastEvent scenario.now (N.net net.now) event.now }
-    ensures leaves { LeavesOut (IsTraced (N.net net.now) event.now) (IsTraced (N.net net.now) event.now) IsNothing
+    ensures leaves { PutsPieces (MakesOne (λ (u : Unit {0}). IsTraced (N.net net.now) event.now))
         (O.content out.old) (O.content out.new) (O.faults out.old) (O.faults out.new) result }
     ensures later { O.faults out.old ≤ O.faults out.new }
 {
@@ -53,7 +54,7 @@ fn trace_events<N: Network, O: Sink>(
     out: &mut O,
 ) -> Result<(), Stop>
     requires { (N.net net.old).scenario ≡ scenario.now }
-    ensures leaves { LeavesOut (ToldToEnd true (N.net net.old) (N.net net.new)) (ToldSoFar true (N.net net.old)) (ToldSoFar true (N.net net.old))
+    ensures leaves { PutsPieces (EventsMake true (N.net net.old) (N.net net.new))
         (O.content out.old) (O.content out.new) (O.faults out.old) (O.faults out.new) result }
     ensures later { O.faults out.old ≤ O.faults out.new }
 {
@@ -80,7 +81,7 @@ pub fn tell_events<N: Network, O: Sink>(
     out: &mut O,
 ) -> Result<(), Stop>
     requires { (N.net net.old).scenario ≡ scenario.now }
-    ensures leaves { LeavesOut (ToldToEnd trace (N.net net.old) (N.net net.new)) (ToldSoFar trace (N.net net.old)) (ToldSoFar trace (N.net net.old))
+    ensures leaves { PutsPieces (EventsMake trace (N.net net.old) (N.net net.new))
         (O.content out.old) (O.content out.new) (O.faults out.old) (O.faults out.new) result }
     ensures later { O.faults out.old ≤ O.faults out.new }
 {

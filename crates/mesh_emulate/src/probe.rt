@@ -1,7 +1,8 @@
 //! What is told of a probe of the network at the end of a run.
 ghost use Rattle.std.specs.Prelude.{◌≡◌, ◌≤◌, ◌<◌, length, map, IfOk, IfSome};
 ghost use Rattle.mesh_atoms.specs.Radio.{IsRadioGraph};
-ghost use Rattle.mesh_emulate.specs.Left.{LeavesOut, IsProbedText, IsProbeTold, IsWithoutText};
+ghost use Rattle.mesh_emulate.specs.Parts.{MakesWanted, IsProbedText};
+ghost use Rattle.mesh_io.specs.Pieces.{PutsPieces};
 ghost use Rattle.mesh_probe.specs.Probes.{AreRoutersAt};
 
 use crate::writing::write_text;
@@ -40,8 +41,7 @@ pub fn tell_probe<R: RouterCore, O: Sink>(
     requires routers { AreRoutersAt scenario.now (map R.state routers.old) scenario.now.end }
     requires graph { IsRadioGraph scenario.now graph.now }
     requires origin { IfSome probe (λ origin. origin < length scenario.now.routers) }
-    ensures leaves { LeavesOut (IsProbeTold scenario.now (map R.state routers.old) probe)
-        (IsProbeTold scenario.now (map R.state routers.old) probe) (IsWithoutText probe)
+    ensures leaves { PutsPieces (MakesWanted (IsProbedText scenario.now (map R.state routers.old)) probe)
         (O.content out.old) (O.content out.new) (O.faults out.old) (O.faults out.new) result }
     ensures later { O.faults out.old ≤ O.faults out.new }
 {

@@ -1,6 +1,8 @@
 //! What is told of a network at the end of its run.
 ghost use Rattle.std.specs.Prelude.{◌≡◌, ◌≤◌, ◌<◌, length, map, OnOk, IfSome};
-ghost use Rattle.mesh_emulate.specs.Left.{LeavesOut, IsNothing, IsEndSummary, IsEndTold, IsEndFront, IsEndPart};
+ghost use Rattle.mesh_emulate.specs.Emulation.{IsEndSummary};
+ghost use Rattle.mesh_emulate.specs.Parts.{EndMakes};
+ghost use Rattle.mesh_io.specs.Pieces.{MakesOne, PutsPieces};
 ghost use Rattle.mesh_settled.specs.Gaps.Network.{IsNetwork};
 ghost use Rattle.mesh_texts.specs.Network.{IsGapOf};
 
@@ -47,7 +49,7 @@ fn tell_summary<N: Network, O: Sink>(
     out: &mut O,
 ) -> Result<(), Stop>
     requires { IsNetwork scenario.now graph.now (N.net net.now).routers scenario.now.end }
-    ensures leaves { LeavesOut (IsEndSummary scenario.now (N.net net.now)) (IsEndSummary scenario.now (N.net net.now)) IsNothing
+    ensures leaves { PutsPieces (MakesOne (λ (u : Unit {0}). IsEndSummary scenario.now (N.net net.now)))
         (O.content out.old) (O.content out.new) (O.faults out.old) (O.faults out.new) result }
     ensures later { O.faults out.old ≤ O.faults out.new }
 {
@@ -69,8 +71,7 @@ pub fn tell_end<N: Network, O: Sink>(
 ) -> Result<(), Stop>
     requires network { IsNetwork scenario.now graph.now (N.net net.now).routers scenario.now.end }
     requires from { IfSome send (λ departure. departure.from < length scenario.now.routers) }
-    ensures leaves { LeavesOut (IsEndTold scenario.now send (N.net net.now)) (IsEndFront scenario.now send (N.net net.now))
-        (IsEndPart scenario.now send (N.net net.now))
+    ensures leaves { PutsPieces (EndMakes scenario.now send (N.net net.now))
         (O.content out.old) (O.content out.new) (O.faults out.old) (O.faults out.new) result }
     ensures later { O.faults out.old ≤ O.faults out.new }
 {

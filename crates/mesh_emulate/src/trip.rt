@@ -1,7 +1,8 @@
 //! What is told of a data packet at the end of a run.
 ghost use Rattle.std.specs.Prelude.{◌≡◌, ◌≤◌, ◌<◌, length, map, IfOk, IfSome};
 ghost use Rattle.mesh_atoms.specs.Settled.{AreStates};
-ghost use Rattle.mesh_emulate.specs.Left.{LeavesOut, IsTripText, IsTripTold, IsWithoutText};
+ghost use Rattle.mesh_emulate.specs.Parts.{MakesWanted, IsTripText};
+ghost use Rattle.mesh_io.specs.Pieces.{PutsPieces};
 
 use crate::wanted::Departure;
 use crate::writing::write_text;
@@ -36,8 +37,7 @@ pub fn tell_trip<R: RouterView, O: Sink>(
 ) -> Result<(), Stop>
     requires states { AreStates scenario.now (map R.state routers.now) }
     requires from { IfSome send (λ departure. departure.from < length scenario.now.routers) }
-    ensures leaves { LeavesOut (IsTripTold scenario.now (map R.state routers.now) send)
-        (IsTripTold scenario.now (map R.state routers.now) send) (IsWithoutText send)
+    ensures leaves { PutsPieces (MakesWanted (IsTripText scenario.now (map R.state routers.now)) send)
         (O.content out.old) (O.content out.new) (O.faults out.old) (O.faults out.new) result }
     ensures later { O.faults out.old ≤ O.faults out.new }
 {

@@ -1,12 +1,12 @@
 //! Texts, written whole.
 ghost use Rattle.std.specs.Prelude.{◌≡◌, ◌≤◌};
-ghost use Rattle.mesh_emulate.specs.Left.{LeavesOut, IsNothing};
+ghost use Rattle.mesh_io.specs.Pieces.{MakesOne, PutsPieces};
 
 use mesh_io::{Sink, Stop, write_all};
 
 // Writes a text.
 pub fn write_text<O: Sink>(text: &[u8], out: &mut O) -> Result<(), Stop>
-    ensures leaves { LeavesOut (λ t. t ≡ text.now) (λ t. t ≡ text.now) IsNothing
+    ensures leaves { PutsPieces (MakesOne (λ (u : Unit {0}) piece. piece ≡ text.now))
         (O.content out.old) (O.content out.new) (O.faults out.old) (O.faults out.new) result }
     ensures later { O.faults out.old ≤ O.faults out.new }
 {

@@ -10,6 +10,7 @@ use Rattle.mesh_emulate.specs.Making.Lines.{made_line, routes_line, TellsRoutes}
 use Rattle.mesh_emulate.specs.Making.Routes.{metrics_of, IsGreatest}
 use Rattle.mesh_emulate.specs.Making.Scenario.{IsMade}
 use Rattle.mesh_atoms.specs.declared.gap.Gap.{Gap}
+use Rattle.mesh_io.specs.Pieces.{MakesOne}
 use Rattle.mesh_texts.specs.Network.{IsGapOf, counts_line, settled_text}
 use Rattle.mesh_texts.specs.Printed.{IsLine, SaysSettled}
 use Rattle.mesh_texts.specs.Runs.{WholeRun, RoutersAreRuns, TellsWhetherSettled}
@@ -36,6 +37,10 @@ pub record MadeEmulation (k : Kind) (n seed : ℕ) : Type 0 where
   pub run : WholeRun scenario
   pub text : List ℕ
   pub is_text : IsMadeText k scenario run text
+
+-- its text is the one piece
+abbrev pub MadeMakes : Kind → ℕ → ℕ → List (List ℕ) → Option (Unit {0}) → Type 0
+MadeMakes k n seed pieces answer = MakesOne (λ (u : Unit {0}) text. (m : MadeEmulation k n seed) × (text ≡ m.text)) pieces answer
 
 -- What holds of every made network
 

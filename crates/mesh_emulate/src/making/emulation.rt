@@ -1,12 +1,11 @@
 //! The emulation of a made network.
-ghost use Rattle.std.specs.Prelude.{◌≡◌, ◌≤◌, ◌<◌, ◌^◌, ℕ, List, Err, IfOk, OnOk, length, map, take};
-ghost use Rattle.std.specs.Io.KnownBytes.{Appends, Keeps};
+ghost use Rattle.std.specs.Prelude.{◌≡◌, ◌≤◌, ◌<◌, ◌^◌, IfOk, length, map};
 ghost use Rattle.mesh_atoms.specs.declared.graphs.RadioGraph.{RadioGraph};
 ghost use Rattle.mesh_atoms.specs.Radio.{IsRadioGraph};
 ghost use Rattle.mesh_atoms.specs.Settings.{IsCount};
 ghost use Rattle.mesh_settled.specs.Gaps.Network.{IsNetwork};
-ghost use Rattle.mesh_io.specs.Faults.{Rose};
-ghost use Rattle.mesh_emulate.specs.Making.Made.{IsEndText, IsMadeText, MadeEmulation};
+ghost use Rattle.mesh_io.specs.Pieces.{PutsPieces};
+ghost use Rattle.mesh_emulate.specs.Making.Made.{IsEndText, IsMadeText, MadeEmulation, MadeMakes};
 ghost use Rattle.mesh_texts.specs.Runs.{WholeRun};
 
 use crate::making::kind::Kind;
@@ -74,12 +73,9 @@ pub fn make<B: Bases, O: Sink>(
 ) -> Result<(), Stop>
     requires count { IsCount 2 64 routers }
     requires seed { seed < 2 ^ 63 }
-    ensures done { OnOk result ((m : MadeEmulation kind routers seed) × Appends (O.content out.old) (O.content out.new) m.text) }
-
-    // The sink counted a fault; a front of the text stands on `out`.
-    ensures write { result ≡ Err Stop.Write → Rose (O.faults out.old) (O.faults out.new)
-        × (m : MadeEmulation kind routers seed) × (n : ℕ) × Appends (O.content out.old) (O.content out.new) (take n m.text) }
-    ensures memory { result ≡ Err Stop.Memory → Keeps (O.content out.old) (O.content out.new) }
+    // The text of a run was put on `out`, whole; or a prefix of it, where the sink counted a fault; or nothing, at an allocation failure.
+    ensures leaves { PutsPieces (MadeMakes kind routers seed)
+        (O.content out.old) (O.content out.new) (O.faults out.old) (O.faults out.new) result }
     ensures later { O.faults out.old ≤ O.faults out.new }
 {
     match made_text::<B>(alloc, kind, routers, seed) {

@@ -1,14 +1,15 @@
-use Rattle.std.proofs.Common.{[], refl}
+use Rattle.std.proofs.Common.{[], Some, refl}
 use Rattle.mesh_emulate.specs.Emulation.{Of_nothing}
 use Rattle.mesh_emulate.specs.Wants.{wants_of}
-use Rattle.mesh_emulate.proofs.Emulations.{emulated, cut_short, stopped_short, same_stop, unbegun_refused, unbegun_written}
+use Rattle.mesh_emulate.proofs.Emulations.{makes, stopped, unbegun_refused, unbegun_written}
 use Rattle.mesh_io.proofs.Fronts.{appends_none, keeps_same}
 use Rattle.mesh_io.specs.declared.stop.Stop.TheVariants as stop
 use Rattle.mesh_emulate.proofs.emulation.emulate.Goals as goal
 
 pub returns-in-Ok-tell-clause-done : goal.returns-in-Ok-tell-clause-done
 returns-in-Ok-tell-clause-done g c =
-    emulated c.args.input.now (wants_of c.args.wanted.now) c.in-Ok.ready c.in-Ok.ensures.ready (g.O.Sink.content c.args.out.now) (g.O.Sink.content c.tell.new.out) c.in-Ok-tell.ensures.leaves
+    let (pieces, made, stands) = c.in-Ok-tell.ensures.leaves in
+    (pieces, makes c.args.input.now (wants_of c.args.wanted.now) c.in-Ok.ready c.in-Ok.ensures.ready pieces (Some tt) made, stands)
 
 pub returns-in-Err-clause-refused : goal.returns-in-Err-clause-refused
 returns-in-Err-clause-refused g c =
@@ -22,10 +23,10 @@ returns-in-Err-clause-memory g c = λ e. ([], Of_nothing refl, appends_none (g.O
 
 pub returns-clause-write : goal.returns-clause-write
 returns-clause-write g c =
-    λ e. cut_short c.args.input.now (wants_of c.args.wanted.now) c.in-Ok.ready c.in-Ok.ensures.ready (g.O.Sink.content c.args.out.now) (g.O.Sink.content c.tell.new.out)
-    (g.O.Sink.faults c.args.out.now) (g.O.Sink.faults c.tell.new.out) c.in-Err-tell.stop (same_stop c.in-Err-tell.stop stop.Write e) c.in-Err-tell.ensures.leaves
+    λ e. stopped c.args.input.now (wants_of c.args.wanted.now) c.in-Ok.ready c.in-Ok.ensures.ready (g.O.Sink.content c.args.out.now) (g.O.Sink.content c.tell.new.out)
+    (g.O.Sink.faults c.args.out.now) (g.O.Sink.faults c.tell.new.out) c.in-Err-tell.stop stop.Write e c.in-Err-tell.ensures.leaves
 
 pub returns-clause-memory : goal.returns-clause-memory
 returns-clause-memory g c =
-    λ e. stopped_short c.args.input.now (wants_of c.args.wanted.now) c.in-Ok.ready c.in-Ok.ensures.ready (g.O.Sink.content c.args.out.now) (g.O.Sink.content c.tell.new.out)
-    (g.O.Sink.faults c.args.out.now) (g.O.Sink.faults c.tell.new.out) c.in-Err-tell.stop (same_stop c.in-Err-tell.stop stop.Memory e) c.in-Err-tell.ensures.leaves
+    λ e. stopped c.args.input.now (wants_of c.args.wanted.now) c.in-Ok.ready c.in-Ok.ensures.ready (g.O.Sink.content c.args.out.now) (g.O.Sink.content c.tell.new.out)
+    (g.O.Sink.faults c.args.out.now) (g.O.Sink.faults c.tell.new.out) c.in-Err-tell.stop stop.Memory e c.in-Err-tell.ensures.leaves

@@ -1,4 +1,5 @@
-use Rattle.std.proofs.Common.{[], inl, refl}
+use Rattle.std.proofs.Common.{[], refl}
+use Rattle.mesh_emulate.specs.Parts.{Unopened}
 use Rattle.mesh_io.proofs.Fronts.{appends_none}
 use Rattle.mesh_emulate.proofs.emulation.tell.Goals as goal
 
@@ -12,7 +13,7 @@ pub tell_all-requires-clause-within : goal.tell_all-requires-clause-within
 tell_all-requires-clause-within g c = c.requires.within
 
 pub returns-in-Err-clause-leaves : goal.returns-in-Err-clause-leaves
-returns-in-Err-clause-leaves g c = ([], inl refl, appends_none (g.O.Sink.content c.args.out.now))
+returns-in-Err-clause-leaves g c = ([], Unopened refl refl, appends_none (g.O.Sink.content c.args.out.now))
 
 pub returns-in-Ok-new-clause-leaves : goal.returns-in-Ok-new-clause-leaves
 returns-in-Ok-new-clause-leaves g c = c.tell_all.ensures.leaves

@@ -1,21 +1,45 @@
-use Rattle.std.proofs.Common.{subst}
+use Rattle.std.proofs.Common.{Err, subst}
+use Rattle.mesh_emulate.specs.Parts.{MakesBoth, MakesWanted, IsProbedText, RunMakes, ErrandMakes, Opened}
 use Rattle.mesh_emulate.proofs.Ends.{end_routers}
-use Rattle.mesh_emulate.proofs.Parts.{run_left, probe_left}
+use Rattle.mesh_emulate.proofs.Parts.{run_over}
+use Rattle.mesh_emulate.proofs.Putting.{puts_as, both_put, both_stop, wanted_start, wanted_starts}
 use Rattle.mesh_probe.specs.Probes.{AreRoutersAt}
 use Rattle.mesh_texts.specs.machine.Net.{NetState}
 use Rattle.mesh_emulate.proofs.emulation.tell_all.Goals as goal
 
 pub probe_net-requires-clause-routers : goal.probe_net-requires-clause-routers
 probe_net-requires-clause-routers g c =
-    let (text, (run, same, tripped), stands) = c.in-Ok.ensures.leaves in
-    subst (λ (n : NetState). AreRoutersAt c.args.scenario.now n.routers c.args.scenario.now.end) same (end_routers c.args.scenario.now run)
+    let (pieces, made, stands) = c.in-Ok.ensures.leaves in
+    let s = c.args.scenario.now in
+    let (run, same) = run_over s c.args.errand (g.N.Network.net c.args.net) (g.N.Network.net c.tell_net.new.net) pieces c.requires.opening made in
+    subst (λ (n : NetState). AreRoutersAt s n.routers s.end) same (end_routers s run)
 
 pub returns-in-Ok-clause-leaves : goal.returns-in-Ok-clause-leaves
 returns-in-Ok-clause-leaves g c =
-    probe_left c.args.scenario.now c.args.errand (g.N.Network.net c.tell_net.new.net) (g.O.Sink.content c.args.out.now) (g.O.Sink.content c.tell_net.new.out) (g.O.Sink.content c.probe_net.new.out)
-    (g.O.Sink.faults c.args.out.now) (g.O.Sink.faults c.tell_net.new.out) (g.O.Sink.faults c.probe_net.new.out) c.probe_net.result c.in-Ok.ensures.leaves c.tell_net.ensures.later c.probe_net.ensures.leaves
+    let s = c.args.scenario.now in
+    let e = c.args.errand in
+    let opening = g.N.Network.net c.args.net in
+    let final = g.N.Network.net c.tell_net.new.net in
+    let a = g.O.Sink.content c.args.out.now in
+    let f = g.O.Sink.faults c.args.out.now in
+    let run = RunMakes s e opening final in
+    let probe = MakesWanted (IsProbedText s final.routers) e.probe in
+    puts_as (MakesBoth run probe) (ErrandMakes s e) a (g.O.Sink.content c.probe_net.new.out) f (g.O.Sink.faults c.probe_net.new.out) c.probe_net.result
+    (λ pieces x both. Opened opening final c.requires.opening both)
+    (both_put run probe a (g.O.Sink.content c.tell_net.new.out) f (g.O.Sink.faults c.tell_net.new.out) (g.O.Sink.content c.probe_net.new.out) (g.O.Sink.faults c.probe_net.new.out) c.probe_net.result
+    c.in-Ok.ensures.leaves c.tell_net.ensures.later c.probe_net.ensures.leaves)
 
 pub returns-in-Err-clause-leaves : goal.returns-in-Err-clause-leaves
 returns-in-Err-clause-leaves g c =
-    run_left c.args.scenario.now c.args.errand (g.N.Network.net c.tell_net.new.net) (g.O.Sink.content c.args.out.now) (g.O.Sink.content c.tell_net.new.out)
-    (g.O.Sink.faults c.args.out.now) (g.O.Sink.faults c.tell_net.new.out) c.in-Err.stop c.in-Err.ensures.leaves
+    let s = c.args.scenario.now in
+    let e = c.args.errand in
+    let opening = g.N.Network.net c.args.net in
+    let final = g.N.Network.net c.tell_net.new.net in
+    let a = g.O.Sink.content c.args.out.now in
+    let f = g.O.Sink.faults c.args.out.now in
+    let b = g.O.Sink.content c.tell_net.new.out in
+    let k = g.O.Sink.faults c.tell_net.new.out in
+    let run = RunMakes s e opening final in
+    let probe = MakesWanted (IsProbedText s final.routers) e.probe in
+    puts_as (MakesBoth run probe) (ErrandMakes s e) a b f k (Err c.in-Err.stop) (λ pieces x both. Opened opening final c.requires.opening both)
+    (both_stop run probe a b f k c.in-Err.stop (wanted_start e.probe) (wanted_starts (IsProbedText s final.routers) e.probe) c.in-Err.ensures.leaves)

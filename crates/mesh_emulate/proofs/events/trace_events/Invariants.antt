@@ -1,6 +1,7 @@
 use Rattle.std.proofs.Common.{◌≡◌, ◌≤◌, true, ℕ, List}
 use Rattle.std.specs.Io.KnownBytes.{Appends}
-use Rattle.mesh_emulate.specs.Left.{RunWithText}
+use Rattle.std.specs.List.{concat}
+use Rattle.mesh_emulate.specs.Parts.{RunWithPieces}
 use Rattle.mesh_emulate.proofs.events.trace_events.Given as goal
 
 -- what was done so far is told
@@ -8,5 +9,5 @@ abbrev pub invariant-events : goal.invariant-events
 invariant-events g l = record {
   scenario : (g.N.Network.net l.net).scenario ≡ l.scenario;
   later : g.O.Sink.faults l.fn.out ≤ g.O.Sink.faults l.out;
-  told : (text : List ℕ) × RunWithText true (g.N.Network.net l.fn.net) (g.N.Network.net l.net) text × Appends (g.O.Sink.content l.fn.out) (g.O.Sink.content l.out) text;
+  told : (pieces : List (List ℕ)) × RunWithPieces true (g.N.Network.net l.fn.net) (g.N.Network.net l.net) pieces × Appends (g.O.Sink.content l.fn.out) (g.O.Sink.content l.out) (concat pieces);
 }

@@ -1,8 +1,10 @@
 use Rattle.std.proofs.Common.{List, sym, subst}
 use Rattle.mesh_atoms.specs.Settled.{AreStates}
 use Rattle.mesh_atoms.specs.State.{State}
-use Rattle.mesh_emulate.specs.Left.{LeavesOut, IsTripTold, IsWithoutText}
-use Rattle.mesh_emulate.proofs.Parts.{trip_left}
+use Rattle.mesh_emulate.specs.Emulation.{IsEndSummary}
+use Rattle.mesh_emulate.specs.Parts.{MakesWanted, IsTripText}
+use Rattle.mesh_emulate.proofs.Putting.{both_put, both_stop, wanted_start, wanted_starts}
+use Rattle.mesh_io.specs.Pieces.{MakesOne, PutsPieces}
 use Rattle.mesh_emulate.proofs.summary.tell_end.Goals as goal
 
 pub tell_trip-requires-clause-states : goal.tell_trip-requires-clause-states
@@ -10,8 +12,19 @@ tell_trip-requires-clause-states g c = subst (AreStates c.args.scenario.now) (sy
 
 pub returns-in-Ok-clause-leaves : goal.returns-in-Ok-clause-leaves
 returns-in-Ok-clause-leaves g c =
+    let s = c.args.scenario.now in
     let net = g.N.Network.net c.args.net.now in
-    trip_left c.args.scenario.now c.args.send net (g.O.Sink.content c.args.out.now) (g.O.Sink.content c.tell_summary.new.out) (g.O.Sink.content c.tell_trip.new.out)
-    (g.O.Sink.faults c.args.out.now) (g.O.Sink.faults c.tell_summary.new.out) (g.O.Sink.faults c.tell_trip.new.out) c.tell_trip.result c.in-Ok.ensures.leaves c.tell_summary.ensures.later
-    (subst (λ (states : List State). LeavesOut (IsTripTold c.args.scenario.now states c.args.send) (IsTripTold c.args.scenario.now states c.args.send) (IsWithoutText c.args.send) (g.O.Sink.content c.tell_summary.new.out) (g.O.Sink.content c.tell_trip.new.out) (g.O.Sink.faults c.tell_summary.new.out) (g.O.Sink.faults c.tell_trip.new.out) c.tell_trip.result)
+    let b = g.O.Sink.content c.tell_summary.new.out in
+    let k = g.O.Sink.faults c.tell_summary.new.out in
+    both_put (MakesOne (λ (u : Unit {0}). IsEndSummary s net)) (MakesWanted (IsTripText s net.routers) c.args.send) (g.O.Sink.content c.args.out.now) b (g.O.Sink.faults c.args.out.now) k
+    (g.O.Sink.content c.tell_trip.new.out) (g.O.Sink.faults c.tell_trip.new.out) c.tell_trip.result c.in-Ok.ensures.leaves c.tell_summary.ensures.later
+    (subst (λ (states : List State). PutsPieces (MakesWanted (IsTripText s states) c.args.send) b (g.O.Sink.content c.tell_trip.new.out) k (g.O.Sink.faults c.tell_trip.new.out) c.tell_trip.result)
     c.routers.ensures c.tell_trip.ensures.leaves)
+
+pub returns-in-Err-clause-leaves : goal.returns-in-Err-clause-leaves
+returns-in-Err-clause-leaves g c =
+    let s = c.args.scenario.now in
+    let net = g.N.Network.net c.args.net.now in
+    both_stop (MakesOne (λ (u : Unit {0}). IsEndSummary s net)) (MakesWanted (IsTripText s net.routers) c.args.send)
+    (g.O.Sink.content c.args.out.now) (g.O.Sink.content c.tell_summary.new.out) (g.O.Sink.faults c.args.out.now) (g.O.Sink.faults c.tell_summary.new.out)
+    c.in-Err.stop (wanted_start c.args.send) (wanted_starts (IsTripText s net.routers) c.args.send) c.in-Err.ensures.leaves

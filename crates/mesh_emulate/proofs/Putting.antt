@@ -1,0 +1,62 @@
+-- What is put on out, one part after the other.
+use Rattle.std.proofs.Common.{◌≡◌, ℕ, ◌≤◌, List, [], ◌++◌, Option, Some, None, Result, Ok, Err, refl, sym, subst}
+use Rattle.std.proofs.lemmas.List.{append-nil}
+use Rattle.mesh_io.specs.declared.stop.Stop.{Stop}
+use Rattle.mesh_io.specs.Pieces.{MakesOne, PutsAll, PutsPieces}
+use Rattle.mesh_io.proofs.Pieces.{all_behind, stops_behind, stops_in}
+use Rattle.mesh_emulate.specs.Parts.{MakesBoth, In_first, In_next, MakesWanted}
+
+-- less is known of the pieces
+pub puts_as : (Makes Makes' : List (List ℕ) → Option (Unit {0}) → Type 0) (a b : Option (List ℕ)) (f g : ℕ) (r : Result (Unit {0}) Stop) →
+    ((pieces : List (List ℕ)) (x : Option (Unit {0})) → Makes pieces x → Makes' pieces x) → PutsPieces Makes a b f g r → PutsPieces Makes' a b f g r
+puts_as Makes Makes' a b f g (Ok u) turn (pieces, made, stands) = (pieces, turn pieces (Some u) made, stands)
+puts_as Makes Makes' a b f g (Err e) turn left = stops_in Makes Makes' (λ x. x) a b f g e refl left turn
+
+-- the text that was put is such
+one_such : (IsText : List ℕ → Type 0) (text : List ℕ) → IsText text → (pieces : List (List ℕ)) (x : Option (Unit {0})) →
+    MakesOne (λ (u : Unit {0}) t. t ≡ text) pieces x → MakesOne (λ (u : Unit {0}). IsText) pieces x
+one_such IsText text is pieces (Some u) (t, same, whole) = (t, subst IsText (sym same) is, whole)
+one_such IsText text is pieces None none = none
+
+pub puts_such : (IsText : List ℕ → Type 0) (text : List ℕ) (a b : Option (List ℕ)) (f g : ℕ) (r : Result (Unit {0}) Stop) → IsText text →
+    PutsPieces (MakesOne (λ (u : Unit {0}) t. t ≡ text)) a b f g r → PutsPieces (MakesOne (λ (u : Unit {0}). IsText)) a b f g r
+puts_such IsText text a b f g r is left =
+    puts_as (MakesOne (λ (u : Unit {0}) t. t ≡ text)) (MakesOne (λ (u : Unit {0}). IsText)) a b f g r (one_such IsText text is) left
+
+module _ (First Next : List (List ℕ) → Option (Unit {0}) → Type 0) (a b : Option (List ℕ)) (f g : ℕ) where
+  -- behind a part that was put
+  pub both_put : (c : Option (List ℕ)) (h : ℕ) (r : Result (Unit {0}) Stop) → PutsAll First a b tt → f ≤ g → PutsPieces Next b c g h r →
+      PutsPieces (MakesBoth First Next) a c f h r
+  both_put c h (Ok u) (first, made, stands) le left =
+      all_behind Next (MakesBoth First Next) first a b c u u stands left (λ pieces is. In_next first pieces made is refl)
+  both_put c h (Err e) (first, made, stands) le left =
+      stops_behind Next (MakesBoth First Next) (λ x. x) first a b c f g h e refl stands le left (λ pieces x is. In_next first pieces made is refl)
+
+  -- how both stand where the first does
+  abbrev both : Option (Unit {0}) → Option (Unit {0}) → Option (Unit {0})
+  both start (Some u) = start
+  both start None = None
+
+  first_of_both : (start : Option (Unit {0})) → Next [] start → (pieces : List (List ℕ)) (x : Option (Unit {0})) → First pieces x →
+      MakesBoth First Next pieces (both start x)
+  first_of_both start starts pieces (Some u) is = In_next pieces [] is starts (sym (append-nil pieces))
+  first_of_both start starts pieces None is = In_first is refl
+
+  -- where the first part stopped, since the next one can start
+  pub both_stop : (e : Stop) (start : Option (Unit {0})) → Next [] start → PutsPieces First a b f g (Err e) → PutsPieces (MakesBoth First Next) a b f g (Err e)
+  both_stop e start starts left = stops_in First (MakesBoth First Next) (both start) a b f g e refl left (first_of_both start starts)
+
+-- nothing was made yet of what is wanted; or nothing is wanted
+abbrev pub wanted_start : {A : Type 0} → Option A → Option (Unit {0})
+wanted_start None = Some tt
+wanted_start (Some wanted) = None
+
+pub wanted_starts : {A : Type 0} (IsText : A → List ℕ → Type 0) (wanted : Option A) → MakesWanted IsText wanted [] (wanted_start wanted)
+wanted_starts IsText None = refl
+wanted_starts IsText (Some wanted) = refl
+
+-- both parts, where both are whole
+pub both_made : (First Next : List (List ℕ) → Option (Unit {0}) → Type 0) (pieces : List (List ℕ)) → MakesBoth First Next pieces (Some tt) →
+    (first : List (List ℕ)) × (next : List (List ℕ)) × First first (Some tt) × Next next (Some tt) × (pieces ≡ first ++ next)
+both_made First Next pieces (In_next first next made is whole) = (first, next, made, is, whole)
+both_made First Next pieces (In_first made is) = let bad : ⊥ = cc in absurd bad
