@@ -28,7 +28,7 @@ fn put_total(out: &mut Bytes, counts: LineCounts) -> Result<(), AllocError>
 
 // Writes the line that counts, by one write. What `part` holds is lost.
 fn write_total<O: Sink>(part: &mut Bytes, counts: LineCounts, out: &mut O) -> Result<(), Stop>
-    ensures puts { PutsPieces (MakesOne (λ _ text. text ≡ total_text counts.lines counts.refused))
+    ensures leaves { PutsPieces (MakesOne (λ _ text. text ≡ total_text counts.lines counts.refused))
         (O.content out.old) (O.content out.new) (O.faults out.old) (O.faults out.new) result }
     ensures later { O.faults out.old ≤ O.faults out.new }
 {
@@ -48,7 +48,7 @@ fn write_line<O: Sink>(
     recode: bool,
     out: &mut O,
 ) -> Result<u64, Stop>
-    ensures puts { PutsPieces (MakesOne (IsListing recode number line.now))
+    ensures leaves { PutsPieces (MakesOne (IsListing recode number line.now))
         (O.content out.old) (O.content out.new) (O.faults out.old) (O.faults out.new) result }
     ensures later { O.faults out.old ≤ O.faults out.new }
 {
@@ -71,7 +71,7 @@ fn write_lines<O: Sink>(
     recode: bool,
     out: &mut O,
 ) -> Result<LineCounts, Stop>
-    ensures puts { PutsPieces (LinesMake input.now recode)
+    ensures leaves { PutsPieces (LinesMake input.now recode)
         (O.content out.old) (O.content out.new) (O.faults out.old) (O.faults out.new) result }
     ensures later { O.faults out.old ≤ O.faults out.new }
 {
@@ -96,7 +96,7 @@ pub fn dump<O: Sink>(alloc: Global, input: &[u8], recode: bool, out: &mut O) -> 
     // At `Ok` all pieces of the listing were put on `out`, and so many lines of it are refused. At a failed write the sink counted a
     // fault, and the pieces before the one that was written were put, and then a prefix of it. At an allocation failure the listings of
     // some first lines were put, maybe of none.
-    ensures puts { PutsPieces (DumpMakes input.now recode)
+    ensures leaves { PutsPieces (DumpMakes input.now recode)
         (O.content out.old) (O.content out.new) (O.faults out.old) (O.faults out.new) result }
     ensures later { O.faults out.old ≤ O.faults out.new }
 {

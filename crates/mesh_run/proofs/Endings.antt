@@ -17,7 +17,7 @@ use Rattle.mesh_io.specs.Told.{TellsMore}
 use Rattle.mesh_io.specs.declared.stop.Stop.{Stop}
 use Rattle.mesh_io.specs.declared.stop.Stop.TheVariants as stop
 use Rattle.mesh_run.specs.Ends.{Completes, FinishesTurns, Spends, ToldNothing, RouterMakes, RouterEnds, EndsRun}
-use Rattle.mesh_run.specs.Run.{StatesSetup, ToldInCall, told, ArePortsAttached, IsTold, WholeRouterRun, SpendsTurns, RunsShort, RunMakes}
+use Rattle.mesh_run.specs.Run.{StatesSetup, ToldInCall, told, ArePortsAttached, IsTold, WholeRouterRun, SpendsTurns, RunsShort, RouterRunMakes}
 use Rattle.mesh_run.specs.Run.RunsShort.{Before_turns, In_turns}
 use Rattle.mesh_run.specs.Text.{IsReport}
 use Rattle.mesh_run.specs.declared.fault.RunFault.{RunFault}
@@ -152,20 +152,20 @@ module _ (input : List ℕ) (setup : RunSetup) (stated : StatesSetup input setup
   stops_short s = In_turns setup s.moments s.reports stated (is_told s.moments s.reports s.clock_tells s.air_tells) s.within s.stops
 
   -- what is made behind the attaches is what the run makes
-  run_makes : (pieces : List (List ℕ)) (x : Option (Unit {0})) → RouterMakes setup most k l b c pieces x → RunMakes input most (told k l a c n) pieces x
+  run_made : (pieces : List (List ℕ)) (x : Option (Unit {0})) → RouterMakes setup most k l b c pieces x → RouterRunMakes input most (told k l a c n) pieces x
   unfolding whole_run
-  run_makes pieces (Some u) (text, finishes, is) = (whole_run text finishes, is)
-  run_makes pieces None (none, inl quiet) = (none, Before_turns setup stated (attached_alone quiet))
-  run_makes pieces None (none, inr s) = (none, stops_short s)
+  run_made pieces (Some u) (text, finishes, is) = (whole_run text finishes, is)
+  run_made pieces None (none, inl quiet) = (none, Before_turns setup stated (attached_alone quiet))
+  run_made pieces None (none, inr s) = (none, stops_short s)
 
   pub ends_behind : (o o' : Option (List ℕ)) (f f' af af' : ℕ) (r : Result (Unit {0}) RunFault) →
       RouterEnds setup most k l b c o o' f f' r → EndsRun input most (told k l a c n) o o' f f' af af' r
-  ends_behind o o' f f' af af' (Ok u) (pieces, made, stands) = (pieces, run_makes pieces (Some u) made, stands)
+  ends_behind o o' f f' af af' (Ok u) (pieces, made, stands) = (pieces, run_made pieces (Some u) made, stands)
   ends_behind o o' f f' af af' (Err (fault.Refused number key)) h = absurd h
   ends_behind o o' f f' af af' (Err (fault.Attach interface)) h = absurd h
   ends_behind o o' f f' af af' (Err (fault.Turns turns greatest end)) (all, s, keeps) = (all, spends_turns turns greatest end s, keeps)
   ends_behind o o' f f' af af' (Err (fault.Stopped why)) stops =
-      stops_in (RouterMakes setup most k l b c) (RunMakes input most (told k l a c n)) (λ x. x) o o' f f' why refl stops run_makes
+      stops_in (RouterMakes setup most k l b c) (RouterRunMakes input most (told k l a c n)) (λ x. x) o o' f f' why refl stops run_made
 
 -- an attach failed
 pub attach_left : (input : List ℕ) (setup : RunSetup) (most : ℕ) (k : Option (List ℕ)) (a b : Option (List Report)) (o : Option (List ℕ)) (n f af af' i : ℕ) →
@@ -180,7 +180,7 @@ attach_left input setup most k a b o n f af af' i stated fewer number tells rose
 -- By the answer
 
 module _ (input : List ℕ) (most : ℕ) (t : ToldInCall) (o o' : Option (List ℕ)) (f f' af af' : ℕ) where
-  pub done_left : (r : Result (Unit {0}) RunFault) → EndsRun input most t o o' f f' af af' r → OnOk r (PutsAll (RunMakes input most t) o o' tt)
+  pub done_left : (r : Result (Unit {0}) RunFault) → EndsRun input most t o o' f f' af af' r → OnOk r (PutsAll (RouterRunMakes input most t) o o' tt)
   done_left (Ok u) h = h
   done_left (Err e) h = tt
 

@@ -9,7 +9,7 @@ use Rattle.mesh_io.specs.Faults.{RoseByOne}
 use Rattle.mesh_io.specs.Pieces.{PutsPieces}
 use Rattle.mesh_io.specs.Told.{TellsMore}
 use Rattle.mesh_io.specs.declared.stop.Stop.TheVariants as stop
-use Rattle.mesh_run.specs.Run.{ToldInCall, IsUntold, RunMakes, SpendsTurns, FailsToAttach}
+use Rattle.mesh_run.specs.Run.{ToldInCall, IsUntold, RouterRunMakes, SpendsTurns, FailsToAttach}
 use Rattle.mesh_run.specs.Text.{RunText}
 use Rattle.mesh_run.specs.declared.fault.RunFault.{RunFault}
 use Rattle.mesh_run.specs.declared.fault.RunFault.TheVariants as fault
@@ -76,7 +76,7 @@ RouterEnds setup most clock clock' air air' out out' faults faults' (Err (fault.
 -- what is left in all
 abbrev pub EndsRun : List ℕ → ℕ → ToldInCall → Option (List ℕ) → Option (List ℕ) → ℕ → ℕ → ℕ → ℕ → Result (Unit {0}) RunFault → Type 0
 EndsRun input most told out out' faults faults' air_faults air_faults' (Ok u) =
-    PutsPieces (RunMakes input most told) out out' faults faults' (Ok u)
+    PutsPieces (RouterRunMakes input most told) out out' faults faults' (Ok u)
 EndsRun input most told out out' faults faults' air_faults air_faults' (Err (fault.Refused number key)) =
     FirstRunRefusal input number key × IsUntold told × Keeps out out'
 EndsRun input most told out out' faults faults' air_faults air_faults' (Err (fault.Attach interface)) =
@@ -84,4 +84,4 @@ EndsRun input most told out out' faults faults' air_faults air_faults' (Err (fau
 EndsRun input most told out out' faults faults' air_faults air_faults' (Err (fault.Turns turns greatest end)) =
     (turns ≡ most) × SpendsTurns input turns greatest end told × Keeps out out'
 EndsRun input most told out out' faults faults' air_faults air_faults' (Err (fault.Stopped why)) =
-    PutsPieces (RunMakes input most told) out out' faults faults' (Err why)
+    PutsPieces (RouterRunMakes input most told) out out' faults faults' (Err why)

@@ -89,6 +89,6 @@ pub data RunsShort (input : List ℕ) (most : ℕ) (told : ToldInCall) : Type 0 
       length moments ≤ most → TurnsStopShort setup moments reports → RunsShort input most told
 
 -- what a run makes: the text of a whole run, by one write; nothing before it, where memory was wanting
-abbrev pub RunMakes : List ℕ → ℕ → ToldInCall → List (List ℕ) → Option (Unit {0}) → Type 0
-RunMakes input most told pieces (Some u) = (r : WholeRouterRun input most told) × (pieces ≡ r.text ∷ [])
-RunMakes input most told pieces None = (pieces ≡ []) × RunsShort input most told
+abbrev pub RouterRunMakes : List ℕ → ℕ → ToldInCall → List (List ℕ) → Option (Unit {0}) → Type 0
+RouterRunMakes input most told pieces (Some u) = (r : WholeRouterRun input most told) × (pieces ≡ r.text ∷ [])
+RouterRunMakes input most told pieces None = (pieces ≡ []) × RunsShort input most told

@@ -7,7 +7,7 @@ ghost use Rattle.mesh_io.specs.Faults.{Rose, RoseByOne};
 ghost use Rattle.mesh_io.specs.Pieces.{PutsAll, PutsFront, PutsFirst};
 ghost use Rattle.mesh_run.specs.Attaching.{AttachesAtOnce};
 ghost use Rattle.mesh_run.specs.Ends.{EndsRun, Completes};
-ghost use Rattle.mesh_run.specs.Run.{StatesSetup, told, IsUntold, RunMakes, SpendsTurns, FailsToAttach};
+ghost use Rattle.mesh_run.specs.Run.{StatesSetup, told, IsUntold, RouterRunMakes, SpendsTurns, FailsToAttach};
 ghost use Rattle.mesh_run.specs.declared.fault.RunFault.TheVariants.{Refused, Attach, Turns, Stopped};
 ghost use Rattle.mesh_config.specs.Keys.Faults.{first};
 
@@ -58,7 +58,7 @@ pub fn run<B: Bases, O: Sink, A: Air, C: Clock>(
     requires { A.attached air.old ≡ 0 }
 
     // The text of a run, by the moments that the clock told and the reports of the air, was put on `out`.
-    ensures done { OnOk result (PutsAll (RunMakes input.now turns
+    ensures done { OnOk result (PutsAll (RouterRunMakes input.now turns
         (told (C.moments clock.old) (C.moments clock.new) (A.reports air.old) (A.reports air.new) (A.attached air.new)))
         (O.content out.old) (O.content out.new) tt) }
 
@@ -82,12 +82,12 @@ pub fn run<B: Bases, O: Sink, A: Air, C: Clock>(
         × Keeps (O.content out.old) (O.content out.new) }
 
     // The sink counted a fault; a prefix of the text of a run was put on `out`.
-    ensures write { result ≡ Err (Stopped Stop.Write) → PutsFront (RunMakes input.now turns
+    ensures write { result ≡ Err (Stopped Stop.Write) → PutsFront (RouterRunMakes input.now turns
         (told (C.moments clock.old) (C.moments clock.new) (A.reports air.old) (A.reports air.new) (A.attached air.new)))
         (O.content out.old) (O.content out.new) (O.faults out.old) (O.faults out.new) }
 
     // What was told and handed over is that of some first turns, at most as many as were asked for; nothing was put on `out`.
-    ensures memory { result ≡ Err (Stopped Stop.Memory) → PutsFirst (RunMakes input.now turns
+    ensures memory { result ≡ Err (Stopped Stop.Memory) → PutsFirst (RouterRunMakes input.now turns
         (told (C.moments clock.old) (C.moments clock.new) (A.reports air.old) (A.reports air.new) (A.attached air.new)))
         (O.content out.old) (O.content out.new) }
 

@@ -58,7 +58,7 @@ pub fn tell_report<R: RouterView, O: Sink>(
     out: &mut O,
 ) -> Result<(), Stop>
     requires { Sound (R.state router.now) }
-    ensures puts { PutsPieces (MakesOne (λ _ text. IsReport end ended.now (R.state router.now) text))
+    ensures leaves { PutsPieces (MakesOne (λ _ text. IsReport end ended.now (R.state router.now) text))
         (O.content out.old) (O.content out.new) (O.faults out.old) (O.faults out.new) result }
     ensures later { O.faults out.old ≤ O.faults out.new }
 {

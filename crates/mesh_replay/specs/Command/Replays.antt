@@ -37,3 +37,7 @@ pub data IsRefusedInput (input : List ℕ) : ℕ → List ℕ → Type 0 where
 unfoldable pub answer_line : Replay → List ℕ
 answer_line (Yes lines) = codes "replay yes lines " ++ (decimal lines ++ codes "\n")
 answer_line (No line) = codes "replay no line " ++ (decimal line ++ codes "\n")
+
+-- what tells the answer to an input: its line
+abbrev pub IsAnswerText : List ℕ → Replay → List ℕ → Type 0
+IsAnswerText input answer text = Replays input answer × (text ≡ answer_line answer)

@@ -1,11 +1,10 @@
 //! The command: an input is answered, and the answer told.
-ghost use Rattle.std.specs.Prelude.{◌≡◌, ◌≤◌, ℕ, List, take, Err, IfOk};
-ghost use Rattle.std.specs.Io.KnownBytes.{Appends, Keeps};
-ghost use Rattle.mesh_io.specs.Faults.{Rose};
-ghost use Rattle.mesh_replay.specs.declared.answer.Replay.{Replay};
+ghost use Rattle.std.specs.Prelude.{◌≡◌, ◌≤◌, ℕ, List, Err, IfOk};
+ghost use Rattle.std.specs.Io.KnownBytes.{Keeps};
+ghost use Rattle.mesh_io.specs.Pieces.{MakesOne, PutsAll, PutsFront, PutsFirst, PutsPieces};
 ghost use Rattle.mesh_replay.specs.declared.command.input.ReplayFault.TheVariants.{Refused, Stopped};
-ghost use Rattle.mesh_replay.specs.Command.Replays.{Replays, IsRefusedInput, answer_line};
-ghost use Rattle.mesh_replay.specs.Command.Tells.{TellsAnswer, IsUnanswered};
+ghost use Rattle.mesh_replay.specs.Command.Replays.{IsRefusedInput, IsAnswerText, answer_line};
+ghost use Rattle.mesh_replay.specs.Command.Tells.{IsUnanswered};
 
 use crate::answer::Replay;
 use crate::command::answer::{answer_to, put_answer};
@@ -24,7 +23,8 @@ pub enum ReplayFault {
 
 // Tells an answer, by one write.
 fn tell<O: Sink>(alloc: Global, answer: Replay, out: &mut O) -> Result<(), Stop>
-    ensures tells { TellsAnswer answer (O.content out.old) (O.content out.new) (O.faults out.old) (O.faults out.new) result }
+    ensures leaves { PutsPieces (MakesOne (λ _ text. text ≡ answer_line answer))
+        (O.content out.old) (O.content out.new) (O.faults out.old) (O.faults out.new) result }
     ensures later { O.faults out.old ≤ O.faults out.new }
 {
     let mut text = Bytes::new(alloc);
@@ -56,20 +56,19 @@ pub fn replay_input<B: Bases, O: Sink>(
     out: &mut O,
 ) -> Result<Replay, ReplayFault>
     // The line of the answer to the input was put on `out`.
-    ensures answered { IfOk result (λ answer. Replays input.now answer
-        × Appends (O.content out.old) (O.content out.new) (answer_line answer)) }
+    ensures answered { IfOk result (PutsAll (MakesOne (IsAnswerText input.now)) (O.content out.old) (O.content out.new)) }
 
     // The input is refused, with that number and key; nothing was put on `out`.
     ensures refused { (number : ℕ) (key : List ℕ) → result ≡ Err (Refused number key)
         → IsRefusedInput input.now number key × Keeps (O.content out.old) (O.content out.new) }
 
-    // The sink counted a fault; a front of the line of the answer stands on `out`.
-    ensures write { result ≡ Err (Stopped Stop.Write) → Rose (O.faults out.old) (O.faults out.new)
-        × (answer : Replay) × Replays input.now answer
-        × (n : ℕ) × Appends (O.content out.old) (O.content out.new) (take n (answer_line answer)) }
+    // The sink counted a fault; a prefix of the line of the answer was put on `out`.
+    ensures write { result ≡ Err (Stopped Stop.Write) → PutsFront (MakesOne (IsAnswerText input.now))
+        (O.content out.old) (O.content out.new) (O.faults out.old) (O.faults out.new) }
 
     // Nothing was put on `out`.
-    ensures memory { result ≡ Err (Stopped Stop.Memory) → Keeps (O.content out.old) (O.content out.new) }
+    ensures memory { result ≡ Err (Stopped Stop.Memory) → PutsFirst (MakesOne (IsAnswerText input.now))
+        (O.content out.old) (O.content out.new) }
     ensures later { O.faults out.old ≤ O.faults out.new }
 {
     let answer = match answer_to::<B>(alloc, input) {

@@ -31,11 +31,11 @@ returns-in-Ok-tell_report-clause-ends g c =
     report_left c.args.setup.now c.args.turns c.in-Ok.ensures.done.0 c.in-Ok.ended (g.C.Clock.moments c.args.clock.now) (g.C.Clock.moments c.do_turns.new.clock)
     (g.A.Air.reports c.args.air.now) (g.A.Air.reports c.do_turns.new.air) c.in-Ok.ensures.done.1 c.in-Ok.ensures.most c.if-ended-setup.false
     (g.M.Whole.RouterView.state c.into_whole-whole.result) (subst (λ (s : State). IsKeptOf c.args.setup.now.end c.in-Ok.ensures.done.0 s) (sym c.into_whole-whole.ensures) c.in-Ok.ensures.done.2)
-    (g.O.Sink.content c.args.out.now) (g.O.Sink.content c.tell_report.new.out) (g.O.Sink.faults c.args.out.now) (g.O.Sink.faults c.tell_report.new.out) c.in-Ok-tell_report.ensures.puts
+    (g.O.Sink.content c.args.out.now) (g.O.Sink.content c.tell_report.new.out) (g.O.Sink.faults c.args.out.now) (g.O.Sink.faults c.tell_report.new.out) c.in-Ok-tell_report.ensures.leaves
 
 pub returns-clause-ends : goal.returns-clause-ends
 returns-clause-ends g c =
     report_stops c.args.setup.now c.args.turns c.in-Ok.ensures.done.0 c.in-Ok.ended (g.C.Clock.moments c.args.clock.now) (g.C.Clock.moments c.do_turns.new.clock)
     (g.A.Air.reports c.args.air.now) (g.A.Air.reports c.do_turns.new.air) c.in-Ok.ensures.done.1 c.in-Ok.ensures.most c.if-ended-setup.false
     (g.M.Whole.RouterView.state c.into_whole-whole.result) (subst (λ (s : State). IsKeptOf c.args.setup.now.end c.in-Ok.ensures.done.0 s) (sym c.into_whole-whole.ensures) c.in-Ok.ensures.done.2)
-    (g.O.Sink.content c.args.out.now) (g.O.Sink.content c.tell_report.new.out) (g.O.Sink.faults c.args.out.now) (g.O.Sink.faults c.tell_report.new.out) c.in-Err-tell_report.stop c.in-Err-tell_report.ensures.puts
+    (g.O.Sink.content c.args.out.now) (g.O.Sink.content c.tell_report.new.out) (g.O.Sink.faults c.args.out.now) (g.O.Sink.faults c.tell_report.new.out) c.in-Err-tell_report.stop c.in-Err-tell_report.ensures.leaves
