@@ -10,7 +10,7 @@ use Rattle.mesh_data.specs.Trips.{IsTrip}
 use Rattle.mesh_io.specs.declared.stop.Stop.{Stop}
 use Rattle.mesh_io.specs.declared.stop.Stop.TheVariants as stop
 use Rattle.mesh_emulate.specs.Emulation.{IsPacketSent, IsProbed, TellsWanted, piece_if, TellsEvents, IsEndSummary, Emulation, IsRefused, without_both, IsFirstPart, Of_nothing, Of_first_events, But_the_trip, But_the_probe, EmulationMakes}
-use Rattle.mesh_emulate.specs.Parts.{In_first, In_next, MakesWanted, RunWithPieces, EventsMake, IsTripText, EndMakes, RunMakes, IsProbedText, ErrandMakes, Unopened, Opened}
+use Rattle.mesh_emulate.specs.Parts.{In_first, In_next, MakesWanted, RunWithPieces, EventsMake, IsTripText, EndMakes, WholeRunMakes, IsProbedText, ErrandMakes, Unopened, Opened}
 use Rattle.mesh_io.specs.Pieces.{MakesOne, PutsPieces}
 use Rattle.mesh_emulate.specs.Prepared.{IsPrepared, IsUnbegun}
 use Rattle.mesh_emulate.specs.Wants.{WantedPacket, Wants, IsNamed, Agree, Departs}
@@ -87,13 +87,9 @@ module _ (input : List ℕ) (wants : Wants) (p : Prepared) (ready : IsPrepared i
   module _ (opening : NetState) (opens : IsOpeningNet p.scenario opening) where
     -- some first events
     first_events : (stopped : NetState) (pieces events : List (List ℕ)) → RunWithPieces p.errand.trace opening stopped events → pieces ≡ events → IsFirstPart input wants pieces
-    first_events stopped pieces events told same = Of_first_events (record {
-      scenario = p.scenario;
-      stated = ready.stated;
-      first_events = record { opening = opening; events = told.events; stopped = stopped; is_opening = opens; runs = told.runs };
-      pieces = events;
-      are_pieces = subst (λ (b : Bool). TellsEvents b opening told.events stopped events) ready.errand.trace told.are_told;
-    }) same
+    first_events stopped pieces events told same =
+        Of_first_events p.scenario ready.stated (record { opening = opening; events = told.events; stopped = stopped; is_opening = opens; runs = told.runs })
+        (rw same (subst (λ (b : Bool). TellsEvents b opening told.events stopped events) ready.errand.trace told.are_told))
 
     module _ (final : NetState) where
       -- an emulation of this run
@@ -123,7 +119,7 @@ module _ (input : List ℕ) (wants : Wants) (p : Prepared) (ready : IsPrepared i
       )
 
       -- the run is told, and then the probe that is wanted
-      told : (wanted : Option (List ℕ)) (probe : List ℕ) (pieces first next : List (List ℕ)) → RunMakes p.scenario p.errand opening final first (Some tt) →
+      told : (wanted : Option (List ℕ)) (probe : List ℕ) (pieces first next : List (List ℕ)) → WholeRunMakes p.scenario p.errand opening final first (Some tt) →
           TellsWanted (IsProbed p.scenario final.routers) wanted probe → next ≡ piece_if wanted probe → pieces ≡ first ++ next →
           (e : Emulation input (record { trace = wants.trace; send = wants.send; probe = wanted })) × (pieces ≡ e.pieces)
       told wanted probe pieces first next run is_probe behind whole =
@@ -136,7 +132,7 @@ module _ (input : List ℕ) (wants : Wants) (p : Prepared) (ready : IsPrepared i
           (joined pieces first next events end one trips (piece_if wants.send trip) (piece_if wanted probe) summary whole front whole_end is_one is_trips behind)
 
       -- the run is not told whole
-      run_part : (pieces : List (List ℕ)) → RunMakes p.scenario p.errand opening final pieces None → IsFirstPart input wants pieces
+      run_part : (pieces : List (List ℕ)) → WholeRunMakes p.scenario p.errand opening final pieces None → IsFirstPart input wants pieces
       run_part pieces (In_first (stopped, events) is) = first_events stopped pieces pieces events refl
       run_part pieces (In_next events end (told, over) (In_first none is) whole) =
           first_events final pieces events told (whole ∙ ap (λ (l : List (List ℕ)). events ++ l) none ∙ append-nil events)
@@ -150,7 +146,7 @@ module _ (input : List ℕ) (wants : Wants) (p : Prepared) (ready : IsPrepared i
   makes pieces (Some u) (Unopened none is) = let bad : ⊥ = cc in absurd bad
   makes pieces None (Unopened none is) = Of_nothing none
   makes pieces (Some u) (Opened opening final opens both) =
-      let (first, next, run, probes, whole) = both_made (RunMakes p.scenario p.errand opening final) (MakesWanted (IsProbedText p.scenario final.routers) p.errand.probe) pieces both in
+      let (first, next, run, probes, whole) = both_made (WholeRunMakes p.scenario p.errand opening final) (MakesWanted (IsProbedText p.scenario final.routers) p.errand.probe) pieces both in
       let (probe, is_probe, is_next) = made_wanted (IsNamed p.scenario) (IsProbedText p.scenario final.routers) (IsProbed p.scenario final.routers) wants.probe p.errand.probe next
       (probe_named final.routers) ready.errand.origin probes in
       told opening opens final wants.probe probe pieces first next run is_probe is_next whole

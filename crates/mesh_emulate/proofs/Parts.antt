@@ -5,7 +5,7 @@ use Rattle.mesh_texts.specs.machine.Net.{NetState}
 use Rattle.mesh_texts.specs.machine.NetRun.{IsOpeningNet, IsOver}
 use Rattle.mesh_texts.specs.Runs.{WholeRun}
 use Rattle.mesh_emulate.specs.declared.wanted.Errand.{Errand}
-use Rattle.mesh_emulate.specs.Parts.{RunWithPieces, EventsMake, EndMakes, RunMakes}
+use Rattle.mesh_emulate.specs.Parts.{RunWithPieces, EventsMake, EndMakes, WholeRunMakes}
 use Rattle.mesh_emulate.proofs.Putting.{both_made}
 
 -- a run from the opening that is over
@@ -16,7 +16,7 @@ whole_run s trace opening final pieces opens told over =
 
 -- a run whose end is told is over
 pub run_over : (s : Scenario) (e : Errand) (opening final : NetState) (pieces : List (List ℕ)) → IsOpeningNet s opening →
-    RunMakes s e opening final pieces (Some tt) → (run : WholeRun s) × (run.final ≡ final)
+    WholeRunMakes s e opening final pieces (Some tt) → (run : WholeRun s) × (run.final ≡ final)
 run_over s e opening final pieces opens made =
     let (events, end, (told, over), is_end, whole) = both_made (EventsMake e.trace opening final) (EndMakes s e.send final) pieces made in
     (whole_run s e.trace opening final events opens told over, refl)

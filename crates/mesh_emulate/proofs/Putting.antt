@@ -43,17 +43,13 @@ module _ (First Next : List (List ℕ) → Option (Unit {0}) → Type 0) (a b : 
   first_of_both start starts pieces None is = In_first is refl
 
   -- where the first part stopped, since the next one can start
-  pub both_stop : (e : Stop) (start : Option (Unit {0})) → Next [] start → PutsPieces First a b f g (Err e) → PutsPieces (MakesBoth First Next) a b f g (Err e)
-  both_stop e start starts left = stops_in First (MakesBoth First Next) (both start) a b f g e refl left (first_of_both start starts)
+  pub both_stop : (e : Stop) → (start : Option (Unit {0})) × Next [] start → PutsPieces First a b f g (Err e) → PutsPieces (MakesBoth First Next) a b f g (Err e)
+  both_stop e (start, starts) left = stops_in First (MakesBoth First Next) (both start) a b f g e refl left (first_of_both start starts)
 
 -- nothing was made yet of what is wanted; or nothing is wanted
-abbrev pub wanted_start : {A : Type 0} → Option A → Option (Unit {0})
-wanted_start None = Some tt
-wanted_start (Some wanted) = None
-
-pub wanted_starts : {A : Type 0} (IsText : A → List ℕ → Type 0) (wanted : Option A) → MakesWanted IsText wanted [] (wanted_start wanted)
-wanted_starts IsText None = refl
-wanted_starts IsText (Some wanted) = refl
+pub wanted_starts : {A : Type 0} (IsText : A → List ℕ → Type 0) (wanted : Option A) → (start : Option (Unit {0})) × MakesWanted IsText wanted [] start
+wanted_starts IsText None = (Some tt, refl)
+wanted_starts IsText (Some wanted) = (None, refl)
 
 -- both parts, where both are whole
 pub both_made : (First Next : List (List ℕ) → Option (Unit {0}) → Type 0) (pieces : List (List ℕ)) → MakesBoth First Next pieces (Some tt) →

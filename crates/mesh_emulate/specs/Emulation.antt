@@ -104,14 +104,6 @@ pub data IsRefused (input : List ℕ) (wants : Wants) (number : ℕ) (key : List
 
 -- What an emulation makes
 
--- an emulation that stopped on the way: some first events of the network, and their texts where the trace is wanted
-pub record StoppedEmulation (input : List ℕ) (trace : Bool) : Type 0 where
-  pub scenario : Scenario
-  pub stated : States input scenario
-  pub first_events : FirstEvents scenario
-  pub pieces : List (List ℕ)
-  pub are_pieces : TellsEvents trace first_events.opening first_events.events first_events.stopped pieces
-
 -- what is wanted without the trip and the probe, and without the probe alone
 abbrev pub without_both : Wants → Wants
 without_both wants = record { trace = wants.trace; send = None; probe = None }
@@ -119,11 +111,12 @@ without_both wants = record { trace = wants.trace; send = None; probe = None }
 abbrev pub without_probe : Wants → Wants
 without_probe wants = record { trace = wants.trace; send = wants.send; probe = None }
 
--- the pieces where an emulation stops on the way: none before its first event, those of some first events, all but the trip that is
--- wanted and what follows it, or all but the probe that is wanted
+-- the pieces where an emulation stops on the way: none before its first event, the texts of some first events where the trace is
+-- wanted, all but the trip that is wanted and what follows it, or all but the probe that is wanted
 pub data IsFirstPart (input : List ℕ) (wants : Wants) (pieces : List (List ℕ)) : Type 0 where
   Of_nothing : pieces ≡ [] → IsFirstPart input wants pieces
-  Of_first_events : (e : StoppedEmulation input wants.trace) → pieces ≡ e.pieces → IsFirstPart input wants pieces
+  Of_first_events : (s : Scenario) → States input s → (run : FirstEvents s) → TellsEvents wants.trace run.opening run.events run.stopped pieces →
+      IsFirstPart input wants pieces
   But_the_trip : IsSome wants.send → (e : Emulation input (without_both wants)) → pieces ≡ e.pieces → IsFirstPart input wants pieces
   But_the_probe : IsSome wants.probe → (e : Emulation input (without_probe wants)) → pieces ≡ e.pieces → IsFirstPart input wants pieces
 

@@ -61,8 +61,8 @@ EndMakes s send net pieces answer =
 -- The whole
 
 -- the events of a run between these networks, and then its end
-abbrev pub RunMakes : Scenario → Errand → NetState → NetState → List (List ℕ) → Option (Unit {0}) → Type 0
-RunMakes s e opening final pieces answer = MakesBoth (EventsMake e.trace opening final) (EndMakes s e.send final) pieces answer
+abbrev pub WholeRunMakes : Scenario → Errand → NetState → NetState → List (List ℕ) → Option (Unit {0}) → Type 0
+WholeRunMakes s e opening final pieces answer = MakesBoth (EventsMake e.trace opening final) (EndMakes s e.send final) pieces answer
 
 -- the probe by router origin of the network that these routers are, and its text
 abbrev pub IsProbedText : Scenario → List State → ℕ → List ℕ → Type 0
@@ -72,4 +72,4 @@ IsProbedText s states origin text = (probe : Probe) × IsProbeOf s states origin
 pub data ErrandMakes (s : Scenario) (e : Errand) (pieces : List (List ℕ)) (answer : Option (Unit {0})) : Type 0 where
   Unopened : pieces ≡ [] → answer ≡ None → ErrandMakes s e pieces answer
   Opened : (opening final : NetState) → IsOpeningNet s opening →
-      MakesBoth (RunMakes s e opening final) (MakesWanted (IsProbedText s final.routers) e.probe) pieces answer → ErrandMakes s e pieces answer
+      MakesBoth (WholeRunMakes s e opening final) (MakesWanted (IsProbedText s final.routers) e.probe) pieces answer → ErrandMakes s e pieces answer

@@ -3,7 +3,7 @@ ghost use Rattle.std.specs.Prelude.{◌≡◌, ◌≤◌, ◌<◌, ℕ, List, le
 ghost use Rattle.std.specs.Io.KnownBytes.{Keeps};
 ghost use Rattle.mesh_atoms.specs.Radio.{IsRadioGraph};
 ghost use Rattle.mesh_emulate.specs.Emulation.{IsRefused, EmulationMakes};
-ghost use Rattle.mesh_emulate.specs.Parts.{MakesWanted, IsProbedText, RunMakes, ErrandMakes};
+ghost use Rattle.mesh_emulate.specs.Parts.{MakesWanted, IsProbedText, WholeRunMakes, ErrandMakes};
 ghost use Rattle.mesh_emulate.specs.Prepared.{IsUnbegun};
 ghost use Rattle.mesh_emulate.specs.Wants.{wants_of, IsWithin};
 ghost use Rattle.mesh_emulate.specs.declared.emulation.EmulateFault.TheVariants.{Refused, Stopped};
@@ -45,7 +45,7 @@ fn tell_net<N: Network, O: Sink>(
     requires opening { IsOpeningNet scenario.now (N.net net.old) }
     requires graph { IsRadioGraph scenario.now graph.now }
     requires within { IsWithin scenario.now errand }
-    ensures leaves { PutsPieces (RunMakes scenario.now errand (N.net net.old) (N.net net.new))
+    ensures leaves { PutsPieces (WholeRunMakes scenario.now errand (N.net net.old) (N.net net.new))
         (O.content out.old) (O.content out.new) (O.faults out.old) (O.faults out.new) result }
     ensures later { O.faults out.old ≤ O.faults out.new }
 {

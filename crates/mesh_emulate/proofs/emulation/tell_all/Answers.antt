@@ -1,8 +1,8 @@
 use Rattle.std.proofs.Common.{Err, subst}
-use Rattle.mesh_emulate.specs.Parts.{MakesBoth, MakesWanted, IsProbedText, RunMakes, ErrandMakes, Opened}
+use Rattle.mesh_emulate.specs.Parts.{MakesBoth, MakesWanted, WholeRunMakes, IsProbedText, ErrandMakes, Opened}
 use Rattle.mesh_emulate.proofs.Ends.{end_routers}
 use Rattle.mesh_emulate.proofs.Parts.{run_over}
-use Rattle.mesh_emulate.proofs.Putting.{puts_as, both_put, both_stop, wanted_start, wanted_starts}
+use Rattle.mesh_emulate.proofs.Putting.{puts_as, both_put, both_stop, wanted_starts}
 use Rattle.mesh_probe.specs.Probes.{AreRoutersAt}
 use Rattle.mesh_texts.specs.machine.Net.{NetState}
 use Rattle.mesh_emulate.proofs.emulation.tell_all.Goals as goal
@@ -16,30 +16,20 @@ probe_net-requires-clause-routers g c =
 
 pub returns-in-Ok-clause-leaves : goal.returns-in-Ok-clause-leaves
 returns-in-Ok-clause-leaves g c =
-    let s = c.args.scenario.now in
-    let e = c.args.errand in
-    let opening = g.N.Network.net c.args.net in
     let final = g.N.Network.net c.tell_net.new.net in
-    let a = g.O.Sink.content c.args.out.now in
-    let f = g.O.Sink.faults c.args.out.now in
-    let run = RunMakes s e opening final in
-    let probe = MakesWanted (IsProbedText s final.routers) e.probe in
-    puts_as (MakesBoth run probe) (ErrandMakes s e) a (g.O.Sink.content c.probe_net.new.out) f (g.O.Sink.faults c.probe_net.new.out) c.probe_net.result
-    (λ pieces x both. Opened opening final c.requires.opening both)
-    (both_put run probe a (g.O.Sink.content c.tell_net.new.out) f (g.O.Sink.faults c.tell_net.new.out) (g.O.Sink.content c.probe_net.new.out) (g.O.Sink.faults c.probe_net.new.out) c.probe_net.result
-    c.in-Ok.ensures.leaves c.tell_net.ensures.later c.probe_net.ensures.leaves)
+    let run = WholeRunMakes c.args.scenario.now c.args.errand (g.N.Network.net c.args.net) final in
+    let probe = MakesWanted (IsProbedText c.args.scenario.now final.routers) c.args.errand.probe in
+    puts_as (MakesBoth run probe) (ErrandMakes c.args.scenario.now c.args.errand) (g.O.Sink.content c.args.out.now) (g.O.Sink.content c.probe_net.new.out)
+    (g.O.Sink.faults c.args.out.now) (g.O.Sink.faults c.probe_net.new.out) c.probe_net.result (λ pieces x both. Opened (g.N.Network.net c.args.net) final c.requires.opening both)
+    (both_put run probe (g.O.Sink.content c.args.out.now) (g.O.Sink.content c.tell_net.new.out) (g.O.Sink.faults c.args.out.now) (g.O.Sink.faults c.tell_net.new.out)
+    (g.O.Sink.content c.probe_net.new.out) (g.O.Sink.faults c.probe_net.new.out) c.probe_net.result c.in-Ok.ensures.leaves c.tell_net.ensures.later c.probe_net.ensures.leaves)
 
 pub returns-in-Err-clause-leaves : goal.returns-in-Err-clause-leaves
 returns-in-Err-clause-leaves g c =
-    let s = c.args.scenario.now in
-    let e = c.args.errand in
-    let opening = g.N.Network.net c.args.net in
     let final = g.N.Network.net c.tell_net.new.net in
-    let a = g.O.Sink.content c.args.out.now in
-    let f = g.O.Sink.faults c.args.out.now in
-    let b = g.O.Sink.content c.tell_net.new.out in
-    let k = g.O.Sink.faults c.tell_net.new.out in
-    let run = RunMakes s e opening final in
-    let probe = MakesWanted (IsProbedText s final.routers) e.probe in
-    puts_as (MakesBoth run probe) (ErrandMakes s e) a b f k (Err c.in-Err.stop) (λ pieces x both. Opened opening final c.requires.opening both)
-    (both_stop run probe a b f k c.in-Err.stop (wanted_start e.probe) (wanted_starts (IsProbedText s final.routers) e.probe) c.in-Err.ensures.leaves)
+    let run = WholeRunMakes c.args.scenario.now c.args.errand (g.N.Network.net c.args.net) final in
+    let probe = MakesWanted (IsProbedText c.args.scenario.now final.routers) c.args.errand.probe in
+    puts_as (MakesBoth run probe) (ErrandMakes c.args.scenario.now c.args.errand) (g.O.Sink.content c.args.out.now) (g.O.Sink.content c.tell_net.new.out)
+    (g.O.Sink.faults c.args.out.now) (g.O.Sink.faults c.tell_net.new.out) (Err c.in-Err.stop) (λ pieces x both. Opened (g.N.Network.net c.args.net) final c.requires.opening both)
+    (both_stop run probe (g.O.Sink.content c.args.out.now) (g.O.Sink.content c.tell_net.new.out) (g.O.Sink.faults c.args.out.now) (g.O.Sink.faults c.tell_net.new.out)
+    c.in-Err.stop (wanted_starts (IsProbedText c.args.scenario.now final.routers) c.args.errand.probe) c.in-Err.ensures.leaves)

@@ -23,4 +23,4 @@ returns-clause-leaves g c =
     let final = g.N.Network.net c.tell_events.new.net in
     both_stop (EventsMake c.args.errand.trace (g.N.Network.net c.args.net.now) final) (EndMakes c.args.scenario.now c.args.errand.send final)
     (g.O.Sink.content c.args.out.now) (g.O.Sink.content c.tell_events.new.out) (g.O.Sink.faults c.args.out.now) (g.O.Sink.faults c.tell_events.new.out)
-    c.in-Err.stop None (In_first refl refl) c.in-Err.ensures.leaves
+    c.in-Err.stop (None, In_first refl refl) c.in-Err.ensures.leaves

@@ -10,8 +10,7 @@ returns-in-None-clause-leaves g c = rw c.in-None.is ([], refl, appends_none (g.O
 pub returns-in-Ok-clause-leaves : goal.returns-in-Ok-clause-leaves
 returns-in-Ok-clause-leaves g c =
     let is = IsProbedText c.args.scenario.now (map g.R.RouterView.state c.args.routers.now) c.in-Some.origin in
-    rw c.in-Some.is
-    (puts_such is c.as_slice.result.now (g.O.Sink.content c.args.out.now) (g.O.Sink.content c.write_text.new.out) (g.O.Sink.faults c.args.out.now) (g.O.Sink.faults c.write_text.new.out)
+    rw c.in-Some.is (puts_such is c.as_slice.result.now (g.O.Sink.content c.args.out.now) (g.O.Sink.content c.write_text.new.out) (g.O.Sink.faults c.args.out.now) (g.O.Sink.faults c.write_text.new.out)
     c.write_text.result (subst is (sym c.as_slice.ensures) c.in-Ok.ensures) c.write_text.ensures.leaves)
 
 pub returns-in-Err-clause-leaves : goal.returns-in-Err-clause-leaves

@@ -3,7 +3,7 @@ use Rattle.mesh_atoms.specs.Settled.{AreStates}
 use Rattle.mesh_atoms.specs.State.{State}
 use Rattle.mesh_emulate.specs.Emulation.{IsEndSummary}
 use Rattle.mesh_emulate.specs.Parts.{MakesWanted, IsTripText}
-use Rattle.mesh_emulate.proofs.Putting.{both_put, both_stop, wanted_start, wanted_starts}
+use Rattle.mesh_emulate.proofs.Putting.{both_put, both_stop, wanted_starts}
 use Rattle.mesh_io.specs.Pieces.{MakesOne, PutsPieces}
 use Rattle.mesh_emulate.proofs.summary.tell_end.Goals as goal
 
@@ -27,4 +27,4 @@ returns-in-Err-clause-leaves g c =
     let net = g.N.Network.net c.args.net.now in
     both_stop (MakesOne (λ (u : Unit {0}). IsEndSummary s net)) (MakesWanted (IsTripText s net.routers) c.args.send)
     (g.O.Sink.content c.args.out.now) (g.O.Sink.content c.tell_summary.new.out) (g.O.Sink.faults c.args.out.now) (g.O.Sink.faults c.tell_summary.new.out)
-    c.in-Err.stop (wanted_start c.args.send) (wanted_starts (IsTripText s net.routers) c.args.send) c.in-Err.ensures.leaves
+    c.in-Err.stop (wanted_starts (IsTripText s net.routers) c.args.send) c.in-Err.ensures.leaves
