@@ -1,4 +1,4 @@
--- The pieces of an emulation, from what is told of its network.
+-- The pieces of an emulation, from the pieces of its parts.
 use Rattle.std.proofs.Common.{◌≡◌, ℕ, Bool, List, [], ◌∷◌, ◌++◌, Option, Some, None, Result, Err, refl, sym, ap, ◌∙◌, subst, append_assoc}
 use Rattle.std.specs.List.{concat}
 use Rattle.std.specs.Prelude.{IsSome}
@@ -46,7 +46,7 @@ unbegun_written (faults.Memory a) ends is e = cc
 
 -- From numbers to names
 
--- what is wanted is not made yet
+-- a text is wanted, and no piece is there yet
 unmade : {A B : Type 0} (R : A → B → Type 0) (IsText : B → List ℕ → Type 0) (x : Option A) (y : Option B) (pieces : List (List ℕ)) → Agree R x y →
     MakesWanted IsText y pieces None → IsSome x × (pieces ≡ [])
 unmade R IsText (Some a) (Some b) pieces is none = (refl, none)
@@ -54,7 +54,7 @@ unmade R IsText None None pieces is made = absurd made
 unmade R IsText None (Some b) pieces is made = absurd is
 unmade R IsText (Some a) None pieces is made = absurd is
 
--- what is wanted is made, by a relation of names where one of numbers is known
+-- the text that is wanted by number is wanted by name
 made_wanted : {A B : Type 0} (R : A → B → Type 0) (IsText : B → List ℕ → Type 0) (IsText' : A → List ℕ → Type 0) (x : Option A) (y : Option B) (pieces : List (List ℕ)) →
     ((a : A) (b : B) (text : List ℕ) → R a b → IsText b text → IsText' a text) → Agree R x y → MakesWanted IsText y pieces (Some tt) →
     (text : List ℕ) × TellsWanted IsText' x text × (pieces ≡ piece_if x text)
@@ -156,7 +156,7 @@ module _ (input : List ℕ) (wants : Wants) (p : Prepared) (ready : IsPrepared i
       let e = told opening opens final None [] pieces first next run refl none whole in
       But_the_probe some e.0 e.1
 
-  -- what is left where the run stopped
+  -- the pieces that were put where the run stopped
   pub stopped : (a b : Option (List ℕ)) (f g : ℕ) (why how : Stop) → ◌≡◌ {A = Result (Unit {0}) EmulateFault} (Err (Stopped why)) (Err (Stopped how)) →
       PutsPieces (ErrandMakes p.scenario p.errand) a b f g (Err why) → PutsPieces (EmulationMakes input wants) a b f g (Err how)
   stopped a b f g why how e left =

@@ -10,7 +10,7 @@ use Rattle.mesh_texts.specs.Runs.{IsTraced, Traces, WholeRun, IsTrace, IsRunText
 use Rattle.mesh_emulate.specs.Emulation.{TellsWanted, piece_if, AreEventTexts, TellsEvents, Emulation}
 use Rattle.mesh_emulate.specs.Wants.{Wants}
 
--- the texts with that of one event more
+-- the texts with one event's text more
 pub texts_more : (old : NetState) (events : List NetEvent) (mid new : NetState) (pieces : List (List ℕ)) (event : NetEvent) (last : List ℕ) →
     AreEventTexts old events mid pieces → NetStep mid event new → IsTraced new event last → AreEventTexts old (events ++ event ∷ []) new (pieces ++ last ∷ [])
 texts_more old [] mid new pieces event last (same, none) step is =
@@ -18,7 +18,7 @@ texts_more old [] mid new pieces event last (same, none) step is =
 texts_more old (e ∷ es) mid new pieces event last (m, s, text, rest, it, more, whole) step is =
     (m, s, text, rest ++ last ∷ [], it, texts_more m es mid new rest event last more step is, ap (λ (l : List (List ℕ)). l ++ last ∷ []) whole)
 
--- joined they are the trace
+-- the joined texts are the trace
 pub joined_trace : (old : NetState) (events : List NetEvent) (new : NetState) (pieces : List (List ℕ)) → AreEventTexts old events new pieces →
     Traces old events new (concat pieces)
 joined_trace old [] new pieces (same, none) = (same, ap concat none)

@@ -14,7 +14,7 @@ abbrev pub whole_run : (s : Scenario) (trace : Bool) (opening final : NetState) 
 whole_run s trace opening final pieces opens told over =
     record { opening = opening; events = told.events; final = final; is_opening = opens; runs = told.runs; over = over }
 
--- a run whose end is told is over
+-- a run that is told whole is over
 pub run_over : (s : Scenario) (e : Errand) (opening final : NetState) (pieces : List (List ℕ)) → IsOpeningNet s opening →
     WholeRunMakes s e opening final pieces (Some tt) → (run : WholeRun s) × (run.final ≡ final)
 run_over s e opening final pieces opens made =

@@ -1,12 +1,13 @@
--- What is put on out, one part after the other.
+-- Pieces that are put on out, one part after the other.
 use Rattle.std.proofs.Common.{◌≡◌, ℕ, ◌≤◌, List, [], ◌++◌, Option, Some, None, Result, Ok, Err, refl, sym, subst}
+use Rattle.std.specs.Prelude.{OnOk}
 use Rattle.std.proofs.lemmas.List.{append-nil}
 use Rattle.mesh_io.specs.declared.stop.Stop.{Stop}
 use Rattle.mesh_io.specs.Pieces.{MakesOne, PutsAll, PutsPieces}
 use Rattle.mesh_io.proofs.Pieces.{all_behind, stops_behind, stops_in}
 use Rattle.mesh_emulate.specs.Parts.{MakesBoth, In_first, In_next, MakesWanted}
 
--- less is known of the pieces
+-- the same pieces, by a weaker relation
 pub puts_as : (Makes Makes' : List (List ℕ) → Option (Unit {0}) → Type 0) (a b : Option (List ℕ)) (f g : ℕ) (r : Result (Unit {0}) Stop) →
     ((pieces : List (List ℕ)) (x : Option (Unit {0})) → Makes pieces x → Makes' pieces x) → PutsPieces Makes a b f g r → PutsPieces Makes' a b f g r
 puts_as Makes Makes' a b f g (Ok u) turn (pieces, made, stands) = (pieces, turn pieces (Some u) made, stands)
@@ -23,8 +24,19 @@ pub puts_such : (IsText : List ℕ → Type 0) (text : List ℕ) (a b : Option (
 puts_such IsText text a b f g r is left =
     puts_as (MakesOne (λ (u : Unit {0}) t. t ≡ text)) (MakesOne (λ (u : Unit {0}). IsText)) a b f g r (one_such IsText text is) left
 
+-- the text that was put into a buffer is such
+one_made : {E : Type 0} (IsText : List ℕ → Type 0) (put : Result (Unit {0}) E) (text : List ℕ) → OnOk put (IsText text) → (pieces : List (List ℕ)) (x : Option (Unit {0})) →
+    MakesOne (λ (u : Unit {0}) t. (put ≡ Ok tt) × (t ≡ text)) pieces x → MakesOne (λ (u : Unit {0}). IsText) pieces x
+one_made IsText put text is pieces (Some u) (t, (ok, same), whole) = (t, subst IsText (sym same) (rw ok at is), whole)
+one_made IsText put text is pieces None none = none
+
+pub puts_made : {E : Type 0} (IsText : List ℕ → Type 0) (put : Result (Unit {0}) E) (text : List ℕ) (a b : Option (List ℕ)) (f g : ℕ) (r : Result (Unit {0}) Stop) → OnOk put (IsText text) →
+    PutsPieces (MakesOne (λ (u : Unit {0}) t. (put ≡ Ok tt) × (t ≡ text))) a b f g r → PutsPieces (MakesOne (λ (u : Unit {0}). IsText)) a b f g r
+puts_made IsText put text a b f g r is left =
+    puts_as (MakesOne (λ (u : Unit {0}) t. (put ≡ Ok tt) × (t ≡ text))) (MakesOne (λ (u : Unit {0}). IsText)) a b f g r (one_made IsText put text is) left
+
 module _ (First Next : List (List ℕ) → Option (Unit {0}) → Type 0) (a b : Option (List ℕ)) (f g : ℕ) where
-  -- behind a part that was put
+  -- the next part was put behind the first, which was put whole
   pub both_put : (c : Option (List ℕ)) (h : ℕ) (r : Result (Unit {0}) Stop) → PutsAll First a b tt → f ≤ g → PutsPieces Next b c g h r →
       PutsPieces (MakesBoth First Next) a c f h r
   both_put c h (Ok u) (first, made, stands) le left =
@@ -32,7 +44,7 @@ module _ (First Next : List (List ℕ) → Option (Unit {0}) → Type 0) (a b : 
   both_put c h (Err e) (first, made, stands) le left =
       stops_behind Next (MakesBoth First Next) (λ x. x) first a b c f g h e refl stands le left (λ pieces x is. In_next first pieces made is refl)
 
-  -- how both stand where the first does
+  -- the answer of both parts by the first one's, where the next part has no piece yet
   abbrev both : Option (Unit {0}) → Option (Unit {0}) → Option (Unit {0})
   both start (Some u) = start
   both start None = None
@@ -42,16 +54,16 @@ module _ (First Next : List (List ℕ) → Option (Unit {0}) → Type 0) (a b : 
   first_of_both start starts pieces (Some u) is = In_next pieces [] is starts (sym (append-nil pieces))
   first_of_both start starts pieces None is = In_first is refl
 
-  -- where the first part stopped, since the next one can start
+  -- the first part stopped, and the next part has no piece yet
   pub both_stop : (e : Stop) → (start : Option (Unit {0})) × Next [] start → PutsPieces First a b f g (Err e) → PutsPieces (MakesBoth First Next) a b f g (Err e)
   both_stop e (start, starts) left = stops_in First (MakesBoth First Next) (both start) a b f g e refl left (first_of_both start starts)
 
--- nothing was made yet of what is wanted; or nothing is wanted
+-- no piece is there yet; or none is wanted
 pub wanted_starts : {A : Type 0} (IsText : A → List ℕ → Type 0) (wanted : Option A) → (start : Option (Unit {0})) × MakesWanted IsText wanted [] start
 wanted_starts IsText None = (Some tt, refl)
 wanted_starts IsText (Some wanted) = (None, refl)
 
--- both parts, where both are whole
+-- both parts are whole
 pub both_made : (First Next : List (List ℕ) → Option (Unit {0}) → Type 0) (pieces : List (List ℕ)) → MakesBoth First Next pieces (Some tt) →
     (first : List (List ℕ)) × (next : List (List ℕ)) × First first (Some tt) × Next next (Some tt) × (pieces ≡ first ++ next)
 both_made First Next pieces (In_next first next made is whole) = (first, next, made, is, whole)

@@ -57,7 +57,7 @@ text_put s net event after old new (Ok u) last at none (text, put, is) =
     (after, at, subst (IsEventText net.scenario event after) (sym whole) (subst (λ (t : Scenario). IsEventText t event after text) (sym last.scenario) is))
 text_put s net event after old new (Err e) last at none put = tt
 
--- behind the texts of some first events, that of one event more
+-- one event's text behind the texts of some first events
 module _ (old mid new : NetState) (event : NetEvent) (step : NetStep mid event new) (before : List (List ℕ)) (told : RunWithPieces true old mid before) where
   event_put : (pieces : List (List ℕ)) → MakesOne (λ (u : Unit {0}). IsTraced new event) pieces (Some tt) → RunWithPieces true old new (before ++ pieces)
   event_put pieces (last, is, whole) =

@@ -1,4 +1,4 @@
--- An emulation: the scenario that the input states, a run of its network, and what is told of it, piece by piece.
+-- An emulation: the scenario that the input states, a run of its network, and the pieces of its text.
 use Rattle.std.specs.Prelude.{◌≡◌, ℕ, List, [], ◌∷◌, ◌++◌, Bool, true, false, Option, Some, None, IsSome}
 use Rattle.std.specs.List.{concat}
 use Rattle.mesh_atoms.specs.declared.gap.Gap.{Gap}
@@ -49,12 +49,12 @@ pub record IsProbed (s : Scenario) (states : List State) (name text : List ℕ) 
 
 -- The pieces
 
--- the text of what is wanted; nothing where nothing is
+-- the text of the trip or the probe that is wanted; empty where none is wanted
 abbrev pub TellsWanted : {A : Type 0} → (A → List ℕ → Type 0) → Option A → List ℕ → Type 0
 TellsWanted IsText None text = text ≡ []
 TellsWanted IsText (Some wanted) text = IsText wanted text
 
--- the piece that such a text is; no piece where nothing is wanted
+-- such a text as one piece; no piece where none is wanted
 abbrev pub piece_if : {A : Type 0} → Option A → List ℕ → List (List ℕ)
 piece_if None text = []
 piece_if (Some wanted) text = text ∷ []
@@ -66,7 +66,7 @@ AreEventTexts old (event ∷ events) new pieces =
     (mid : NetState) × NetStep old event mid × (text : List ℕ) × (rest : List (List ℕ)) × IsTraced mid event text
     × AreEventTexts mid events new rest × (pieces ≡ text ∷ rest)
 
--- the same where the trace is wanted; no piece where it isn't
+-- these texts where the trace is wanted; no piece where it isn't
 abbrev pub TellsEvents : Bool → NetState → List NetEvent → NetState → List (List ℕ) → Type 0
 TellsEvents false old events new pieces = pieces ≡ []
 TellsEvents true old events new pieces = AreEventTexts old events new pieces
@@ -75,8 +75,8 @@ TellsEvents true old events new pieces = AreEventTexts old events new pieces
 abbrev pub IsEndSummary : Scenario → NetState → List ℕ → Type 0
 IsEndSummary s net text = (gap : Option Gap) × IsGapOf s net.routers s.end gap × IsSummary s net.routers net.traffic.counts gap text
 
--- the scenario that the input states, a run of its network from its opening to its end, and the pieces of what is told of it: the texts
--- of the events, the summary, and then the trip and the probe that are wanted, both over the routers as the run left them
+-- the scenario that the input states, a run of its network from its opening to its end, and the pieces of its text: the texts of the
+-- events, the summary, and then the trip and the probe that are wanted, both over the routers as the run left them
 pub record Emulation (input : List ℕ) (wants : Wants) : Type 0 where
   pub scenario : Scenario
   pub stated : States input scenario

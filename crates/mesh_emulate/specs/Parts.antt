@@ -1,4 +1,4 @@
--- The pieces of each part of what is told of a network.
+-- The pieces of each part of an emulation.
 use Rattle.std.specs.Prelude.{◌≡◌, ◌<◌, ℕ, List, [], ◌++◌, Option, Some, None, Bool, length}
 use Rattle.mesh_atoms.specs.declared.network.NetEvent.{NetEvent}
 use Rattle.mesh_atoms.specs.declared.settings.Scenario.{Scenario}
@@ -16,12 +16,12 @@ use Rattle.mesh_texts.specs.machine.Net.{NetState}
 use Rattle.mesh_texts.specs.machine.NetRun.{IsOpeningNet, IsOver, NetRun}
 use Rattle.mesh_texts.specs.Trace.{IsFrameTaken}
 
--- some first pieces of one part; or all of it, and pieces of the next part
+-- some first pieces of the first part alone; or all its pieces, and then pieces of the next part
 pub data MakesBoth (First Next : List (List ℕ) → Option (Unit {0}) → Type 0) (pieces : List (List ℕ)) (answer : Option (Unit {0})) : Type 0 where
   In_first : First pieces None → answer ≡ None → MakesBoth First Next pieces answer
   In_next : (first next : List (List ℕ)) → First first (Some tt) → Next next answer → pieces ≡ first ++ next → MakesBoth First Next pieces answer
 
--- the one piece of what is wanted; no piece where nothing is
+-- the text of the trip or the probe that is wanted, as one piece; no piece where none is wanted
 abbrev pub MakesWanted : {A : Type 0} → (A → List ℕ → Type 0) → Option A → List (List ℕ) → Option (Unit {0}) → Type 0
 MakesWanted IsText (Some wanted) pieces answer = MakesOne (λ (u : Unit {0}). IsText wanted) pieces answer
 MakesWanted IsText None pieces (Some u) = pieces ≡ []
@@ -35,13 +35,13 @@ pub record IsLastEvent (s : Scenario) (net : NetState) (event : NetEvent) : Type
   pub router : event.router < length net.routers
   pub packet : IsFrameTaken event
 
--- a run from a network on, and its pieces
+-- a run from one network to another, and the texts of its events
 pub record RunWithPieces (trace : Bool) (old new : NetState) (pieces : List (List ℕ)) : Type 0 where
   pub events : List NetEvent
   pub runs : NetRun old events new
   pub are_told : TellsEvents trace old events new pieces
 
--- the same, up to the run's end; or up to wherever it stopped
+-- such a run up to its end; or up to any network where it stopped
 abbrev pub EventsMake : Bool → NetState → NetState → List (List ℕ) → Option (Unit {0}) → Type 0
 EventsMake trace old new pieces (Some u) = RunWithPieces trace old new pieces × IsOver new
 EventsMake trace old new pieces None = (stopped : NetState) × RunWithPieces trace old stopped pieces
@@ -68,7 +68,7 @@ WholeRunMakes s e opening final pieces answer = MakesBoth (EventsMake e.trace op
 abbrev pub IsProbedText : Scenario → List State → ℕ → List ℕ → Type 0
 IsProbedText s states origin text = (probe : Probe) × IsProbeOf s states origin probe × IsProbeText s origin probe text
 
--- nothing yet; or a run from the opening of the scenario's network on, and then the probe
+-- no piece yet; or a run from the opening of the scenario's network on, and then the probe
 pub data ErrandMakes (s : Scenario) (e : Errand) (pieces : List (List ℕ)) (answer : Option (Unit {0})) : Type 0 where
   Unopened : pieces ≡ [] → answer ≡ None → ErrandMakes s e pieces answer
   Opened : (opening final : NetState) → IsOpeningNet s opening →

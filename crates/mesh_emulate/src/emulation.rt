@@ -147,7 +147,7 @@ pub fn emulate<B: Bases, O: Sink>(
     ensures refused { (number : ℕ) (key : List ℕ) → result ≡ Err (Refused number key)
         → IsRefused input.now (wants_of wanted.now) number key × Keeps (O.content out.old) (O.content out.new) }
 
-    // The sink counted a fault; the pieces before one stand on `out`, and a prefix of it.
+    // The sink counted a fault; on `out` stand the pieces before the one whose write failed, and a prefix of this one.
     ensures write { result ≡ Err (Stopped Stop.Write) → PutsFront (EmulationMakes input.now (wants_of wanted.now))
         (O.content out.old) (O.content out.new) (O.faults out.old) (O.faults out.new) }
 

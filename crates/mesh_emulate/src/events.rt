@@ -1,11 +1,11 @@
 //! The events of a network up to its end, with the text of each as it is done, or without.
 ghost use Rattle.std.specs.Prelude.{◌≡◌, ◌≤◌, true, OnOk};
 ghost use Rattle.mesh_emulate.specs.Parts.{IsLastEvent, EventsMake};
-ghost use Rattle.mesh_io.specs.Pieces.{MakesOne, PutsPieces};
+ghost use Rattle.mesh_io.specs.Pieces.{PutsPieces};
 ghost use Rattle.mesh_texts.specs.Runs.{IsTraced};
 
 use crate::network::Network;
-use crate::writing::write_text;
+use crate::writing::write_put;
 use mesh_atoms::{Bytes, Scenario};
 use mesh_io::{Sink, Stop};
 use mesh_radio::NetEvent;
@@ -27,25 +27,6 @@ fn put_text<N: Network>(
     put_event(text, scenario, event, &routers[event.router])
 }
 
-// Writes that text.
-fn write_event<N: Network, O: Sink>(
-    net: &N,
-    scenario: &Scenario,
-    event: &NetEvent,
-    text: &mut Bytes,
-    out: &mut O,
-) -> Result<(), Stop>
-    requires { IsLastEvent scenario.now (N.net net.now) event.now }
-    ensures leaves { PutsPieces (MakesOne (λ (u : Unit {0}). IsTraced (N.net net.now) event.now))
-        (O.content out.old) (O.content out.new) (O.faults out.old) (O.faults out.new) result }
-    ensures later { O.faults out.old ≤ O.faults out.new }
-{
-    match put_text(net, scenario, event, text) {
-        Ok(()) => write_text(text.as_slice(), out),
-        Err(_) => Err(Stop::Memory),
-    }
-}
-
 // Does all events that are left, and writes the text of each as it is done.
 fn trace_events<N: Network, O: Sink>(
     net: &mut N,
@@ -64,7 +45,8 @@ fn trace_events<N: Network, O: Sink>(
             Ok(None) => return Ok(()),
             Err(_) => return Err(Stop::Memory),
         };
-        match write_event(net, scenario, &event, text, out) {
+        let put = put_text(net, scenario, &event, text);
+        match write_put(put, text, out) {
             Ok(()) => {}
             Err(stop) => return Err(stop),
         }

@@ -2,14 +2,14 @@
 ghost use Rattle.std.specs.Prelude.{◌≡◌, ◌≤◌, ◌<◌, length, map, OnOk, IfSome};
 ghost use Rattle.mesh_emulate.specs.Emulation.{IsEndSummary};
 ghost use Rattle.mesh_emulate.specs.Parts.{EndMakes};
-ghost use Rattle.mesh_io.specs.Pieces.{MakesOne, PutsPieces};
+ghost use Rattle.mesh_io.specs.Pieces.{PutsPieces};
 ghost use Rattle.mesh_settled.specs.Gaps.Network.{IsNetwork};
 ghost use Rattle.mesh_texts.specs.Network.{IsGapOf};
 
 use crate::network::Network;
 use crate::trip::tell_trip;
 use crate::wanted::Departure;
-use crate::writing::write_text;
+use crate::writing::write_put;
 use mesh_atoms::{Bytes, RadioGraph, Scenario};
 use mesh_io::{Sink, Stop};
 use mesh_radio::RouterView;
@@ -40,25 +40,6 @@ fn put_end<N: Network>(
     put_summary(text, scenario, net.routers(), net.counts(), gap)
 }
 
-// Writes the summary of a network at the end of its run.
-fn tell_summary<N: Network, O: Sink>(
-    net: &N,
-    scenario: &Scenario,
-    graph: &RadioGraph,
-    text: &mut Bytes,
-    out: &mut O,
-) -> Result<(), Stop>
-    requires { IsNetwork scenario.now graph.now (N.net net.now).routers scenario.now.end }
-    ensures leaves { PutsPieces (MakesOne (λ (u : Unit {0}). IsEndSummary scenario.now (N.net net.now)))
-        (O.content out.old) (O.content out.new) (O.faults out.old) (O.faults out.new) result }
-    ensures later { O.faults out.old ≤ O.faults out.new }
-{
-    match put_end(net, scenario, graph, text) {
-        Ok(()) => write_text(text.as_slice(), out),
-        Err(_) => Err(Stop::Memory),
-    }
-}
-
 /// Writes the summary of a network at the end of its run, and then the trip of the packet that is sent.
 pub fn tell_end<N: Network, O: Sink>(
     alloc: Global,
@@ -75,7 +56,8 @@ pub fn tell_end<N: Network, O: Sink>(
         (O.content out.old) (O.content out.new) (O.faults out.old) (O.faults out.new) result }
     ensures later { O.faults out.old ≤ O.faults out.new }
 {
-    match tell_summary(net, scenario, graph, text, out) {
+    let put = put_end(net, scenario, graph, text);
+    match write_put(put, text, out) {
         Ok(()) => tell_trip(alloc, net.routers(), scenario, send, out),
         Err(stop) => Err(stop),
     }

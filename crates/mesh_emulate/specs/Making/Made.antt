@@ -38,7 +38,7 @@ pub record MadeEmulation (k : Kind) (n seed : ℕ) : Type 0 where
   pub text : List ℕ
   pub is_text : IsMadeText k scenario run text
 
--- its text is the one piece
+-- the text of such an emulation, as one piece
 abbrev pub MadeMakes : Kind → ℕ → ℕ → List (List ℕ) → Option (Unit {0}) → Type 0
 MadeMakes k n seed pieces answer = MakesOne (λ (u : Unit {0}) text. (m : MadeEmulation k n seed) × (text ≡ m.text)) pieces answer
 

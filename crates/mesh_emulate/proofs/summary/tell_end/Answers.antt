@@ -1,9 +1,9 @@
-use Rattle.std.proofs.Common.{List, sym, subst}
+use Rattle.std.proofs.Common.{List, Ok, Err, sym, subst}
 use Rattle.mesh_atoms.specs.Settled.{AreStates}
 use Rattle.mesh_atoms.specs.State.{State}
 use Rattle.mesh_emulate.specs.Emulation.{IsEndSummary}
 use Rattle.mesh_emulate.specs.Parts.{MakesWanted, IsTripText}
-use Rattle.mesh_emulate.proofs.Putting.{both_put, both_stop, wanted_starts}
+use Rattle.mesh_emulate.proofs.Putting.{puts_made, both_put, both_stop, wanted_starts}
 use Rattle.mesh_io.specs.Pieces.{MakesOne, PutsPieces}
 use Rattle.mesh_emulate.proofs.summary.tell_end.Goals as goal
 
@@ -14,10 +14,12 @@ pub returns-in-Ok-clause-leaves : goal.returns-in-Ok-clause-leaves
 returns-in-Ok-clause-leaves g c =
     let s = c.args.scenario.now in
     let net = g.N.Network.net c.args.net.now in
-    let b = g.O.Sink.content c.tell_summary.new.out in
-    let k = g.O.Sink.faults c.tell_summary.new.out in
-    both_put (MakesOne (λ (u : Unit {0}). IsEndSummary s net)) (MakesWanted (IsTripText s net.routers) c.args.send) (g.O.Sink.content c.args.out.now) b (g.O.Sink.faults c.args.out.now) k
-    (g.O.Sink.content c.tell_trip.new.out) (g.O.Sink.faults c.tell_trip.new.out) c.tell_trip.result c.in-Ok.ensures.leaves c.tell_summary.ensures.later
+    let a = g.O.Sink.content c.args.out.now in
+    let f = g.O.Sink.faults c.args.out.now in
+    let b = g.O.Sink.content c.write_put.new.out in
+    let k = g.O.Sink.faults c.write_put.new.out in
+    both_put (MakesOne (λ (u : Unit {0}). IsEndSummary s net)) (MakesWanted (IsTripText s net.routers) c.args.send) a b f k (g.O.Sink.content c.tell_trip.new.out) (g.O.Sink.faults c.tell_trip.new.out) c.tell_trip.result
+    (puts_made (IsEndSummary s net) c.put_end-put.result c.put_end-put.new.text a b f k (Ok tt) c.put_end-put.ensures c.in-Ok.ensures.leaves) c.write_put.ensures.later
     (subst (λ (states : List State). PutsPieces (MakesWanted (IsTripText s states) c.args.send) b (g.O.Sink.content c.tell_trip.new.out) k (g.O.Sink.faults c.tell_trip.new.out) c.tell_trip.result)
     c.routers.ensures c.tell_trip.ensures.leaves)
 
@@ -25,6 +27,9 @@ pub returns-in-Err-clause-leaves : goal.returns-in-Err-clause-leaves
 returns-in-Err-clause-leaves g c =
     let s = c.args.scenario.now in
     let net = g.N.Network.net c.args.net.now in
-    both_stop (MakesOne (λ (u : Unit {0}). IsEndSummary s net)) (MakesWanted (IsTripText s net.routers) c.args.send)
-    (g.O.Sink.content c.args.out.now) (g.O.Sink.content c.tell_summary.new.out) (g.O.Sink.faults c.args.out.now) (g.O.Sink.faults c.tell_summary.new.out)
-    c.in-Err.stop (wanted_starts (IsTripText s net.routers) c.args.send) c.in-Err.ensures.leaves
+    let a = g.O.Sink.content c.args.out.now in
+    let f = g.O.Sink.faults c.args.out.now in
+    let b = g.O.Sink.content c.write_put.new.out in
+    let k = g.O.Sink.faults c.write_put.new.out in
+    both_stop (MakesOne (λ (u : Unit {0}). IsEndSummary s net)) (MakesWanted (IsTripText s net.routers) c.args.send) a b f k c.in-Err.stop (wanted_starts (IsTripText s net.routers) c.args.send)
+    (puts_made (IsEndSummary s net) c.put_end-put.result c.put_end-put.new.text a b f k (Err c.in-Err.stop) c.put_end-put.ensures c.in-Err.ensures.leaves)
