@@ -10,7 +10,6 @@ mod Parts
 mod PlainLines
 mod Preparing
 mod ProbeLines
-mod Probing
 mod Putting
 mod ToldProbes
 mod ToldRoutes

@@ -13,17 +13,6 @@ pub puts_as : (Makes Makes' : List (List ℕ) → Option (Unit {0}) → Type 0) 
 puts_as Makes Makes' a b f g (Ok u) turn (pieces, made, stands) = (pieces, turn pieces (Some u) made, stands)
 puts_as Makes Makes' a b f g (Err e) turn left = stops_in Makes Makes' (λ x. x) a b f g e refl left turn
 
--- the text that was put is such
-one_such : (IsText : List ℕ → Type 0) (text : List ℕ) → IsText text → (pieces : List (List ℕ)) (x : Option (Unit {0})) →
-    MakesOne (λ (u : Unit {0}) t. t ≡ text) pieces x → MakesOne (λ (u : Unit {0}). IsText) pieces x
-one_such IsText text is pieces (Some u) (t, same, whole) = (t, subst IsText (sym same) is, whole)
-one_such IsText text is pieces None none = none
-
-pub puts_such : (IsText : List ℕ → Type 0) (text : List ℕ) (a b : Option (List ℕ)) (f g : ℕ) (r : Result (Unit {0}) Stop) → IsText text →
-    PutsPieces (MakesOne (λ (u : Unit {0}) t. t ≡ text)) a b f g r → PutsPieces (MakesOne (λ (u : Unit {0}). IsText)) a b f g r
-puts_such IsText text a b f g r is left =
-    puts_as (MakesOne (λ (u : Unit {0}) t. t ≡ text)) (MakesOne (λ (u : Unit {0}). IsText)) a b f g r (one_such IsText text is) left
-
 -- the text that was put into a buffer is such
 one_made : {E : Type 0} (IsText : List ℕ → Type 0) (put : Result (Unit {0}) E) (text : List ℕ) → OnOk put (IsText text) → (pieces : List (List ℕ)) (x : Option (Unit {0})) →
     MakesOne (λ (u : Unit {0}) t. (put ≡ Ok tt) × (t ≡ text)) pieces x → MakesOne (λ (u : Unit {0}). IsText) pieces x

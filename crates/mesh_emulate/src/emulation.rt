@@ -73,7 +73,16 @@ fn probe_net<N: Network, O: Sink>(
     ensures later { O.faults out.old ≤ O.faults out.new }
 {
     let mut routers = net.into_routers();
-    tell_probe(alloc, routers.as_mut_slice(), scenario, graph, probe, out)
+    let mut text = Bytes::new(alloc);
+    tell_probe(
+        alloc,
+        routers.as_mut_slice(),
+        scenario,
+        graph,
+        probe,
+        &mut text,
+        out,
+    )
 }
 
 // Tells a run of a network, the trip, and then the probe.

@@ -1,32 +1,34 @@
 //! What is told of a probe of the network at the end of a run.
-ghost use Rattle.std.specs.Prelude.{◌≡◌, ◌≤◌, ◌<◌, length, map, IfOk, IfSome};
+ghost use Rattle.std.specs.Prelude.{◌≡◌, ◌≤◌, ◌<◌, length, map, OnOk, IfSome};
 ghost use Rattle.mesh_atoms.specs.Radio.{IsRadioGraph};
 ghost use Rattle.mesh_emulate.specs.Parts.{MakesWanted, IsProbedText};
 ghost use Rattle.mesh_io.specs.Pieces.{PutsPieces};
 ghost use Rattle.mesh_probe.specs.Probes.{AreRoutersAt};
 
-use crate::writing::write_text;
+use crate::writing::write_put;
 use mesh_atoms::{Bytes, RadioGraph, Scenario};
 use mesh_io::{Sink, Stop};
 use mesh_probe::{probe, probe_text};
 use mesh_radio::RouterCore;
 use std::alloc::{AllocError, Global};
 
-// The text of the probe by that router. After an allocation failure the routers may only be dropped.
-fn text_of_probe<R: RouterCore>(
+// Puts the probe by that router, in place of what was there. After an allocation failure the routers may only be dropped.
+fn put_probe<R: RouterCore>(
     alloc: Global,
     routers: &mut [R],
     scenario: &Scenario,
     graph: &RadioGraph,
     origin: usize,
-) -> Result<Bytes, AllocError>
+    text: &mut Bytes,
+) -> Result<(), AllocError>
     requires routers { AreRoutersAt scenario.now (map R.state routers.old) scenario.now.end }
     requires graph { IsRadioGraph scenario.now graph.now }
     requires origin { origin < length scenario.now.routers }
-    ensures { IfOk result (IsProbedText scenario.now (map R.state routers.old) origin) }
+    ensures { OnOk result (IsProbedText scenario.now (map R.state routers.old) origin text.new) }
 {
     let told = probe(alloc, routers, scenario, origin)?;
-    probe_text(alloc, scenario, graph, origin, &told)
+    *text = probe_text(alloc, scenario, graph, origin, &told)?;
+    Ok(())
 }
 
 /// Writes the probe of the network by the router that is wanted; nothing where none is.
@@ -36,6 +38,7 @@ pub fn tell_probe<R: RouterCore, O: Sink>(
     scenario: &Scenario,
     graph: &RadioGraph,
     probe: Option<usize>,
+    text: &mut Bytes,
     out: &mut O,
 ) -> Result<(), Stop>
     requires routers { AreRoutersAt scenario.now (map R.state routers.old) scenario.now.end }
@@ -47,9 +50,9 @@ pub fn tell_probe<R: RouterCore, O: Sink>(
 {
     match probe {
         None => Ok(()),
-        Some(origin) => match text_of_probe(alloc, routers, scenario, graph, origin) {
-            Ok(text) => write_text(text.as_slice(), out),
-            Err(_) => Err(Stop::Memory),
-        },
+        Some(origin) => {
+            let put = put_probe(alloc, routers, scenario, graph, origin, text);
+            write_put(put, text, out)
+        }
     }
 }

@@ -58,7 +58,7 @@ pub fn tell_end<N: Network, O: Sink>(
 {
     let put = put_end(net, scenario, graph, text);
     match write_put(put, text, out) {
-        Ok(()) => tell_trip(alloc, net.routers(), scenario, send, out),
+        Ok(()) => tell_trip(alloc, net.routers(), scenario, send, text, out),
         Err(stop) => Err(stop),
     }
 }
