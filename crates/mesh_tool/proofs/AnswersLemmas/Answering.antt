@@ -1,19 +1,20 @@
 -- What the program answers, from what was done and the line that was put on err.
-use Rattle.std.proofs.Common.{◌≡◌, ℕ, ◌+◌, ◌<◌, ◌≤◌, ◌⊎◌, inl, inr, List, [], length, Option, Some, None, Result, Ok, Err, Bool, refl, sym, subst, arith}
+use Rattle.std.proofs.Common.{◌≡◌, ℕ, zero, suc, ◌+◌, ◌<◌, ◌≤◌, ◌⊎◌, inl, inr, List, [], length, Option, Some, None, Result, Ok, Err, Bool, refl, sym, subst, arith}
 use Rattle.std.specs.Prelude.{IsErr, codes}
 use Rattle.mesh_atoms.specs.declared.addr.Addr4.{Addr4}
 use Rattle.mesh_atoms.proofs.Options.{none_not, same_ok}
 use Rattle.mesh_config.specs.RunSettings.{run_refusals, FirstRunRefusal}
-use Rattle.mesh_dump.specs.Dump.{IsDumpText}
-use Rattle.mesh_emulate.specs.Emulation.{Emulation, IsRefused}
+use Rattle.mesh_dump.specs.Dump.{DumpMakes}
+use Rattle.mesh_emulate.specs.Emulation.{EmulationMakes}
 use Rattle.mesh_emulate.proofs.Refusals.{emulated_not_refused}
 use Rattle.mesh_io.specs.Faults.{Rose}
-use Rattle.mesh_emulate.specs.Making.Made.{MadeEmulation}
+use Rattle.mesh_io.specs.Pieces.{MakesOne, PutsAll}
+use Rattle.mesh_emulate.specs.Making.Made.{MadeMakes}
 use Rattle.mesh_replay.specs.declared.answer.Replay.{Replay}
 use Rattle.mesh_replay.specs.declared.answer.Replay.TheVariants.{Yes, No}
-use Rattle.mesh_replay.specs.Command.Replays.{Replays, IsRefusedInput, answer_line}
+use Rattle.mesh_replay.specs.Command.Replays.{IsAnswerText}
 use Rattle.mesh_replay.proofs.CommandLemmas.Once.{answers_or_refuses}
-use Rattle.mesh_run.specs.Run.{StatesSetup, WholeRouterRun, SpendsTurns, FailsToAttach}
+use Rattle.mesh_run.specs.Run.{StatesSetup, SpendsTurns, FailsToAttach, RouterRunMakes}
 use Rattle.mesh_config.specs.Keys.Faults.{fault, first}
 use Rattle.mesh_tool.specs.declared.jobs.ending.Ending.{Ending}
 use Rattle.mesh_tool.specs.declared.jobs.ending.Ending.TheVariants as ending
@@ -21,7 +22,7 @@ use Rattle.mesh_tool.specs.declared.jobs.status.Status.{Status}
 use Rattle.mesh_tool.specs.declared.jobs.status.Status.TheVariants as status
 use Rattle.mesh_tool.specs.Answers.Answers.{FaultLine, Wrong_words, Read_fault, Refusal, Attach_fault, Turns_spent, Allocation_failure, Whole, All_well, Some_refused, Is_no_run, On_out, On_err, OutputStands, Is_whole, Is_told, Is_failed, Answers}
 use Rattle.mesh_tool.specs.Jobs.Calls.{SourceUse, SinkUse, Call, UsesNoAir, Asks, ReadsNothing, IsInput, IsInputTooLong, IsWorkedOn, PutsText, PutsNothing}
-use Rattle.mesh_tool.specs.Jobs.Commands.{Command, RunsSoFar, wants_in, command_in}
+use Rattle.mesh_tool.specs.Jobs.Commands.{Command, RunsSoFar, wants_in, listing_ending, replay_ending, command_in}
 use Rattle.mesh_tool.specs.Jobs.Endings.{StopsReading, Leaves, DoesJob, Unread, Worked, Does, No_command, Did, TellsLine, TellsEnding}
 use Rattle.mesh_tool.specs.Jobs.Lines.{words_line, read_line, refused_line, attach_line, turns_line, memory_line}
 use Rattle.mesh_tool.specs.Jobs.Works.{WorksOn, Refuses, Too_long, By_rule, TakesUpTo, TakesInput, Finishes, Before_reading, On_the_way}
@@ -45,11 +46,24 @@ told call line due answer cause (inl (same, stands)) = Is_told (record { line = 
 told call line due answer cause (inr (failed, rose, size, stands)) = Is_failed failed (On_err due line cause rose size stands)
 
 -- some lines tell a refusal: the job is `dump`
-whole_packets : (call : Call) (j : Job) (octets : List ℕ) (refused : ℕ) (text : List ℕ) → Asks call j → WorksOn j call octets → 0 < refused
-    → (command_in call j).is_text octets refused text → PutsText call.out text → Whole call status.Packets
-whole_packets call (job.Dump recode) octets refused text asks works some is stands =
-    Some_refused recode refused asks some (record { octets = octets; works_on = works; text = text; is_text = is; stands = stands })
-whole_packets call j octets refused text asks works some is stands = absurd (omega (arith, some, is.0))
+no_packets : (answer : Replay) → ending.Packets ≡ replay_ending answer → ⊥
+no_packets (Yes lines) e = cc
+no_packets (No line) e = cc
+
+whole_packets : (call : Call) (j : Job) → Asks call j → Finishes call j ending.Packets → Whole call status.Packets
+whole_packets call (job.Dump recode) asks fin = Some_refused recode asks fin
+whole_packets call job.Replay asks fin = let (pieces, (answer, made, ends), stands) = fin.puts in absurd (no_packets answer ends)
+whole_packets call j asks fin = let (pieces, (answer, made, ends), stands) = fin.puts in let bad : ⊥ = cc in absurd bad
+
+-- a trace is none of a run: the job is `replay`
+no_unfit : (refused : ℕ) → ending.NotARun ≡ listing_ending refused → ⊥
+no_unfit zero e = cc
+no_unfit (suc refused) e = cc
+
+whole_unfit : (call : Call) (j : Job) → Asks call j → Finishes call j ending.NotARun → Whole call status.NotARun
+whole_unfit call job.Replay asks fin = Is_no_run asks fin
+whole_unfit call (job.Dump recode) asks fin = let (pieces, (refused, made, ends), stands) = fin.puts in absurd (no_unfit refused ends)
+whole_unfit call j asks fin = let (pieces, (answer, made, ends), stands) = fin.puts in let bad : ⊥ = cc in absurd bad
 
 ends_unread : (call : Call) (j : Job) (most : ℕ) (how : Ending) (answer : Status) → Asks call j → (command_in call j).most ≡ Some most → StopsReading most call.input how → PutsNothing call.out
     → TellsEnding call.words call.err how answer → OutputStands call answer
@@ -73,26 +87,22 @@ spent call (job.Run turns) octets count greatest end answer asks works (same, sp
     (subst (λ (n : ℕ). FaultLine call status.Turns (turns_line n greatest end)) (sym same) (Turns_spent turns greatest end octets asks works (subst (λ (n : ℕ). SpendsTurns octets n greatest end call.air.told) same spends) keeps)) tells
 spent call j octets count greatest end answer asks works is keeps tells = absurd is
 
--- a trace is none of a run: the job is `replay`
-whole_unfit : (call : Call) (j : Job) (octets text : List ℕ) → Asks call j → WorksOn j call octets → (command_in call j).is_unfit octets text → PutsText call.out text → Whole call status.NotARun
-whole_unfit call job.Replay octets text asks works (line, is, says) stands = Is_no_run octets line asks works is (rw (← says) stands)
-whole_unfit call j octets text asks works is stands = absurd is
-
 ends_worked : (call : Call) (j : Job) (octets : List ℕ) (how : Ending) (answer : Status) → Asks call j → WorksOn j call octets
     → Leaves (command_in call j) octets call.out how → TellsEnding call.words call.err how answer → OutputStands call answer
-ends_worked call j octets ending.Done answer asks works (text, is, stands) (same, quiet) =
-    Is_whole (rw same (All_well j asks (record { octets = octets; works_on = works; text = text; is_text = is; stands = stands }))) quiet
-ends_worked call j octets ending.Packets answer asks works (refused, some, text, is, stands) (same, quiet) =
-    Is_whole (rw same (whole_packets call j octets refused text asks works some is stands)) quiet
-ends_worked call j octets ending.NotARun answer asks works (text, is, stands) (same, quiet) = Is_whole (rw same (whole_unfit call j octets text asks works is stands)) quiet
+ends_worked call j octets ending.Done answer asks works puts (same, quiet) =
+    Is_whole (rw same (All_well j asks (record { octets = octets; works_on = works; puts = puts }))) quiet
+ends_worked call j octets ending.Packets answer asks works puts (same, quiet) =
+    Is_whole (rw same (whole_packets call j asks (record { octets = octets; works_on = works; puts = puts }))) quiet
+ends_worked call j octets ending.NotARun answer asks works puts (same, quiet) =
+    Is_whole (rw same (whole_unfit call j asks (record { octets = octets; works_on = works; puts = puts }))) quiet
 ends_worked call j octets (ending.Refused number key) answer asks works (refuses, keeps) tells =
     told call (refused_line number key) status.Refused answer (Refusal number key j asks (By_rule octets works refuses) keeps) tells
 ends_worked call j octets (ending.Attach interface) answer asks works (is, keeps) tells = unattached call j octets interface answer asks works is keeps tells
 ends_worked call j octets (ending.Turns turns moment end) answer asks works (is, keeps) tells = spent call j octets turns moment end answer asks works is keeps tells
-ends_worked call j octets ending.Write answer asks works (rose, text, is, size, stands) (same, quiet) =
-    Is_failed same (On_out j asks (record { octets = octets; works_on = works; text = text; is_text = is; size = size; stands = stands }) rose quiet)
-ends_worked call j octets ending.Memory answer asks works (text, is, stands) tells =
-    told call memory_line status.Memory answer (Allocation_failure j asks (On_the_way octets text works is stands)) tells
+ends_worked call j octets ending.Write answer asks works puts (same, quiet) =
+    Is_failed same (On_out j asks (record { octets = octets; works_on = works; puts = puts }) quiet)
+ends_worked call j octets ending.Memory answer asks works puts tells =
+    told call memory_line status.Memory answer (Allocation_failure j asks (On_the_way octets works puts)) tells
 ends_worked call j octets other answer asks works leaves tells = absurd leaves
 
 ends : (call : Call) (how : Ending) (answer : Status) → Does call how → TellsEnding call.words call.err how answer → OutputStands call answer
@@ -101,72 +111,97 @@ ends call how answer (No_command is err reads keeps air) tells =
 ends call how answer (Did j asks (Unread most is stops keeps air)) tells = ends_unread call j most how answer asks is stops keeps tells
 ends call how answer (Did j asks (Worked octets works did)) tells = ends_worked call j octets how answer asks works did.0 tells
 
--- ---- what a job that is done left
+-- ---- what a job left whose output is whole
 
-no_done : {call : Call} {answer : Status} {line : List ℕ} → FaultLine call answer line → answer ≡ status.Done → ⊥
-no_done (Wrong_words err reads keeps) same = cc
-no_done (Read_fault j asks rose keeps) same = cc
-no_done (Refusal number key j asks refuses keeps) same = cc
-no_done (Attach_fault turns interface octets asks works fails rose keeps) same = cc
-no_done (Turns_spent turns greatest end octets asks works spends keeps) same = cc
-no_done (Allocation_failure j asks stops) same = cc
+-- a status of which a fault's line is told
+abbrev IsFault : Status → Type 0
+IsFault status.Done = ⊥
+IsFault status.NotARun = ⊥
+IsFault other = Unit {0}
 
-whole_finishes : (call : Call) {answer : Status} (j : Job) → Whole call answer → answer ≡ status.Done → Asks call j → Finishes call j 0
-whole_finishes call j (All_well i asked fin) same asks = subst (λ (k : Job). Finishes call k 0) (same_ok {r = words_of call.words} {a = i} {b = j} asked asks) fin
-whole_finishes call j (Some_refused recode refused asked some fin) same asks = let bad : ⊥ = cc in absurd bad
-whole_finishes call j (Is_no_run octets line asked works is stands) same asks = let bad : ⊥ = cc in absurd bad
+fault_told : {call : Call} {answer : Status} {line : List ℕ} → FaultLine call answer line → IsFault answer
+fault_told (Wrong_words err reads keeps) = tt
+fault_told (Read_fault j asks rose keeps) = tt
+fault_told (Refusal number key j asks refuses keeps) = tt
+fault_told (Attach_fault turns interface octets asks works fails rose keeps) = tt
+fault_told (Turns_spent turns greatest end octets asks works spends keeps) = tt
+fault_told (Allocation_failure j asks stops) = tt
 
-finishes : (call : Call) (answer : Status) (j : Job) → OutputStands call answer → answer ≡ status.Done → Asks call j → Finishes call j 0
-finishes call answer j (Is_whole whole quiet) same asks = whole_finishes call j whole same asks
-finishes call answer j (Is_told t) same asks = absurd (no_done t.due same)
+-- the job, and how it ended
+whole_finishes : {call : Call} {answer : Status} → Whole call answer → (j : Job) × (how : Ending) × Asks call j × Finishes call j how
+whole_finishes (All_well j asks fin) = (j, ending.Done, asks, fin)
+whole_finishes (Some_refused recode asks fin) = (job.Dump recode, ending.Packets, asks, fin)
+whole_finishes (Is_no_run asks fin) = (job.Replay, ending.NotARun, asks, fin)
+
+whole_done : (call : Call) {answer : Status} (j : Job) → Whole call answer → answer ≡ status.Done → Asks call j → Finishes call j ending.Done
+whole_done call j (All_well i asked fin) same asks = subst (λ (k : Job). Finishes call k ending.Done) (same_ok {r = words_of call.words} {a = i} {b = j} asked asks) fin
+whole_done call j (Some_refused recode asked fin) same asks = let bad : ⊥ = cc in absurd bad
+whole_done call j (Is_no_run asked fin) same asks = let bad : ⊥ = cc in absurd bad
+
+finishes : (call : Call) (answer : Status) (j : Job) → OutputStands call answer → answer ≡ status.Done → Asks call j → Finishes call j ending.Done
+finishes call answer j (Is_whole whole quiet) same asks = whole_done call j whole same asks
+finishes call answer j (Is_told t) same asks = absurd (subst IsFault same (fault_told t.due))
 finishes call answer j (Is_failed failed f) same asks = let bad : ⊥ = cc in absurd bad
 
-dumped : (call : Call) (recode : Bool) → Finishes call (job.Dump recode) 0
-    → (octets : List ℕ) × IsInput 67108864 call.input octets × (text : List ℕ) × IsDumpText octets recode 0 text × PutsText call.out text
-dumped call recode fin = (fin.octets, fin.works_on, fin.text, fin.is_text, fin.stands)
+none_refused : (refused : ℕ) → ending.Done ≡ listing_ending refused → refused ≡ 0
+none_refused zero e = refl
+none_refused (suc refused) e = let bad : ⊥ = cc in absurd bad
 
-ran : (call : Call) (turns : ℕ) → Finishes call (job.Run turns) 0
-    → (octets : List ℕ) × IsInput 1048576 call.input octets × (r : WholeRouterRun octets turns call.air.told) × PutsText call.out r.text
-ran call turns fin = (fin.octets, fin.works_on, fin.is_text.1, rw (← fin.is_text.2) fin.stands)
+dumped : (call : Call) (recode : Bool) → Finishes call (job.Dump recode) ending.Done
+    → (octets : List ℕ) × IsInput 67108864 call.input octets × PutsAll (DumpMakes octets recode) call.out.content call.out.content' 0
+dumped call recode fin =
+    let (pieces, (refused, made, ends), stands) = fin.puts in
+    (fin.octets, fin.works_on, (pieces, subst (λ (n : ℕ). DumpMakes fin.octets recode pieces (Some n)) (none_refused refused ends) made, stands))
 
-emulated : (call : Call) (trace : Bool) (send : Option (ℕ × Addr4)) (probe : Option ℕ) → Finishes call (job.Emulate trace send probe) 0
-    → (octets : List ℕ) × IsInput 1048576 call.input octets × (e : Emulation octets (wants_in call.words trace send probe)) × PutsText call.out e.text
-emulated call trace send probe fin = (fin.octets, fin.works_on, fin.is_text.1, rw (← fin.is_text.2) fin.stands)
+ran : (call : Call) (turns : ℕ) → Finishes call (job.Run turns) ending.Done
+    → (octets : List ℕ) × IsInput 1048576 call.input octets × PutsAll (RouterRunMakes octets turns call.air.told) call.out.content call.out.content' tt
+ran call turns fin = let (pieces, (u, made, ends), stands) = fin.puts in (fin.octets, fin.works_on, (pieces, made, stands))
 
-made : (call : Call) (kind : Kind) (routers seed : ℕ) → Finishes call (job.Make kind routers seed) 0
-    → (m : MadeEmulation kind routers seed) × PutsText call.out m.text × ReadsNothing call.input
-made call kind routers seed fin = (fin.is_text.1, rw (← fin.is_text.2) fin.stands, fin.works_on.1)
+emulated : (call : Call) (trace : Bool) (send : Option (ℕ × Addr4)) (probe : Option ℕ) → Finishes call (job.Emulate trace send probe) ending.Done
+    → (octets : List ℕ) × IsInput 1048576 call.input octets × PutsAll (EmulationMakes octets (wants_in call.words trace send probe)) call.out.content call.out.content' tt
+emulated call trace send probe fin = let (pieces, (u, made, ends), stands) = fin.puts in (fin.octets, fin.works_on, (pieces, made, stands))
 
-replayed : (call : Call) → Finishes call job.Replay 0
-    → (octets : List ℕ) × IsInput 67108864 call.input octets × (lines : ℕ) × Replays octets (Yes lines) × PutsText call.out (answer_line (Yes lines))
-replayed call fin = (fin.octets, fin.works_on, fin.is_text.1, fin.is_text.2, rw (← fin.is_text.3) fin.stands)
+made : (call : Call) (kind : Kind) (routers seed : ℕ) → Finishes call (job.Make kind routers seed) ending.Done
+    → PutsAll (MadeMakes kind routers seed) call.out.content call.out.content' tt × ReadsNothing call.input
+made call kind routers seed fin = let (pieces, (u, made, ends), stands) = fin.puts in ((pieces, made, stands), fin.works_on.1)
+
+-- the line of `replay` that was put
+abbrev LinePut : Call → List ℕ → Replay → Type 0
+LinePut call octets answer = PutsAll (MakesOne (IsAnswerText octets)) call.out.content call.out.content' answer
+
+is_yes : (call : Call) (octets : List ℕ) (answer : Replay) → ending.Done ≡ replay_ending answer → LinePut call octets answer → (lines : ℕ) × LinePut call octets (Yes lines)
+is_yes call octets (Yes lines) ends puts = (lines, puts)
+is_yes call octets (No line) ends puts = let bad : ⊥ = cc in absurd bad
+
+is_no : (call : Call) (octets : List ℕ) (answer : Replay) → ending.NotARun ≡ replay_ending answer → LinePut call octets answer → (line : ℕ) × LinePut call octets (No line)
+is_no call octets (Yes lines) ends puts = let bad : ⊥ = cc in absurd bad
+is_no call octets (No line) ends puts = (line, puts)
+
+replayed : (call : Call) → Finishes call job.Replay ending.Done → (octets : List ℕ) × IsInput 67108864 call.input octets × (lines : ℕ) × LinePut call octets (Yes lines)
+replayed call fin =
+    let (pieces, (answer, made, ends), stands) = fin.puts in
+    let (lines, puts) = is_yes call fin.octets answer ends (pieces, made, stands) in (fin.octets, fin.works_on, lines, puts)
 
 -- ---- what `replay` left where it isn't done
 
-unfit_is : {call : Call} {answer : Status} → Whole call answer → answer ≡ status.NotARun → Asks call job.Replay
-    × (octets : List ℕ) × IsInput 67108864 call.input octets × (line : ℕ) × Replays octets (No line) × PutsText call.out (answer_line (No line))
-unfit_is (All_well j asks fin) same = let bad : ⊥ = cc in absurd bad
-unfit_is (Some_refused recode refused asks some fin) same = let bad : ⊥ = cc in absurd bad
-unfit_is (Is_no_run octets line asks works is stands) same = (asks, octets, works, line, is, stands)
-
-no_unfit : {call : Call} {answer : Status} {line : List ℕ} → FaultLine call answer line → answer ≡ status.NotARun → ⊥
-no_unfit (Wrong_words err reads keeps) same = cc
-no_unfit (Read_fault j asks rose keeps) same = cc
-no_unfit (Refusal number key j asks refuses keeps) same = cc
-no_unfit (Attach_fault turns interface octets asks works fails rose keeps) same = cc
-no_unfit (Turns_spent turns greatest end octets asks works spends keeps) same = cc
-no_unfit (Allocation_failure j asks stops) same = cc
+whole_no_run : {call : Call} {answer : Status} → Whole call answer → answer ≡ status.NotARun → Asks call job.Replay × Finishes call job.Replay ending.NotARun
+whole_no_run (All_well j asks fin) same = let bad : ⊥ = cc in absurd bad
+whole_no_run (Some_refused recode asks fin) same = let bad : ⊥ = cc in absurd bad
+whole_no_run (Is_no_run asks fin) same = (asks, fin)
 
 not_a_run : (call : Call) (answer : Status) → OutputStands call answer → answer ≡ status.NotARun → Asks call job.Replay
-    × (octets : List ℕ) × IsInput 67108864 call.input octets × (line : ℕ) × Replays octets (No line) × PutsText call.out (answer_line (No line)) × PutsText call.err []
-not_a_run call answer (Is_whole whole quiet) same = let (asks, octets, works, line, is, stands) = unfit_is whole same in (asks, octets, works, line, is, stands, quiet)
-not_a_run call answer (Is_told t) same = absurd (no_unfit t.due same)
+    × (octets : List ℕ) × IsInput 67108864 call.input octets × (line : ℕ) × LinePut call octets (No line) × PutsText call.err []
+not_a_run call answer (Is_whole whole quiet) same =
+    let (asks, fin) = whole_no_run whole same in
+    let (pieces, (answered, made, ends), stands) = fin.puts in
+    let (line, puts) = is_no call fin.octets answered ends (pieces, made, stands) in (asks, fin.octets, fin.works_on, line, puts, quiet)
+not_a_run call answer (Is_told t) same = absurd (subst IsFault same (fault_told t.due))
 not_a_run call answer (Is_failed failed f) same = let bad : ⊥ = cc in absurd bad
 
 no_refusal : {call : Call} {answer : Status} → Whole call answer → answer ≡ status.Refused → ⊥
 no_refusal (All_well j asks fin) same = cc
-no_refusal (Some_refused recode refused asks some fin) same = cc
-no_refusal (Is_no_run octets line asks works is stands) same = cc
+no_refusal (Some_refused recode asks fin) same = cc
+no_refusal (Is_no_run asks fin) same = cc
 
 -- a refusal of `replay`, whose line stands on err
 abbrev pub Unreplayed : Call → Type 0
@@ -188,11 +223,6 @@ not_replayed call answer (Is_failed failed f) same asks = let bad : ⊥ = cc in 
 
 -- ---- words that are no command line
 
-whole_asks : {call : Call} {answer : Status} → Whole call answer → (j : Job) × Asks call j
-whole_asks (All_well j asks fin) = (j, asks)
-whole_asks (Some_refused recode refused asks some fin) = (job.Dump recode, asks)
-whole_asks (Is_no_run octets line asks works is stands) = (job.Replay, asks)
-
 wrong_words : {call : Call} {answer : Status} {line : List ℕ} → FaultLine call answer line → IsErr (words_of call.words) → (answer ≡ status.Words) × ReadsNothing call.input
 wrong_words (Wrong_words err reads keeps) wrong = (refl, reads)
 wrong_words {call} (Read_fault j asks rose keeps) wrong = absurd (none_asked (words_of call.words) j wrong asks)
@@ -202,9 +232,9 @@ wrong_words {call} (Turns_spent turns greatest end octets asks works spends keep
 wrong_words {call} (Allocation_failure j asks stops) wrong = absurd (none_asked (words_of call.words) j wrong asks)
 
 no_command : (call : Call) (answer : Status) → OutputStands call answer → IsErr (words_of call.words) → ((answer ≡ status.Words) ⊎ (answer ≡ status.Write)) × ReadsNothing call.input
-no_command call answer (Is_whole whole quiet) wrong = let asked = whole_asks whole in absurd (none_asked (words_of call.words) asked.0 wrong asked.1)
+no_command call answer (Is_whole whole quiet) wrong = let (j, how, asks, fin) = whole_finishes whole in absurd (none_asked (words_of call.words) j wrong asks)
 no_command call answer (Is_told t) wrong = let w = wrong_words t.due wrong in (inl w.0, w.1)
-no_command call answer (Is_failed failed (On_out j asks front rose quiet)) wrong = absurd (none_asked (words_of call.words) j wrong asks)
+no_command call answer (Is_failed failed (On_out j asks front quiet)) wrong = absurd (none_asked (words_of call.words) j wrong asks)
 no_command call answer (Is_failed failed (On_err due line cause rose size stands)) wrong = (inr failed, (wrong_words cause wrong).1)
 
 -- ---- what a job reads
@@ -255,11 +285,6 @@ long_works : (call : Call) (j : Job) (most : ℕ) (all : List ℕ) → Asks call
 long_works call j most all asks limit is long i octets asked works =
     works_short (command_in call j).most most call.input octets all limit (subst (λ (k : Job). WorksOn k call octets) (same_ok {r = words_of call.words} {a = i} {b = j} asked asks) works) is long
 
-whole_not_long : {call : Call} {answer : Status} → Whole call answer → ((i : Job) (octets : List ℕ) → Asks call i → WorksOn i call octets → ⊥) → ⊥
-whole_not_long (All_well i asked fin) none = none i fin.octets asked fin.works_on
-whole_not_long (Some_refused recode refused asked some fin) none = none (job.Dump recode) fin.octets asked fin.works_on
-whole_not_long (Is_no_run octets line asked works is stands) none = none job.Replay octets asked works
-
 long_due : {call : Call} {answer : Status} {line : List ℕ} (j : Job) → FaultLine call answer line → Asks call j →
     ((i : Job) (octets : List ℕ) → Asks call i → WorksOn i call octets → ⊥) → (Rose call.input.faults call.input.faults' → ⊥)
     → (answer ≡ status.Refused) ⊎ ((answer ≡ status.Write) ⊎ (answer ≡ status.Memory))
@@ -272,35 +297,31 @@ long_due j (Allocation_failure i asked stops) asks none calm = inr (inr refl)
 
 too_long : (call : Call) (answer : Status) → OutputStands call answer → (j : Job) (most : ℕ) (all : List ℕ) → Asks call j → (command_in call j).most ≡ Some most → call.input.left ≡ Some all → most < length all
     → (Rose call.input.faults call.input.faults' → ⊥) → (answer ≡ status.Refused) ⊎ ((answer ≡ status.Write) ⊎ (answer ≡ status.Memory))
-too_long call answer (Is_whole whole quiet) j most all asks limit is long calm = absurd (whole_not_long whole (long_works call j most all asks limit is long))
+too_long call answer (Is_whole whole quiet) j most all asks limit is long calm =
+    let (i, how, asked, fin) = whole_finishes whole in absurd (long_works call j most all asks limit is long i fin.octets asked fin.works_on)
 too_long call answer (Is_told t) j most all asks limit is long calm = long_due j t.due asks (long_works call j most all asks limit is long) calm
 too_long call answer (Is_failed failed f) j most all asks limit is long calm = inr (inl failed)
 
--- an input that is answered isn't refused
-answered_not_refused : (call : Call) (octets all : List ℕ) (answer : Replay) (number : ℕ) (key : List ℕ) → IsInput 67108864 call.input octets → Replays octets answer → call.input.left ≡ Some all →
-    IsRefusedInput all number key → ⊥
-answered_not_refused call octets all answer number key works replays is refuses =
-    answers_or_refuses octets answer number key replays (subst (λ (o : List ℕ). IsRefusedInput o number key) (sym (whole_input all is works)) refuses)
+-- octets of which a job makes all its output aren't refused
+made_not_refused : (call : Call) (j : Job) (octets : List ℕ) (pieces : List (List ℕ)) (how : Ending) (number : ℕ) (key : List ℕ) → (command_in call j).makes octets pieces (Some how)
+    → (command_in call j).refuses octets number key → ⊥
+made_not_refused call (job.Run turns) octets pieces how number key (u, (r, is), ends) refuses = clear_not_refused octets octets number key refl r.stated.clear refuses
+made_not_refused call (job.Emulate trace send probe) octets pieces how number key (u, (e, are), ends) refuses = emulated_not_refused octets (wants_in call.words trace send probe) e number key refuses
+made_not_refused call job.Replay octets pieces how number key (answer, (text, (replays, line), one), ends) refuses = answers_or_refuses octets answer number key replays refuses
+made_not_refused call j octets pieces how number key made refuses = refuses
 
--- one text isn't both done and refused
-not_refused : (call : Call) (j : Job) (refused : ℕ) (all : List ℕ) (number : ℕ) (key : List ℕ) → Finishes call j refused → call.input.left ≡ Some all → (command_in call j).refuses all number key → ⊥
-not_refused call (job.Run turns) refused all number key fin is refuses =
-    clear_not_refused fin.octets all number key (whole_input all is fin.works_on) fin.is_text.1.stated.clear refuses
-not_refused call (job.Emulate trace send probe) refused all number key fin is refuses =
-    emulated_not_refused fin.octets (wants_in call.words trace send probe) fin.is_text.1 number key
-    (subst (λ (o : List ℕ). IsRefused o (wants_in call.words trace send probe) number key) (sym (whole_input all is fin.works_on)) refuses)
-not_refused call job.Replay refused all number key fin is refuses =
-    answered_not_refused call fin.octets all (Yes fin.is_text.1) number key fin.works_on fin.is_text.2 is refuses
-not_refused call j refused all number key fin is refuses = refuses
+-- a job refuses what it reads
+refused_read : (call : Call) (j : Job) (octets all : List ℕ) (number : ℕ) (key : List ℕ) → WorksOn j call octets → call.input.left ≡ Some all → (command_in call j).refuses all number key
+    → (command_in call j).refuses octets number key
+refused_read call (job.Make kind routers seed) octets all number key works is refuses = absurd refuses
+refused_read call j octets all number key works is refuses = subst (λ (o : List ℕ). (command_in call j).refuses o number key) (sym (whole_input all is works)) refuses
 
 whole_not_refused : {call : Call} {answer : Status} (j : Job) (all : List ℕ) (number : ℕ) (key : List ℕ) → Whole call answer → Asks call j → call.input.left ≡ Some all → (command_in call j).refuses all number key → ⊥
-whole_not_refused {call} j all number key (All_well i asked fin) asks is refuses =
-    not_refused call j 0 all number key (subst (λ (k : Job). Finishes call k 0) (same_ok {r = words_of call.words} {a = i} {b = j} asked asks) fin) is refuses
-whole_not_refused {call} j all number key (Some_refused recode refused asked some fin) asks is refuses =
-    not_refused call j refused all number key (subst (λ (k : Job). Finishes call k refused) (same_ok {r = words_of call.words} {a = job.Dump recode} {b = j} asked asks) fin) is refuses
-whole_not_refused {call} j all number key (Is_no_run octets line asked works replays stands) asks is refuses =
-    answered_not_refused call octets all (No line) number key works replays is
-    (subst (λ (k : Job). (command_in call k).refuses all number key) (same_ok {r = words_of call.words} {a = j} {b = job.Replay} asks asked) refuses)
+whole_not_refused {call} j all number key whole asks is refuses =
+    let (i, how, asked, fin) = whole_finishes whole in
+    let (pieces, made, stands) = fin.puts in
+    made_not_refused call i fin.octets pieces how number key made
+    (refused_read call i fin.octets all number key fin.works_on is (subst (λ (k : Job). (command_in call k).refuses all number key) (same_ok {r = words_of call.words} {a = j} {b = i} asks asked) refuses))
 
 -- nor are the octets of a router that is run
 run_not_refused : (call : Call) (turns : ℕ) (j : Job) (octets all : List ℕ) (number : ℕ) (key : List ℕ) → Asks call (job.Run turns) → Asks call j → IsInput 1048576 call.input octets → call.input.left ≡ Some all →
@@ -368,8 +389,8 @@ IsThrough j answer = (answer ≡ status.Done) ⊎ ((answer ≡ status.Packets) �
 
 whole_status : {call : Call} {answer : Status} (j : Job) → Asks call j → Whole call answer → IsThrough j answer
 whole_status j asks (All_well i asked fin) = inl refl
-whole_status j asks (Some_refused recode refused asked some fin) = inr (inl refl)
-whole_status {call} j asks (Is_no_run octets line asked works is stands) = inr (inr (inr (inl (refl, same_ok {r = words_of call.words} {a = j} {b = job.Replay} asks asked))))
+whole_status j asks (Some_refused recode asked fin) = inr (inl refl)
+whole_status {call} j asks (Is_no_run asked fin) = inr (inr (inr (inl (refl, same_ok {r = words_of call.words} {a = j} {b = job.Replay} asks asked))))
 
 due_status : (j : Job) (answer : Status) → (answer ≡ status.Turns) ⊎ (answer ≡ status.Memory) → IsThrough j answer
 due_status j answer (inl turns) = inr (inr (inl turns))
@@ -380,7 +401,7 @@ complete : (call : Call) (answer : Status) → OutputStands call answer → (j :
     → IsThrough j answer
 complete call answer (Is_whole whole quiet) j asks input takes calm out err = whole_status j asks whole
 complete call answer (Is_told t) j asks input takes calm out err = due_status j answer (memory_due j t.due asks input takes calm)
-complete call answer (Is_failed failed (On_out i asked front rose quiet)) j asks input takes calm out err = absurd (out rose)
+complete call answer (Is_failed failed (On_out i asked front quiet)) j asks input takes calm out err = absurd (out front.puts.0)
 complete call answer (Is_failed failed (On_err due line cause rose size stands)) j asks input takes calm out err = absurd (err rose)
 
 -- ---- what clock and air tell

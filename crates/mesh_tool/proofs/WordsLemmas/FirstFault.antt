@@ -35,11 +35,8 @@ kind_missing None routers seed place =
 
 completes : (asked : Parsing) (place : ℕ) → Completes asked place
 completes asked.Nothing place = (codes "dump" ∷ [], refl)
-completes (asked.Dump recode) place = ([], refl)
-completes (asked.Run (Some turns)) place = ([], refl)
 completes (asked.Run None) place = (codes "--turns" ∷ codes "1" ∷ [], refl)
 completes asked.Turns place = (codes "1" ∷ [], refl)
-completes (asked.Emulate o) place = ([], refl)
 completes (asked.EmulateAwaits o emulates.From) place = (codes "a" ∷ codes "1.1.1.1" ∷ [], refl)
 completes (asked.EmulateAwaits o (emulates.Dest from)) place = (codes "1.1.1.1" ∷ [], refl)
 completes (asked.EmulateAwaits o emulates.Name) place = (codes "a" ∷ [], refl)
@@ -50,7 +47,7 @@ completes (asked.MakeAwaits o value.Routers) place =
     let rest = kind_missing o.kind (Some 2) o.seed (place + 1) in (codes "2" ∷ rest.0, rest.1)
 completes (asked.MakeAwaits o value.Seed) place =
     let rest = kind_missing o.kind o.routers (Some 0) (place + 1) in (codes "0" ∷ rest.0, rest.1)
-completes asked.Replay place = ([], refl)
+completes asked place = ([], refl)
 
 -- ---- where reading stops
 

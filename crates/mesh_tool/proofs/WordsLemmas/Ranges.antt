@@ -40,14 +40,12 @@ number_in_range : (least most : ℕ) (word : List ℕ) (n : ℕ) → number_from
 number_in_range least most word n h = from_within least most (number_of most word) n (λ m k. number_within most word m k) h
 
 in_range : (words : List (List ℕ)) (j : Job) → AskFor words j → IsJobInRange j
-in_range words (job.Dump recode) asks = tt
 in_range words (job.Run turns) asks = (number_in_range 1 4294967295 asks.are.0 turns asks.are.1).0
-in_range words (job.Emulate trace send probe) asks = tt
 in_range words (job.Make kind routers seed) asks =
     let n = number_in_range 2 64 asks.are.1 routers asks.are.4 in
     let s = number_in_range 0 4294967295 asks.are.2 seed asks.are.5 in
     (record { at_least = n.0; at_most = n.1 }, s.1)
-in_range words job.Replay asks = tt
+in_range words j asks = tt
 
 pub read_in_range : (words : List (List ℕ)) (r : Result Job ℕ) → r ≡ words_of words → IfOk r IsJobInRange
 read_in_range words (Ok j) h = in_range words j (read_is_asked words j (sym h))

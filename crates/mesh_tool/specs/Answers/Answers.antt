@@ -2,13 +2,15 @@
 use Rattle.std.specs.Prelude.{◌≡◌, ◌⊎◌, ℕ, ◌+◌, ◌<◌, ◌≤◌, List, [], length, take, Bool, Option, Some, IsErr}
 use Rattle.mesh_config.specs.declared.keys.parse.TheConstants.{LONGEST_SETTINGS}
 use Rattle.mesh_atoms.specs.declared.addr.Addr4.{Addr4}
-use Rattle.mesh_dump.specs.Dump.{IsDumpText}
-use Rattle.mesh_emulate.specs.Emulation.{Emulation}
+use Rattle.mesh_dump.specs.Dump.{DumpMakes}
+use Rattle.mesh_emulate.specs.Emulation.{EmulationMakes}
 use Rattle.mesh_io.specs.Faults.{Rose, RoseByOne}
-use Rattle.mesh_emulate.specs.Making.Made.{MadeEmulation}
+use Rattle.mesh_io.specs.Pieces.{MakesOne, PutsAll}
+use Rattle.mesh_emulate.specs.Making.Made.{MadeMakes}
 use Rattle.mesh_replay.specs.declared.answer.Replay.TheVariants.{Yes, No}
-use Rattle.mesh_replay.specs.Command.Replays.{Replays, answer_line}
-use Rattle.mesh_run.specs.Run.{WholeRouterRun, SpendsTurns, FailsToAttach}
+use Rattle.mesh_replay.specs.Command.Replays.{IsAnswerText}
+use Rattle.mesh_run.specs.Run.{SpendsTurns, FailsToAttach, RouterRunMakes}
+use Rattle.mesh_tool.specs.declared.jobs.ending.Ending.TheVariants as ending
 use Rattle.mesh_tool.specs.declared.jobs.status.Status.{Status}
 use Rattle.mesh_tool.specs.declared.jobs.status.Status.TheVariants as status
 use Rattle.mesh_tool.specs.Jobs.Calls.{Call, UsesNoAir, Asks, ReadsNothing, IsInput, PutsText, PutsNothing}
@@ -35,19 +37,16 @@ pub data FaultLine (call : Call) : Status → List ℕ → Type 0 where
       SpendsTurns octets turns greatest end call.air.told → PutsNothing call.out → FaultLine call status.Turns (turns_line turns greatest end)
   Allocation_failure : (job : Job) → Asks call job → StopsShort call job → FaultLine call status.Memory memory_line
 
--- the whole text stands on out, of which no line or some line tells a refusal, or which says that a trace is none of a run
+-- all pieces of a job's output stand on out, and no line or some line of it tells a refusal, or it says that a trace is none of a run
 pub data Whole (call : Call) : Status → Type 0 where
-  All_well : (job : Job) → Asks call job → Finishes call job 0 → Whole call status.Done
-  Some_refused : (recode : Bool) (refused : ℕ) → Asks call (Dump recode) → 0 < refused → Finishes call (Dump recode) refused →
-      Whole call status.Packets
-  Is_no_run : (octets : List ℕ) (line : ℕ) → Asks call Replay → IsInput LONGEST_INPUT call.input octets → Replays octets (No line) →
-      PutsText call.out (answer_line (No line)) → Whole call status.NotARun
+  All_well : (job : Job) → Asks call job → Finishes call job ending.Done → Whole call status.Done
+  Some_refused : (recode : Bool) → Asks call (Dump recode) → Finishes call (Dump recode) ending.Packets → Whole call status.Packets
+  Is_no_run : Asks call Replay → Finishes call Replay ending.NotARun → Whole call status.NotARun
 
--- a write failed: on out, where a front of a text of the job then stands, and nothing on err; or on err, where a front of the line of
--- the fault that was due then stands
+-- a write failed: on out, where some first pieces of a job's output and a prefix of the next one then stand, and nothing on err; or on
+-- err, where a prefix of the line of the fault that was due then stands
 pub data FailsWriting (call : Call) : Type 0 where
-  On_out : (job : Job) → Asks call job → LeavesFront call job → Rose call.out.faults call.out.faults' → PutsText call.err [] →
-      FailsWriting call
+  On_out : (job : Job) → Asks call job → LeavesFront call job → PutsText call.err [] → FailsWriting call
   On_err : (due : Status) (line : List ℕ) → FaultLine call due line → Rose call.err.faults call.err.faults' → (size : ℕ) →
       PutsText call.err (take size line) → FailsWriting call
 
@@ -69,10 +68,11 @@ pub record Answers (call : Call) (answer : Status) : Type 0 where
   pub ends : OutputStands call answer
   -- 0 to `dump`: the listing of the whole input stands on out, and none of its lines is refused
   pub dumped : (recode : Bool) → answer ≡ status.Done → Asks call (Dump recode) →
-      (octets : List ℕ) × IsInput LONGEST_INPUT call.input octets × (text : List ℕ) × IsDumpText octets recode 0 text × PutsText call.out text
+      (octets : List ℕ) × IsInput LONGEST_INPUT call.input octets × PutsAll (DumpMakes octets recode) call.out.content call.out.content' 0
   -- 0 to `run`: the input states a router, and the report of its run, by the moments and the reports that were given, stands on out
   pub ran : (turns : ℕ) → answer ≡ status.Done → Asks call (Run turns) →
-      (octets : List ℕ) × IsInput LONGEST_SETTINGS call.input octets × (r : WholeRouterRun octets turns call.air.told) × PutsText call.out r.text
+      (octets : List ℕ) × IsInput LONGEST_SETTINGS call.input octets
+      × PutsAll (RouterRunMakes octets turns call.air.told) call.out.content call.out.content' tt
   -- whatever is answered to `run`: the clock and the air weren't used, or they gave a run of the router that the input states, or some
   -- first turns of one, with all frames that were handed over
   pub hands : (turns : ℕ) → Asks call (Run turns) →
@@ -82,20 +82,20 @@ pub record Answers (call : Call) (answer : Status) : Type 0 where
   -- 0 to `emulate`: the input states a scenario, and the text of a run of its network, from its opening to its end, stands on out,
   -- and behind it the trip and the probe that the words ask for
   pub emulated : (trace : Bool) (send : Option (ℕ × Addr4)) (probe : Option ℕ) → answer ≡ status.Done → Asks call (Emulate trace send probe) →
-      (octets : List ℕ) × IsInput LONGEST_SETTINGS call.input octets × (e : Emulation octets (wants_in call.words trace send probe))
-      × PutsText call.out e.text
+      (octets : List ℕ) × IsInput LONGEST_SETTINGS call.input octets
+      × PutsAll (EmulationMakes octets (wants_in call.words trace send probe)) call.out.content call.out.content' tt
   -- 0 to `emulate --make`: the text of a run of the made scenario stands on out, and nothing was read
   pub made : (kind : Kind) (routers seed : ℕ) → answer ≡ status.Done → Asks call (Make kind routers seed) →
-      (m : MadeEmulation kind routers seed) × PutsText call.out m.text × ReadsNothing call.input
+      PutsAll (MadeMakes kind routers seed) call.out.content call.out.content' tt × ReadsNothing call.input
   -- 0 to `replay`: the trace of the input is whole, and the line that says so, with the number of its lines, stands on out
   pub replayed : answer ≡ status.Done → Asks call Replay →
-      (octets : List ℕ) × IsInput LONGEST_INPUT call.input octets × (lines : ℕ) × Replays octets (Yes lines)
-      × PutsText call.out (answer_line (Yes lines))
+      (octets : List ℕ) × IsInput LONGEST_INPUT call.input octets × (lines : ℕ)
+      × PutsAll (MakesOne (IsAnswerText octets)) call.out.content call.out.content' (Yes lines)
   -- 9: the words ask for `replay`, the trace of the input is none of a run, and the line that says so, with the number of the first line
   -- that doesn't fit, stands on out, and nothing on err
   pub not_a_run : answer ≡ status.NotARun → Asks call Replay
-      × (octets : List ℕ) × IsInput LONGEST_INPUT call.input octets × (line : ℕ) × Replays octets (No line)
-      × PutsText call.out (answer_line (No line)) × PutsText call.err []
+      × (octets : List ℕ) × IsInput LONGEST_INPUT call.input octets × (line : ℕ)
+      × PutsAll (MakesOne (IsAnswerText octets)) call.out.content call.out.content' (No line) × PutsText call.err []
   -- 4 to `replay`: the input is too long, or no line of it is `---`, or its scenario is too long or refused; the line that says so stands
   -- on err, and nothing on out
   pub not_replayed : answer ≡ status.Refused → Asks call Replay →

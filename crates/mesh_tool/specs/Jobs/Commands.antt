@@ -1,19 +1,22 @@
 -- What the command of each job is.
-use Rattle.std.specs.Prelude.{◌≡◌, ◌⊎◌, ℕ, List, [], length, Bool, Option, Some, None, option_map, slice_get, unwrap_or}
+use Rattle.std.specs.Prelude.{◌≡◌, ◌⊎◌, ℕ, zero, suc, List, [], length, Bool, Option, Some, None, option_map, slice_get, unwrap_or}
 use Rattle.mesh_atoms.specs.declared.addr.Addr4.{Addr4}
 use Rattle.mesh_atoms.specs.declared.settings.RunSetup.{RunSetup}
 use Rattle.mesh_config.specs.declared.keys.parse.TheConstants.{LONGEST_SETTINGS}
 use Rattle.mesh_config.specs.RunSettings.{FirstRunRefusal}
-use Rattle.mesh_dump.specs.Dump.{IsDumpText, IsDumpFront, IsFirstLinesText}
-use Rattle.mesh_emulate.specs.Emulation.{Emulation, IsRefused, IsFirstPart, IsFront}
-use Rattle.mesh_emulate.specs.Making.Made.{MadeEmulation}
+use Rattle.mesh_dump.specs.Dump.{DumpMakes}
+use Rattle.mesh_emulate.specs.Emulation.{IsRefused, EmulationMakes}
+use Rattle.mesh_emulate.specs.Making.Made.{MadeMakes}
 use Rattle.mesh_emulate.specs.Wants.{WantedPacket, Wants}
 use Rattle.mesh_io.specs.Faults.{RoseByOne}
+use Rattle.mesh_io.specs.Pieces.{MakesOne}
 use Rattle.mesh_replay.specs.declared.answer.Replay.{Replay}
 use Rattle.mesh_replay.specs.declared.answer.Replay.TheVariants.{Yes, No}
-use Rattle.mesh_replay.specs.Command.Replays.{Replays, IsRefusedInput, answer_line}
-use Rattle.mesh_run.specs.Run.{ToldInCall, StatesSetup, WholeRouterRun, SpendsTurns, FailsToAttach, RunsShort}
+use Rattle.mesh_replay.specs.Command.Replays.{IsRefusedInput, IsAnswerText}
+use Rattle.mesh_run.specs.Run.{ToldInCall, StatesSetup, WholeRouterRun, SpendsTurns, FailsToAttach, RunsShort, RouterRunMakes}
 use Rattle.mesh_tool.specs.Jobs.Calls.{AirUse, UsesNoAir, Call}
+use Rattle.mesh_tool.specs.declared.jobs.ending.Ending.{Ending}
+use Rattle.mesh_tool.specs.declared.jobs.ending.Ending.TheVariants as ending
 use Rattle.mesh_tool.specs.declared.words.job.Job.{Job}
 use Rattle.mesh_tool.specs.declared.words.job.Job.TheVariants as job
 use Rattle.mesh_tool.specs.declared.jobs.jobs.TheConstants.{LONGEST_INPUT}
@@ -26,14 +29,8 @@ pub record Command : Type 1 where
   pub refuses : List ℕ → ℕ → List ℕ → Type 0
   -- the air was such that it can come to its end
   pub attaches : List ℕ → Type 0
-  -- its whole text where it is done, and how many lines of it tell a refusal
-  pub is_text : List ℕ → ℕ → List ℕ → Type 0
-  -- its whole text where it isn't, but says that a trace is none of a run
-  pub is_unfit : List ℕ → List ℕ → Type 0
-  -- its text where memory stopped it on the way
-  pub is_first_text : List ℕ → List ℕ → Type 0
-  -- a text of which a failed write left a front
-  pub is_front : List ℕ → List ℕ → Type 0
+  -- these are all pieces of its output, and so it ends; or, with no ending, some first ones, and more are to come
+  pub makes : List ℕ → List (List ℕ) → Option Ending → Type 0
   -- the use that it made of the clock and the air
   pub uses_air : List ℕ → Type 0
   -- that interface couldn't be attached
@@ -41,21 +38,39 @@ pub record Command : Type 1 where
   -- so many turns were done, with that greatest moment, below that end
   pub is_spent : List ℕ → ℕ → ℕ → ℕ → Type 0
 
--- the command that does nothing: it neither reads nor refuses, its text is empty, and it uses neither clock nor air. The command of a
--- job says what it does beyond this
+-- the command that does nothing: it neither reads nor refuses, makes nothing, and uses neither clock nor air. The command of a job says
+-- what it does beyond this
 abbrev pub idle_command : AirUse → Command
 idle_command air = record {
   most = None;
   refuses = λ octets number key. ⊥;
   attaches = λ octets. Unit {0};
-  is_text = λ octets refused text. (refused ≡ 0) × (text ≡ []);
-  is_unfit = λ octets text. ⊥;
-  is_first_text = λ octets text. text ≡ [];
-  is_front = λ octets text. text ≡ [];
+  makes = λ octets pieces how. ⊥;
   uses_air = λ octets. UsesNoAir air;
   is_unattached = λ octets interface. ⊥;
   is_spent = λ octets turns greatest end. ⊥;
 }
+
+-- How a command ends that has made all its pieces
+
+-- by the answer that comes with them
+abbrev pub EndsBy : {A : Type 0} → (A → Ending) → (List (List ℕ) → Option A → Type 0) → List (List ℕ) → Option Ending → Type 0
+EndsBy {A} ending_of Makes pieces (Some how) = (answer : A) × Makes pieces (Some answer) × (how ≡ ending_of answer)
+EndsBy ending_of Makes pieces None = Makes pieces None
+
+-- it is done
+abbrev pub always_done : Unit {0} → Ending
+always_done u = ending.Done
+
+-- it lists so many lines that are refused
+abbrev pub listing_ending : ℕ → Ending
+listing_ending zero = ending.Done
+listing_ending (suc refused) = ending.Packets
+
+-- it says that a trace is whole, or none of a run
+abbrev pub replay_ending : Replay → Ending
+replay_ending (Yes lines) = ending.Done
+replay_ending (No line) = ending.NotARun
 
 -- What `emulate` is asked for
 
@@ -82,45 +97,36 @@ RunsSoFar octets turns told =
 
 -- the command of a job that these words ask for, over an air and a clock of this use
 abbrev pub command_of : List (List ℕ) → AirUse → Job → Command
--- `dump`: the listing of the lines; of some first ones
+-- `dump`: the listing of the lines, and the line that counts
 command_of words air (job.Dump recode) = record (idle_command air) {
   most = Some LONGEST_INPUT;
-  is_text = λ octets refused text. IsDumpText octets recode refused text;
-  is_first_text = λ octets text. IsFirstLinesText octets recode text;
-  is_front = λ octets text. IsDumpFront octets recode text;
+  makes = λ octets. EndsBy listing_ending (DumpMakes octets recode);
 }
--- `run`: the report of a run of the router, each port of which is attached; nothing of some first turns
+-- `run`: the report of a run of the router, each port of which is attached
 command_of words air (job.Run turns) = record (idle_command air) {
   most = Some LONGEST_SETTINGS;
   refuses = λ octets number key. FirstRunRefusal octets number key;
   attaches = λ octets. (setup : RunSetup) → StatesSetup octets setup → air.told.attached' ≡ length setup.ports;
-  is_text = λ octets refused text. (refused ≡ 0) × (r : WholeRouterRun octets turns air.told) × (text ≡ r.text);
-  is_first_text = λ octets text. (text ≡ []) × RunsShort octets turns air.told;
-  is_front = λ octets text. (r : WholeRouterRun octets turns air.told) × (text ≡ r.text);
+  makes = λ octets. EndsBy always_done (RouterRunMakes octets turns air.told);
   uses_air = λ octets. UsesNoAir air ⊎ RunsSoFar octets turns air.told;
   is_unattached = λ octets interface. RoseByOne air.faults air.faults' × FailsToAttach octets interface air.told;
   is_spent = λ octets count greatest end. (count ≡ turns) × SpendsTurns octets count greatest end air.told;
 }
--- `emulate`: the text of an emulation; of some first events of the run, or of all but the trip or the probe
+-- `emulate`: the text of an emulation
 command_of words air (job.Emulate trace send probe) = record (idle_command air) {
   most = Some LONGEST_SETTINGS;
   refuses = λ octets number key. IsRefused octets (wants_in words trace send probe) number key;
-  is_text = λ octets refused text. (refused ≡ 0) × (e : Emulation octets (wants_in words trace send probe)) × (text ≡ e.text);
-  is_first_text = λ octets text. IsFirstPart octets (wants_in words trace send probe) text;
-  is_front = λ octets text. IsFront octets (wants_in words trace send probe) text;
+  makes = λ octets. EndsBy always_done (EmulationMakes octets (wants_in words trace send probe));
 }
 -- `emulate --make`: the text of a run of the made scenario
 command_of words air (job.Make kind routers seed) = record (idle_command air) {
-  is_text = λ octets refused text. (refused ≡ 0) × (m : MadeEmulation kind routers seed) × (text ≡ m.text);
-  is_front = λ octets text. (m : MadeEmulation kind routers seed) × (text ≡ m.text);
+  makes = λ octets. EndsBy always_done (MadeMakes kind routers seed);
 }
 -- `replay`: the line of the answer to the input
 command_of words air job.Replay = record (idle_command air) {
   most = Some LONGEST_INPUT;
   refuses = λ octets number key. IsRefusedInput octets number key;
-  is_text = λ octets refused text. (refused ≡ 0) × (lines : ℕ) × Replays octets (Yes lines) × (text ≡ answer_line (Yes lines));
-  is_unfit = λ octets text. (line : ℕ) × Replays octets (No line) × (text ≡ answer_line (No line));
-  is_front = λ octets text. (answer : Replay) × Replays octets answer × (text ≡ answer_line answer);
+  makes = λ octets. EndsBy replay_ending (MakesOne (IsAnswerText octets));
 }
 
 -- the command of a job in a call

@@ -1,6 +1,7 @@
 -- What was done before anything is put on err, and what is put there then.
-use Rattle.std.specs.Prelude.{◌≡◌, ◌⊎◌, ℕ, ◌+◌, ◌<◌, List, [], take, codes, Some, IsErr}
+use Rattle.std.specs.Prelude.{◌≡◌, ◌⊎◌, ℕ, ◌+◌, List, [], take, codes, Some, IsErr}
 use Rattle.mesh_io.specs.Faults.{Rose}
+use Rattle.mesh_io.specs.Pieces.{PutsAll, PutsFront, PutsFirst}
 use Rattle.mesh_tool.specs.declared.jobs.ending.Ending.{Ending}
 use Rattle.mesh_tool.specs.declared.jobs.ending.Ending.TheVariants as ending
 use Rattle.mesh_tool.specs.declared.jobs.status.Status.{Status}
@@ -27,15 +28,12 @@ StopsReading most input other = ⊥
 
 -- what a command leaves on out, by how it ended, where these are the octets that it works on
 abbrev pub Leaves : Command → List ℕ → SinkUse → Ending → Type 0
-Leaves command octets out ending.Done = (text : List ℕ) × command.is_text octets 0 text × PutsText out text
-Leaves command octets out ending.Packets =
-    (refused : ℕ) × (0 < refused) × (text : List ℕ) × command.is_text octets refused text × PutsText out text
-Leaves command octets out ending.NotARun = (text : List ℕ) × command.is_unfit octets text × PutsText out text
+Leaves command octets out ending.Done = PutsAll (command.makes octets) out.content out.content' ending.Done
+Leaves command octets out ending.Packets = PutsAll (command.makes octets) out.content out.content' ending.Packets
+Leaves command octets out ending.NotARun = PutsAll (command.makes octets) out.content out.content' ending.NotARun
 Leaves command octets out (ending.Refused number key) = command.refuses octets number key × PutsNothing out
-Leaves command octets out ending.Write =
-    Rose out.faults out.faults'
-    × (text : List ℕ) × command.is_front octets text × (size : ℕ) × PutsText out (take size text)
-Leaves command octets out ending.Memory = (text : List ℕ) × command.is_first_text octets text × PutsText out text
+Leaves command octets out ending.Write = PutsFront (command.makes octets) out.content out.content' out.faults out.faults'
+Leaves command octets out ending.Memory = PutsFirst (command.makes octets) out.content out.content'
 Leaves command octets out (ending.Attach interface) = command.is_unattached octets interface × PutsNothing out
 Leaves command octets out (ending.Turns turns moment end) = command.is_spent octets turns moment end × PutsNothing out
 Leaves command octets out other = ⊥

@@ -1,7 +1,9 @@
 -- What a call did for the job that its words ask for.
-use Rattle.std.specs.Prelude.{◌≡◌, ℕ, ◌≤◌, List, [], length, take, Option, Some, None, codes}
-use Rattle.mesh_tool.specs.Jobs.Calls.{SourceUse, Call, IsInputTooLong, IsWorkedOn, PutsText, PutsNothing}
+use Rattle.std.specs.Prelude.{◌≡◌, ℕ, ◌≤◌, List, [], length, Option, Some, None, codes}
+use Rattle.mesh_io.specs.Pieces.{PutsAll, PutsFront, PutsFirst}
+use Rattle.mesh_tool.specs.Jobs.Calls.{SourceUse, Call, IsInputTooLong, IsWorkedOn, PutsNothing}
 use Rattle.mesh_tool.specs.Jobs.Commands.{Command, command_in}
+use Rattle.mesh_tool.specs.declared.jobs.ending.Ending.{Ending}
 use Rattle.mesh_tool.specs.declared.words.job.Job.{Job}
 
 -- the octets that the job works on
@@ -29,25 +31,20 @@ TakesInput job call = TakesUpTo (command_in call job).most (command_in call job)
 
 -- What is written on out
 
--- the whole text of the job stands on out, and so many lines of it tell a refusal
-pub record Finishes (call : Call) (job : Job) (refused : ℕ) : Type 0 where
+-- all pieces of the job's output were put on out, and so it ended
+pub record Finishes (call : Call) (job : Job) (how : Ending) : Type 0 where
   pub octets : List ℕ
   pub works_on : WorksOn job call octets
-  pub text : List ℕ
-  pub is_text : (command_in call job).is_text octets refused text
-  pub stands : PutsText call.out text
+  pub puts : PutsAll ((command_in call job).makes octets) call.out.content call.out.content' how
 
--- what stands on out where an allocation failed: nothing, where the input wasn't read whole; else a first part of the text
+-- what was put on out where an allocation failed: nothing, where the input wasn't read whole; else some first pieces
 pub data StopsShort (call : Call) (job : Job) : Type 0 where
   Before_reading : PutsNothing call.out → StopsShort call job
-  On_the_way : (octets text : List ℕ) → WorksOn job call octets → (command_in call job).is_first_text octets text →
-      PutsText call.out text → StopsShort call job
+  On_the_way : (octets : List ℕ) → WorksOn job call octets →
+      PutsFirst ((command_in call job).makes octets) call.out.content call.out.content' → StopsShort call job
 
--- a write on out failed, and a front of a text of the job stands there
+-- a write on out failed: the pieces before it were put, and a prefix of its piece
 pub record LeavesFront (call : Call) (job : Job) : Type 0 where
   pub octets : List ℕ
   pub works_on : WorksOn job call octets
-  pub text : List ℕ
-  pub is_text : (command_in call job).is_front octets text
-  pub size : ℕ
-  pub stands : PutsText call.out (take size text)
+  pub puts : PutsFront ((command_in call job).makes octets) call.out.content call.out.content' call.out.faults call.out.faults'
