@@ -7,7 +7,7 @@ ghost use Rattle.mesh_emulate.specs.Parts.{MakesWanted, IsProbedText, WholeRunMa
 ghost use Rattle.mesh_emulate.specs.Prepared.{IsUnbegun};
 ghost use Rattle.mesh_emulate.specs.Wants.{wants_of, IsWithin};
 ghost use Rattle.mesh_emulate.specs.declared.emulation.EmulateFault.TheVariants.{Refused, Stopped};
-ghost use Rattle.mesh_io.specs.Pieces.{PutsAll, PutsFront, PutsFirst, PutsPieces};
+ghost use Rattle.mesh_io.specs.Pieces.{PutsAll, PutsFront, PutsSome, PutsPieces};
 ghost use Rattle.mesh_probe.specs.Probes.{AreRoutersAt};
 ghost use Rattle.mesh_texts.specs.machine.NetRun.{IsOpeningNet};
 
@@ -161,7 +161,7 @@ pub fn emulate<B: Bases, O: Sink>(
         (O.content out.old) (O.content out.new) (O.faults out.old) (O.faults out.new) }
 
     // Some first pieces stand on `out`, and more were to come.
-    ensures memory { result ≡ Err (Stopped Stop.Memory) → PutsFirst (EmulationMakes input.now (wants_of wanted.now)) (O.content out.old) (O.content out.new) }
+    ensures memory { result ≡ Err (Stopped Stop.Memory) → PutsSome (EmulationMakes input.now (wants_of wanted.now)) (O.content out.old) (O.content out.new) }
     ensures later { O.faults out.old ≤ O.faults out.new }
 {
     let ready = match prepare(alloc, input, wanted) {

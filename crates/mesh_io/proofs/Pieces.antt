@@ -2,12 +2,11 @@
 use Rattle.std.proofs.Common.{◌≡◌, ℕ, ◌≤◌, List, [], ◌∷◌, ◌++◌, take, Option, Some, None, Result, Ok, Err, refl, sym, subst, append_assoc}
 use Rattle.std.specs.Prelude.{IsErrAnd}
 use Rattle.std.specs.List.{concat}
-use Rattle.std.specs.Io.KnownBytes.{Appends, Keeps}
-use Rattle.std.proofs.KnownBytes.{Appends-nil, Appends-kept}
+use Rattle.std.specs.Io.KnownBytes.{Appends}
 use Rattle.std.proofs.lemmas.List.{append-nil}
 use Rattle.std.proofs.lemmas.List.Folds.{concat-append}
 use Rattle.mesh_io.specs.Faults.{Rose}
-use Rattle.mesh_io.specs.Pieces.{MakesOne, PutsAll, PutsFront, PutsFirst, PutsPieces}
+use Rattle.mesh_io.specs.Pieces.{MakesOne, PutsAll, PutsFront, PutsPieces}
 use Rattle.mesh_io.specs.declared.stop.Stop.{Stop}
 use Rattle.mesh_io.specs.declared.stop.Stop.TheVariants as stop
 use Rattle.mesh_io.proofs.Steps.{appends_more, rose_before}
@@ -22,14 +21,6 @@ one_put IsText a b answer text is stands = (text ∷ [], (text, is, refl), rw ap
 pub one_cut : {A : Type 0} (IsText : A → List ℕ → Type 0) (a b : Option (List ℕ)) (f g : ℕ) (answer : A) (text : List ℕ) → IsText answer text → Rose f g → (n : ℕ) × Appends a b (take n text)
     → PutsFront (MakesOne IsText) a b f g
 one_cut IsText a b f g answer text is rose (n, stands) = (rose, [], text, Some answer, (text, is, refl), n, stands)
-
--- nothing was put before it
-pub none_put : {A : Type 0} (IsText : A → List ℕ → Type 0) (a b : Option (List ℕ)) → Keeps a b → PutsFirst (MakesOne IsText) a b
-none_put IsText a b keeps = ([], refl, Appends-kept a a b [] (Appends-nil a) keeps)
-
--- what one piece that was put is
-pub one_text_put : {A : Type 0} (IsText : A → List ℕ → Type 0) (a b : Option (List ℕ)) (answer : A) → PutsAll (MakesOne IsText) a b answer → (text : List ℕ) × IsText answer text × Appends a b text
-one_text_put IsText a b answer (pieces, (text, is, same), stands) = (text, is, rw (same, append-nil) at stands)
 
 -- ---- one thing behind another
 

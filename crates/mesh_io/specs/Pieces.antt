@@ -27,8 +27,8 @@ PutsFront {A} Makes content content' faults faults' =
     × (n : ℕ) × Appends content content' (concat pieces ++ take n piece)
 
 -- an allocation failed: the pieces that were made were put, and more were to come
-abbrev pub PutsFirst : {A : Type 0} → (List (List ℕ) → Option A → Type 0) → Option (List ℕ) → Option (List ℕ) → Type 0
-PutsFirst Makes content content' =
+abbrev pub PutsSome : {A : Type 0} → (List (List ℕ) → Option A → Type 0) → Option (List ℕ) → Option (List ℕ) → Type 0
+PutsSome Makes content content' =
     (pieces : List (List ℕ)) × Makes pieces None × Appends content content' (concat pieces)
 
 -- what a command puts on a sink, by what it answers
@@ -36,4 +36,4 @@ abbrev pub PutsPieces : {A : Type 0} → (List (List ℕ) → Option A → Type 
     → Type 0
 PutsPieces Makes content content' faults faults' (Ok answer) = PutsAll Makes content content' answer
 PutsPieces Makes content content' faults faults' (Err stop.Write) = PutsFront Makes content content' faults faults'
-PutsPieces Makes content content' faults faults' (Err stop.Memory) = PutsFirst Makes content content'
+PutsPieces Makes content content' faults faults' (Err stop.Memory) = PutsSome Makes content content'

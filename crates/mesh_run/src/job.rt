@@ -4,7 +4,7 @@ ghost use Rattle.std.specs.Io.KnownBytes.{Keeps};
 ghost use Rattle.mesh_atoms.specs.declared.settings.RunSetup.{RunSetup};
 ghost use Rattle.mesh_config.specs.RunSettings.{run_refusals, FirstRunRefusal};
 ghost use Rattle.mesh_io.specs.Faults.{Rose, RoseByOne};
-ghost use Rattle.mesh_io.specs.Pieces.{PutsAll, PutsFront, PutsFirst};
+ghost use Rattle.mesh_io.specs.Pieces.{PutsAll, PutsFront, PutsSome};
 ghost use Rattle.mesh_run.specs.Attaching.{AttachesAtOnce};
 ghost use Rattle.mesh_run.specs.Ends.{EndsRun, Completes};
 ghost use Rattle.mesh_run.specs.Run.{StatesSetup, told, IsUntold, RouterRunMakes, SpendsTurns, FailsToAttach};
@@ -87,7 +87,7 @@ pub fn run<B: Bases, O: Sink, A: Air, C: Clock>(
         (O.content out.old) (O.content out.new) (O.faults out.old) (O.faults out.new) }
 
     // What was told and handed over is that of some first turns, at most as many as were asked for; nothing was put on `out`.
-    ensures memory { result ≡ Err (Stopped Stop.Memory) → PutsFirst (RouterRunMakes input.now turns
+    ensures memory { result ≡ Err (Stopped Stop.Memory) → PutsSome (RouterRunMakes input.now turns
         (told (C.moments clock.old) (C.moments clock.new) (A.reports air.old) (A.reports air.new) (A.attached air.new)))
         (O.content out.old) (O.content out.new) }
 

@@ -1,9 +1,9 @@
 //! The command: an input is answered, and the answer told.
 ghost use Rattle.std.specs.Prelude.{◌≡◌, ◌≤◌, ℕ, List, Err, IfOk};
 ghost use Rattle.std.specs.Io.KnownBytes.{Keeps};
-ghost use Rattle.mesh_io.specs.Pieces.{MakesOne, PutsAll, PutsFront, PutsFirst, PutsPieces};
+ghost use Rattle.mesh_io.specs.Pieces.{MakesOne, PutsAll, PutsFront, PutsSome, PutsPieces};
 ghost use Rattle.mesh_replay.specs.declared.command.input.ReplayFault.TheVariants.{Refused, Stopped};
-ghost use Rattle.mesh_replay.specs.Command.Replays.{IsRefusedInput, IsAnswerText, answer_line};
+ghost use Rattle.mesh_replay.specs.Command.Replays.{Replays, IsRefusedInput, IsAnswerText};
 ghost use Rattle.mesh_replay.specs.Command.Tells.{IsUnanswered};
 
 use crate::answer::Replay;
@@ -21,9 +21,9 @@ pub enum ReplayFault {
     Stopped(Stop),
 }
 
-// Tells an answer, by one write.
-fn tell<O: Sink>(alloc: Global, answer: Replay, out: &mut O) -> Result<(), Stop>
-    ensures leaves { PutsPieces (MakesOne (λ _ text. text ≡ answer_line answer))
+// Tells the answer to an input, by one write.
+fn tell<O: Sink>(alloc: Global, answer: Replay, out: &mut O) -> Result<Replay, Stop>
+    ensures leaves { (input : List ℕ) → Replays input answer → PutsPieces (MakesOne (IsAnswerText input))
         (O.content out.old) (O.content out.new) (O.faults out.old) (O.faults out.new) result }
     ensures later { O.faults out.old ≤ O.faults out.new }
 {
@@ -33,7 +33,7 @@ fn tell<O: Sink>(alloc: Global, answer: Replay, out: &mut O) -> Result<(), Stop>
         Err(_) => return Err(Stop::Memory),
     }
     match write_all(out, text.as_slice()) {
-        Ok(()) => Ok(()),
+        Ok(()) => Ok(answer),
         Err(_) => Err(Stop::Write),
     }
 }
@@ -67,7 +67,7 @@ pub fn replay_input<B: Bases, O: Sink>(
         (O.content out.old) (O.content out.new) (O.faults out.old) (O.faults out.new) }
 
     // Nothing was put on `out`.
-    ensures memory { result ≡ Err (Stopped Stop.Memory) → PutsFirst (MakesOne (IsAnswerText input.now))
+    ensures memory { result ≡ Err (Stopped Stop.Memory) → PutsSome (MakesOne (IsAnswerText input.now))
         (O.content out.old) (O.content out.new) }
     ensures later { O.faults out.old ≤ O.faults out.new }
 {
@@ -76,7 +76,7 @@ pub fn replay_input<B: Bases, O: Sink>(
         Err(fault) => return Err(unanswered(fault)),
     };
     match tell(alloc, answer, out) {
-        Ok(()) => Ok(answer),
+        Ok(answer) => Ok(answer),
         Err(stop) => Err(ReplayFault::Stopped(stop)),
     }
 }

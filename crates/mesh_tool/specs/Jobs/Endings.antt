@@ -1,7 +1,7 @@
 -- What was done before anything is put on err, and what is put there then.
 use Rattle.std.specs.Prelude.{◌≡◌, ◌⊎◌, ℕ, ◌+◌, List, [], take, codes, Some, IsErr}
 use Rattle.mesh_io.specs.Faults.{Rose}
-use Rattle.mesh_io.specs.Pieces.{PutsAll, PutsFront, PutsFirst}
+use Rattle.mesh_io.specs.Pieces.{PutsAll, PutsFront, PutsSome}
 use Rattle.mesh_tool.specs.declared.jobs.ending.Ending.{Ending}
 use Rattle.mesh_tool.specs.declared.jobs.ending.Ending.TheVariants as ending
 use Rattle.mesh_tool.specs.declared.jobs.status.Status.{Status}
@@ -33,7 +33,7 @@ Leaves command octets out ending.Packets = PutsAll (command.makes octets) out.co
 Leaves command octets out ending.NotARun = PutsAll (command.makes octets) out.content out.content' ending.NotARun
 Leaves command octets out (ending.Refused number key) = command.refuses octets number key × PutsNothing out
 Leaves command octets out ending.Write = PutsFront (command.makes octets) out.content out.content' out.faults out.faults'
-Leaves command octets out ending.Memory = PutsFirst (command.makes octets) out.content out.content'
+Leaves command octets out ending.Memory = PutsSome (command.makes octets) out.content out.content'
 Leaves command octets out (ending.Attach interface) = command.is_unattached octets interface × PutsNothing out
 Leaves command octets out (ending.Turns turns moment end) = command.is_spent octets turns moment end × PutsNothing out
 Leaves command octets out other = ⊥

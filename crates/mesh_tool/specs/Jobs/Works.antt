@@ -1,6 +1,6 @@
 -- What a call did for the job that its words ask for.
 use Rattle.std.specs.Prelude.{◌≡◌, ℕ, ◌≤◌, List, [], length, Option, Some, None, codes}
-use Rattle.mesh_io.specs.Pieces.{PutsAll, PutsFront, PutsFirst}
+use Rattle.mesh_io.specs.Pieces.{PutsAll, PutsFront, PutsSome}
 use Rattle.mesh_tool.specs.Jobs.Calls.{SourceUse, Call, IsInputTooLong, IsWorkedOn, PutsNothing}
 use Rattle.mesh_tool.specs.Jobs.Commands.{Command, command_in}
 use Rattle.mesh_tool.specs.declared.jobs.ending.Ending.{Ending}
@@ -41,7 +41,7 @@ pub record Finishes (call : Call) (job : Job) (how : Ending) : Type 0 where
 pub data StopsShort (call : Call) (job : Job) : Type 0 where
   Before_reading : PutsNothing call.out → StopsShort call job
   On_the_way : (octets : List ℕ) → WorksOn job call octets →
-      PutsFirst ((command_in call job).makes octets) call.out.content call.out.content' → StopsShort call job
+      PutsSome ((command_in call job).makes octets) call.out.content call.out.content' → StopsShort call job
 
 -- a write on out failed: the pieces before it were put, and a prefix of its piece
 pub record LeavesFront (call : Call) (job : Job) : Type 0 where

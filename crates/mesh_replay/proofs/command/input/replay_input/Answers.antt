@@ -1,15 +1,14 @@
 use Rattle.mesh_io.specs.declared.stop.Stop.TheVariants as stop
-use Rattle.mesh_replay.proofs.CommandLemmas.Telling.{same_stop, told, untold}
+use Rattle.mesh_replay.proofs.CommandLemmas.Telling.{same_stop}
 use Rattle.mesh_replay.proofs.command.input.replay_input.Goals as goal
 
 pub returns-in-Ok-tell-clause-answered : goal.returns-in-Ok-tell-clause-answered
-returns-in-Ok-tell-clause-answered g c =
-    told c.args.input.now c.in-Ok.answer c.in-Ok.ensures.answered _ _ c.in-Ok-tell.ensures.leaves
+returns-in-Ok-tell-clause-answered g c = c.in-Ok-tell.ensures.leaves c.args.input.now c.in-Ok.ensures.answered
 
 pub returns-in-Err-tell-clause-write : goal.returns-in-Err-tell-clause-write
 returns-in-Err-tell-clause-write g c = λ e.
-    untold c.args.input.now c.in-Ok.answer c.in-Ok.ensures.answered _ _ _ _ stop.Write (rw (same_stop c.in-Err-tell.stop stop.Write e) at c.in-Err-tell.ensures.leaves)
+    rw (same_stop c.in-Err-tell.stop stop.Write e) at (c.in-Err-tell.ensures.leaves c.args.input.now c.in-Ok.ensures.answered)
 
 pub returns-in-Err-tell-clause-memory : goal.returns-in-Err-tell-clause-memory
 returns-in-Err-tell-clause-memory g c = λ e.
-    untold c.args.input.now c.in-Ok.answer c.in-Ok.ensures.answered _ _ 0 0 stop.Memory (rw (same_stop c.in-Err-tell.stop stop.Memory e) at c.in-Err-tell.ensures.leaves)
+    rw (same_stop c.in-Err-tell.stop stop.Memory e) at (c.in-Err-tell.ensures.leaves c.args.input.now c.in-Ok.ensures.answered)

@@ -2,7 +2,7 @@ use Rattle.std.proofs.Common.{Err, ap, ◌∙◌, subst}
 use Rattle.mesh_emulate.specs.Emulation.{EmulationMakes, IsRefused}
 use Rattle.mesh_emulate.specs.Wants.{Wants}
 use Rattle.mesh_emulate.specs.declared.emulation.EmulateFault.TheVariants.{Stopped}
-use Rattle.mesh_io.specs.Pieces.{PutsAll, PutsFront, PutsFirst}
+use Rattle.mesh_io.specs.Pieces.{PutsAll, PutsFront, PutsSome}
 use Rattle.mesh_tool.specs.Jobs.Commands.{always_done, wants_in}
 use Rattle.mesh_tool.specs.Words.Words.{texts}
 use Rattle.mesh_tool.proofs.JobsLemmas.Outputs.{ends_all, ends_front}
@@ -27,4 +27,4 @@ returns-in-Err-Stopped-Write-clause-leaves g c = λ air.
 pub returns-in-Err-Stopped-Memory-clause-leaves : goal.returns-in-Err-Stopped-Memory-clause-leaves
 returns-in-Err-Stopped-Memory-clause-leaves g c = λ air.
     let first = c.in-Err-Stopped-Memory.ensures.memory (ap (λ fault. Err fault) (c.in-Err-Stopped-Memory.field-0-is ∙ ap (λ stop. Stopped stop) c.in-Err-Stopped-Memory.field-0-0-is)) in
-    subst (λ (w : Wants). PutsFirst (EmulationMakes c.args.octets.now w) (g.O.Sink.content c.args.out.now) (g.O.Sink.content c.emulate.new.out)) c.wanted.ensures first
+    subst (λ (w : Wants). PutsSome (EmulationMakes c.args.octets.now w) (g.O.Sink.content c.args.out.now) (g.O.Sink.content c.emulate.new.out)) c.wanted.ensures first
