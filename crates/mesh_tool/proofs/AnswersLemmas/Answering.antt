@@ -1,5 +1,5 @@
 -- What the program answers, from what was done and the line that was put on err.
-use Rattle.std.proofs.Common.{◌≡◌, ℕ, zero, suc, ◌+◌, ◌<◌, ◌≤◌, ◌⊎◌, inl, inr, List, [], length, Option, Some, None, Result, Ok, Err, Bool, refl, sym, subst, arith}
+use Rattle.std.proofs.Common.{◌≡◌, ℕ, ◌+◌, ◌<◌, ◌≤◌, ◌⊎◌, inl, inr, List, [], length, Option, Some, None, Result, Ok, Err, Bool, refl, sym, subst, arith}
 use Rattle.std.specs.Prelude.{IsErr, codes}
 use Rattle.mesh_atoms.specs.declared.addr.Addr4.{Addr4}
 use Rattle.mesh_atoms.proofs.Options.{none_not, same_ok}
@@ -22,7 +22,7 @@ use Rattle.mesh_tool.specs.declared.jobs.status.Status.{Status}
 use Rattle.mesh_tool.specs.declared.jobs.status.Status.TheVariants as status
 use Rattle.mesh_tool.specs.Answers.Answers.{FaultLine, Wrong_words, Read_fault, Refusal, Attach_fault, Turns_spent, Allocation_failure, Whole, All_well, Some_refused, Is_no_run, On_out, On_err, OutputStands, Is_whole, Is_told, Is_failed, Answers}
 use Rattle.mesh_tool.specs.Jobs.Calls.{SourceUse, SinkUse, Call, UsesNoAir, Asks, ReadsNothing, IsInput, IsInputTooLong, IsWorkedOn, PutsText, PutsNothing}
-use Rattle.mesh_tool.specs.Jobs.Commands.{Command, RunsSoFar, wants_in, listing_ending, replay_ending, command_in}
+use Rattle.mesh_tool.specs.Jobs.Commands.{Command, RunsSoFar, wants_in, command_in}
 use Rattle.mesh_tool.specs.Jobs.Endings.{StopsReading, Leaves, DoesJob, Unread, Worked, Does, No_command, Did, TellsLine, TellsEnding}
 use Rattle.mesh_tool.specs.Jobs.Lines.{words_line, read_line, refused_line, attach_line, turns_line, memory_line}
 use Rattle.mesh_tool.specs.Jobs.Works.{WorksOn, Refuses, Too_long, By_rule, TakesUpTo, TakesInput, Finishes, Before_reading, On_the_way}
@@ -46,24 +46,14 @@ told call line due answer cause (inl (same, stands)) = Is_told (record { line = 
 told call line due answer cause (inr (failed, rose, size, stands)) = Is_failed failed (On_err due line cause rose size stands)
 
 -- some lines tell a refusal: the job is `dump`
-no_packets : (answer : Replay) → ending.Packets ≡ replay_ending answer → ⊥
-no_packets (Yes lines) e = cc
-no_packets (No line) e = cc
-
 whole_packets : (call : Call) (j : Job) → Asks call j → Finishes call j ending.Packets → Whole call status.Packets
 whole_packets call (job.Dump recode) asks fin = Some_refused recode asks fin
-whole_packets call job.Replay asks fin = let (pieces, (answer, made, ends), stands) = fin.puts in absurd (no_packets answer ends)
-whole_packets call j asks fin = let (pieces, (answer, made, ends), stands) = fin.puts in let bad : ⊥ = cc in absurd bad
+whole_packets call j asks fin = absurd fin.puts.1
 
 -- a trace is none of a run: the job is `replay`
-no_unfit : (refused : ℕ) → ending.NotARun ≡ listing_ending refused → ⊥
-no_unfit zero e = cc
-no_unfit (suc refused) e = cc
-
 whole_unfit : (call : Call) (j : Job) → Asks call j → Finishes call j ending.NotARun → Whole call status.NotARun
 whole_unfit call job.Replay asks fin = Is_no_run asks fin
-whole_unfit call (job.Dump recode) asks fin = let (pieces, (refused, made, ends), stands) = fin.puts in absurd (no_unfit refused ends)
-whole_unfit call j asks fin = let (pieces, (answer, made, ends), stands) = fin.puts in let bad : ⊥ = cc in absurd bad
+whole_unfit call j asks fin = absurd fin.puts.1
 
 ends_unread : (call : Call) (j : Job) (most : ℕ) (how : Ending) (answer : Status) → Asks call j → (command_in call j).most ≡ Some most → StopsReading most call.input how → PutsNothing call.out
     → TellsEnding call.words call.err how answer → OutputStands call answer
@@ -143,44 +133,25 @@ finishes call answer j (Is_whole whole quiet) same asks = whole_done call j whol
 finishes call answer j (Is_told t) same asks = absurd (subst IsFault same (fault_told t.due))
 finishes call answer j (Is_failed failed f) same asks = let bad : ⊥ = cc in absurd bad
 
-none_refused : (refused : ℕ) → ending.Done ≡ listing_ending refused → refused ≡ 0
-none_refused zero e = refl
-none_refused (suc refused) e = let bad : ⊥ = cc in absurd bad
-
 dumped : (call : Call) (recode : Bool) → Finishes call (job.Dump recode) ending.Done
     → (octets : List ℕ) × IsInput 67108864 call.input octets × PutsAll (DumpMakes octets recode) call.out.content call.out.content' 0
-dumped call recode fin =
-    let (pieces, (refused, made, ends), stands) = fin.puts in
-    (fin.octets, fin.works_on, (pieces, subst (λ (n : ℕ). DumpMakes fin.octets recode pieces (Some n)) (none_refused refused ends) made, stands))
+dumped call recode fin = (fin.octets, fin.works_on, fin.puts)
 
 ran : (call : Call) (turns : ℕ) → Finishes call (job.Run turns) ending.Done
     → (octets : List ℕ) × IsInput 1048576 call.input octets × PutsAll (RouterRunMakes octets turns call.air.told) call.out.content call.out.content' tt
-ran call turns fin = let (pieces, (u, made, ends), stands) = fin.puts in (fin.octets, fin.works_on, (pieces, made, stands))
+ran call turns fin = (fin.octets, fin.works_on, fin.puts)
 
 emulated : (call : Call) (trace : Bool) (send : Option (ℕ × Addr4)) (probe : Option ℕ) → Finishes call (job.Emulate trace send probe) ending.Done
     → (octets : List ℕ) × IsInput 1048576 call.input octets × PutsAll (EmulationMakes octets (wants_in call.words trace send probe)) call.out.content call.out.content' tt
-emulated call trace send probe fin = let (pieces, (u, made, ends), stands) = fin.puts in (fin.octets, fin.works_on, (pieces, made, stands))
+emulated call trace send probe fin = (fin.octets, fin.works_on, fin.puts)
 
 made : (call : Call) (kind : Kind) (routers seed : ℕ) → Finishes call (job.Make kind routers seed) ending.Done
     → PutsAll (MadeMakes kind routers seed) call.out.content call.out.content' tt × ReadsNothing call.input
-made call kind routers seed fin = let (pieces, (u, made, ends), stands) = fin.puts in ((pieces, made, stands), fin.works_on.1)
+made call kind routers seed fin = (fin.puts, fin.works_on.1)
 
--- the line of `replay` that was put
-abbrev LinePut : Call → List ℕ → Replay → Type 0
-LinePut call octets answer = PutsAll (MakesOne (IsAnswerText octets)) call.out.content call.out.content' answer
-
-is_yes : (call : Call) (octets : List ℕ) (answer : Replay) → ending.Done ≡ replay_ending answer → LinePut call octets answer → (lines : ℕ) × LinePut call octets (Yes lines)
-is_yes call octets (Yes lines) ends puts = (lines, puts)
-is_yes call octets (No line) ends puts = let bad : ⊥ = cc in absurd bad
-
-is_no : (call : Call) (octets : List ℕ) (answer : Replay) → ending.NotARun ≡ replay_ending answer → LinePut call octets answer → (line : ℕ) × LinePut call octets (No line)
-is_no call octets (Yes lines) ends puts = let bad : ⊥ = cc in absurd bad
-is_no call octets (No line) ends puts = (line, puts)
-
-replayed : (call : Call) → Finishes call job.Replay ending.Done → (octets : List ℕ) × IsInput 67108864 call.input octets × (lines : ℕ) × LinePut call octets (Yes lines)
-replayed call fin =
-    let (pieces, (answer, made, ends), stands) = fin.puts in
-    let (lines, puts) = is_yes call fin.octets answer ends (pieces, made, stands) in (fin.octets, fin.works_on, lines, puts)
+replayed : (call : Call) → Finishes call job.Replay ending.Done
+    → (octets : List ℕ) × IsInput 67108864 call.input octets × (lines : ℕ) × PutsAll (MakesOne (IsAnswerText octets)) call.out.content call.out.content' (Yes lines)
+replayed call fin = let (pieces, (lines, made), stands) = fin.puts in (fin.octets, fin.works_on, lines, (pieces, made, stands))
 
 -- ---- what `replay` left where it isn't done
 
@@ -190,11 +161,11 @@ whole_no_run (Some_refused recode asks fin) same = let bad : ⊥ = cc in absurd 
 whole_no_run (Is_no_run asks fin) same = (asks, fin)
 
 not_a_run : (call : Call) (answer : Status) → OutputStands call answer → answer ≡ status.NotARun → Asks call job.Replay
-    × (octets : List ℕ) × IsInput 67108864 call.input octets × (line : ℕ) × LinePut call octets (No line) × PutsText call.err []
+    × (octets : List ℕ) × IsInput 67108864 call.input octets × (line : ℕ)
+    × PutsAll (MakesOne (IsAnswerText octets)) call.out.content call.out.content' (No line) × PutsText call.err []
 not_a_run call answer (Is_whole whole quiet) same =
     let (asks, fin) = whole_no_run whole same in
-    let (pieces, (answered, made, ends), stands) = fin.puts in
-    let (line, puts) = is_no call fin.octets answered ends (pieces, made, stands) in (asks, fin.octets, fin.works_on, line, puts, quiet)
+    let (pieces, (line, made), stands) = fin.puts in (asks, fin.octets, fin.works_on, line, (pieces, made, stands), quiet)
 not_a_run call answer (Is_told t) same = absurd (subst IsFault same (fault_told t.due))
 not_a_run call answer (Is_failed failed f) same = let bad : ⊥ = cc in absurd bad
 
@@ -305,9 +276,13 @@ too_long call answer (Is_failed failed f) j most all asks limit is long calm = i
 -- octets of which a job makes all its output aren't refused
 made_not_refused : (call : Call) (j : Job) (octets : List ℕ) (pieces : List (List ℕ)) (how : Ending) (number : ℕ) (key : List ℕ) → (command_in call j).makes octets pieces (Some how)
     → (command_in call j).refuses octets number key → ⊥
-made_not_refused call (job.Run turns) octets pieces how number key (u, (r, is), ends) refuses = clear_not_refused octets octets number key refl r.stated.clear refuses
-made_not_refused call (job.Emulate trace send probe) octets pieces how number key (u, (e, are), ends) refuses = emulated_not_refused octets (wants_in call.words trace send probe) e number key refuses
-made_not_refused call job.Replay octets pieces how number key (answer, (text, (replays, line), one), ends) refuses = answers_or_refuses octets answer number key replays refuses
+made_not_refused call (job.Run turns) octets pieces ending.Done number key (r, is) refuses = clear_not_refused octets octets number key refl r.stated.clear refuses
+made_not_refused call (job.Run turns) octets pieces how number key made refuses = absurd made
+made_not_refused call (job.Emulate trace send probe) octets pieces ending.Done number key (e, are) refuses = emulated_not_refused octets (wants_in call.words trace send probe) e number key refuses
+made_not_refused call (job.Emulate trace send probe) octets pieces how number key made refuses = absurd made
+made_not_refused call job.Replay octets pieces ending.Done number key (lines, (text, (replays, line), one)) refuses = answers_or_refuses octets (Yes lines) number key replays refuses
+made_not_refused call job.Replay octets pieces ending.NotARun number key (at, (text, (replays, line), one)) refuses = answers_or_refuses octets (No at) number key replays refuses
+made_not_refused call job.Replay octets pieces how number key made refuses = absurd made
 made_not_refused call j octets pieces how number key made refuses = refuses
 
 -- a job refuses what it reads

@@ -1,5 +1,5 @@
 -- What the command of each job is.
-use Rattle.std.specs.Prelude.{◌≡◌, ◌⊎◌, ℕ, zero, suc, List, [], length, Bool, Option, Some, None, option_map, slice_get, unwrap_or}
+use Rattle.std.specs.Prelude.{◌≡◌, ◌⊎◌, ◌<◌, ℕ, List, [], length, Bool, Option, Some, None, option_map, slice_get, unwrap_or}
 use Rattle.mesh_atoms.specs.declared.addr.Addr4.{Addr4}
 use Rattle.mesh_atoms.specs.declared.settings.RunSetup.{RunSetup}
 use Rattle.mesh_config.specs.declared.keys.parse.TheConstants.{LONGEST_SETTINGS}
@@ -10,7 +10,6 @@ use Rattle.mesh_emulate.specs.Making.Made.{MadeMakes}
 use Rattle.mesh_emulate.specs.Wants.{WantedPacket, Wants}
 use Rattle.mesh_io.specs.Faults.{RoseByOne}
 use Rattle.mesh_io.specs.Pieces.{MakesOne}
-use Rattle.mesh_replay.specs.declared.answer.Replay.{Replay}
 use Rattle.mesh_replay.specs.declared.answer.Replay.TheVariants.{Yes, No}
 use Rattle.mesh_replay.specs.Command.Replays.{IsRefusedInput, IsAnswerText}
 use Rattle.mesh_run.specs.Run.{ToldInCall, StatesSetup, WholeRouterRun, SpendsTurns, FailsToAttach, RunsShort, RouterRunMakes}
@@ -53,24 +52,25 @@ idle_command air = record {
 
 -- How a command ends that has made all its pieces
 
--- by the answer that comes with them
-abbrev pub EndsBy : {A : Type 0} → (A → Ending) → (List (List ℕ) → Option A → Type 0) → List (List ℕ) → Option Ending → Type 0
-EndsBy {A} ending_of Makes pieces (Some how) = (answer : A) × Makes pieces (Some answer) × (how ≡ ending_of answer)
-EndsBy ending_of Makes pieces None = Makes pieces None
-
 -- it is done
-abbrev pub always_done : Unit {0} → Ending
-always_done u = ending.Done
+abbrev pub DoneBy : (List (List ℕ) → Option (Unit {0}) → Type 0) → List (List ℕ) → Option Ending → Type 0
+DoneBy Makes pieces (Some ending.Done) = Makes pieces (Some tt)
+DoneBy Makes pieces (Some other) = ⊥
+DoneBy Makes pieces None = Makes pieces None
 
--- it lists so many lines that are refused
-abbrev pub listing_ending : ℕ → Ending
-listing_ending zero = ending.Done
-listing_ending (suc refused) = ending.Packets
+-- `dump`: none of the lines is refused, or some are
+abbrev pub ListingEnds : List ℕ → Bool → List (List ℕ) → Option Ending → Type 0
+ListingEnds octets recode pieces (Some ending.Done) = DumpMakes octets recode pieces (Some 0)
+ListingEnds octets recode pieces (Some ending.Packets) = (refused : ℕ) × (0 < refused) × DumpMakes octets recode pieces (Some refused)
+ListingEnds octets recode pieces (Some other) = ⊥
+ListingEnds octets recode pieces None = DumpMakes octets recode pieces None
 
--- it says that a trace is whole, or none of a run
-abbrev pub replay_ending : Replay → Ending
-replay_ending (Yes lines) = ending.Done
-replay_ending (No line) = ending.NotARun
+-- `replay`: the trace is whole, or none of a run
+abbrev pub ReplayEnds : List ℕ → List (List ℕ) → Option Ending → Type 0
+ReplayEnds octets pieces (Some ending.Done) = (lines : ℕ) × MakesOne (IsAnswerText octets) pieces (Some (Yes lines))
+ReplayEnds octets pieces (Some ending.NotARun) = (line : ℕ) × MakesOne (IsAnswerText octets) pieces (Some (No line))
+ReplayEnds octets pieces (Some other) = ⊥
+ReplayEnds octets pieces None = MakesOne (IsAnswerText octets) pieces None
 
 -- What `emulate` is asked for
 
@@ -100,14 +100,14 @@ abbrev pub command_of : List (List ℕ) → AirUse → Job → Command
 -- `dump`: the listing of the lines, and the line that counts
 command_of words air (job.Dump recode) = record (idle_command air) {
   most = Some LONGEST_INPUT;
-  makes = λ octets. EndsBy listing_ending (DumpMakes octets recode);
+  makes = λ octets. ListingEnds octets recode;
 }
 -- `run`: the report of a run of the router, each port of which is attached
 command_of words air (job.Run turns) = record (idle_command air) {
   most = Some LONGEST_SETTINGS;
   refuses = λ octets number key. FirstRunRefusal octets number key;
   attaches = λ octets. (setup : RunSetup) → StatesSetup octets setup → air.told.attached' ≡ length setup.ports;
-  makes = λ octets. EndsBy always_done (RouterRunMakes octets turns air.told);
+  makes = λ octets. DoneBy (RouterRunMakes octets turns air.told);
   uses_air = λ octets. UsesNoAir air ⊎ RunsSoFar octets turns air.told;
   is_unattached = λ octets interface. RoseByOne air.faults air.faults' × FailsToAttach octets interface air.told;
   is_spent = λ octets count greatest end. (count ≡ turns) × SpendsTurns octets count greatest end air.told;
@@ -116,17 +116,17 @@ command_of words air (job.Run turns) = record (idle_command air) {
 command_of words air (job.Emulate trace send probe) = record (idle_command air) {
   most = Some LONGEST_SETTINGS;
   refuses = λ octets number key. IsRefused octets (wants_in words trace send probe) number key;
-  makes = λ octets. EndsBy always_done (EmulationMakes octets (wants_in words trace send probe));
+  makes = λ octets. DoneBy (EmulationMakes octets (wants_in words trace send probe));
 }
 -- `emulate --make`: the text of a run of the made scenario
 command_of words air (job.Make kind routers seed) = record (idle_command air) {
-  makes = λ octets. EndsBy always_done (MadeMakes kind routers seed);
+  makes = λ octets. DoneBy (MadeMakes kind routers seed);
 }
 -- `replay`: the line of the answer to the input
 command_of words air job.Replay = record (idle_command air) {
   most = Some LONGEST_INPUT;
   refuses = λ octets number key. IsRefusedInput octets number key;
-  makes = λ octets. EndsBy replay_ending (MakesOne (IsAnswerText octets));
+  makes = λ octets. ReplayEnds octets;
 }
 
 -- the command of a job in a call

@@ -2,15 +2,14 @@ use Rattle.std.proofs.Common.{[], ◌∷◌, ◌++◌, Err, Some, None, ap, ◌�
 use Rattle.mesh_run.specs.Run.{RouterRunMakes}
 use Rattle.mesh_run.specs.declared.fault.RunFault.TheVariants.{Stopped}
 use Rattle.mesh_tool.specs.Jobs.Calls.{air_use}
-use Rattle.mesh_tool.specs.Jobs.Commands.{always_done}
-use Rattle.mesh_tool.proofs.JobsLemmas.Outputs.{ends_all, ends_front, run_uses}
+use Rattle.mesh_tool.proofs.JobsLemmas.Outputs.{done_front, run_uses}
 use Rattle.mesh_tool.proofs.jobs.jobs.run.Goals as goal
 
 pub returns-in-Ok-clause-works : goal.returns-in-Ok-clause-works
 returns-in-Ok-clause-works g c = λ words.
     let air = air_use g.C.Clock.moments c.args.clock.now c.run.new.clock g.A.Air.reports g.A.Air.attached g.A.Air.faults c.args.air.now c.run.new.air in
     let done = c.in-Ok.ensures.done in
-    (ends_all always_done (RouterRunMakes c.args.octets.now c.args.turns air.told) _ _ tt done, inr (run_uses c.args.octets.now c.args.turns air.told done.0 (Some tt) done.1))
+    (done, inr (run_uses c.args.octets.now c.args.turns air.told done.0 (Some tt) done.1))
 
 pub returns-in-Err-Refused-clause-works : goal.returns-in-Err-Refused-clause-works
 returns-in-Err-Refused-clause-works g c = λ words.
@@ -30,7 +29,7 @@ pub returns-in-Err-Stopped-Write-clause-works : goal.returns-in-Err-Stopped-Writ
 returns-in-Err-Stopped-Write-clause-works g c = λ words.
     let air = air_use g.C.Clock.moments c.args.clock.now c.run.new.clock g.A.Air.reports g.A.Air.attached g.A.Air.faults c.args.air.now c.run.new.air in
     let cut = c.in-Err-Stopped-Write.ensures.write (ap (λ fault. Err fault) (c.in-Err-Stopped-Write.field-0-is ∙ ap (λ stop. Stopped stop) c.in-Err-Stopped-Write.field-0-0-is)) in
-    (ends_front always_done (RouterRunMakes c.args.octets.now c.args.turns air.told) _ _ _ _ cut, inr (run_uses c.args.octets.now c.args.turns air.told (cut.1 ++ cut.2 ∷ []) cut.3 cut.4))
+    (done_front (RouterRunMakes c.args.octets.now c.args.turns air.told) _ _ _ _ cut, inr (run_uses c.args.octets.now c.args.turns air.told (cut.1 ++ cut.2 ∷ []) cut.3 cut.4))
 
 pub returns-in-Err-Stopped-Memory-clause-works : goal.returns-in-Err-Stopped-Memory-clause-works
 returns-in-Err-Stopped-Memory-clause-works g c = λ words.
