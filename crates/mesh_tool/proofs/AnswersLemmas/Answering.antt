@@ -1,20 +1,15 @@
 -- What the program answers, from what was done and the line that was put on err.
-use Rattle.std.proofs.Common.{◌≡◌, ℕ, ◌+◌, ◌<◌, ◌≤◌, ◌⊎◌, inl, inr, List, [], length, Option, Some, None, Result, Ok, Err, Bool, refl, sym, subst, arith}
+use Rattle.std.proofs.Common.{◌≡◌, ℕ, ◌+◌, ◌<◌, ◌≤◌, ◌⊎◌, inl, inr, List, [], length, Option, Some, None, Result, Ok, Err, refl, sym, subst, arith}
 use Rattle.std.specs.Prelude.{IsErr, codes}
-use Rattle.mesh_atoms.specs.declared.addr.Addr4.{Addr4}
 use Rattle.mesh_atoms.proofs.Options.{none_not, same_ok}
 use Rattle.mesh_config.specs.RunSettings.{run_refusals, FirstRunRefusal}
-use Rattle.mesh_dump.specs.Dump.{DumpMakes}
-use Rattle.mesh_emulate.specs.Emulation.{EmulationMakes}
 use Rattle.mesh_emulate.proofs.Refusals.{emulated_not_refused}
 use Rattle.mesh_io.specs.Faults.{Rose}
 use Rattle.mesh_io.specs.Pieces.{MakesOne, PutsAll}
-use Rattle.mesh_emulate.specs.Making.Made.{MadeMakes}
-use Rattle.mesh_replay.specs.declared.answer.Replay.{Replay}
 use Rattle.mesh_replay.specs.declared.answer.Replay.TheVariants.{Yes, No}
 use Rattle.mesh_replay.specs.Command.Replays.{IsAnswerText}
 use Rattle.mesh_replay.proofs.CommandLemmas.Once.{answers_or_refuses}
-use Rattle.mesh_run.specs.Run.{StatesSetup, SpendsTurns, FailsToAttach, RouterRunMakes}
+use Rattle.mesh_run.specs.Run.{StatesSetup, SpendsTurns, FailsToAttach}
 use Rattle.mesh_config.specs.Keys.Faults.{fault, first}
 use Rattle.mesh_tool.specs.declared.jobs.ending.Ending.{Ending}
 use Rattle.mesh_tool.specs.declared.jobs.ending.Ending.TheVariants as ending
@@ -132,26 +127,6 @@ finishes : (call : Call) (answer : Status) (j : Job) → OutputStands call answe
 finishes call answer j (Is_whole whole quiet) same asks = whole_done call j whole same asks
 finishes call answer j (Is_told t) same asks = absurd (subst IsFault same (fault_told t.due))
 finishes call answer j (Is_failed failed f) same asks = let bad : ⊥ = cc in absurd bad
-
-dumped : (call : Call) (recode : Bool) → Finishes call (job.Dump recode) ending.Done
-    → (octets : List ℕ) × IsInput 67108864 call.input octets × PutsAll (DumpMakes octets recode) call.out.content call.out.content' 0
-dumped call recode fin = (fin.octets, fin.works_on, fin.puts)
-
-ran : (call : Call) (turns : ℕ) → Finishes call (job.Run turns) ending.Done
-    → (octets : List ℕ) × IsInput 1048576 call.input octets × PutsAll (RouterRunMakes octets turns call.air.told) call.out.content call.out.content' tt
-ran call turns fin = (fin.octets, fin.works_on, fin.puts)
-
-emulated : (call : Call) (trace : Bool) (send : Option (ℕ × Addr4)) (probe : Option ℕ) → Finishes call (job.Emulate trace send probe) ending.Done
-    → (octets : List ℕ) × IsInput 1048576 call.input octets × PutsAll (EmulationMakes octets (wants_in call.words trace send probe)) call.out.content call.out.content' tt
-emulated call trace send probe fin = (fin.octets, fin.works_on, fin.puts)
-
-made : (call : Call) (kind : Kind) (routers seed : ℕ) → Finishes call (job.Make kind routers seed) ending.Done
-    → PutsAll (MadeMakes kind routers seed) call.out.content call.out.content' tt × ReadsNothing call.input
-made call kind routers seed fin = (fin.puts, fin.works_on.1)
-
-replayed : (call : Call) → Finishes call job.Replay ending.Done
-    → (octets : List ℕ) × IsInput 67108864 call.input octets × (lines : ℕ) × PutsAll (MakesOne (IsAnswerText octets)) call.out.content call.out.content' (Yes lines)
-replayed call fin = let (pieces, (lines, made), stands) = fin.puts in (fin.octets, fin.works_on, lines, (pieces, made, stands))
 
 -- ---- what `replay` left where it isn't done
 
@@ -413,13 +388,15 @@ answers call how answer does tells later_input later_out later_err later_air =
     let e : OutputStands call answer = ends call how answer does tells in
     record {
       ends = e;
-      dumped = λ recode same asks. dumped call recode (finishes call answer (job.Dump recode) e same asks);
-      ran = λ turns same asks. ran call turns (finishes call answer (job.Run turns) e same asks);
+      dumped = λ recode same asks. let fin = finishes call answer (job.Dump recode) e same asks in (fin.octets, fin.works_on, fin.puts);
+      ran = λ turns same asks. let fin = finishes call answer (job.Run turns) e same asks in (fin.octets, fin.works_on, fin.puts);
       hands = λ turns asks. hands call how does turns asks;
       airless = λ j asks other. airless call how does j asks other;
-      emulated = λ trace send probe same asks. emulated call trace send probe (finishes call answer (job.Emulate trace send probe) e same asks);
-      made = λ kind routers seed same asks. made call kind routers seed (finishes call answer (job.Make kind routers seed) e same asks);
-      replayed = λ same asks. replayed call (finishes call answer job.Replay e same asks);
+      emulated = λ trace send probe same asks. let fin = finishes call answer (job.Emulate trace send probe) e same asks in (fin.octets, fin.works_on, fin.puts);
+      made = λ kind routers seed same asks. let fin = finishes call answer (job.Make kind routers seed) e same asks in (fin.puts, fin.works_on.1);
+      replayed = λ same asks.
+          let fin = finishes call answer job.Replay e same asks in
+          let (pieces, (lines, made), stands) = fin.puts in (fin.octets, fin.works_on, lines, (pieces, made, stands));
       not_a_run = λ same. not_a_run call answer e same;
       not_replayed = λ same asks. not_replayed call answer e same asks;
       unread = λ kind routers seed asks. unread call how does kind routers seed asks;
