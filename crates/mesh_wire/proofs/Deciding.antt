@@ -8,8 +8,8 @@ use Rattle.mesh_atoms.specs.Codes.Codes.{time_at_distance}
 use Rattle.mesh_packet.specs.Fields.{MessageFields}
 use Rattle.mesh_tlv.specs.Fields.{TlvFields}
 use Rattle.mesh_wire.specs.declared.collect.AddressParts.{AddressParts}
-use Rattle.mesh_wire.specs.declared.parts.SingleNumber.{SingleNumber}
-use Rattle.mesh_wire.specs.declared.parts.SingleNumber.TheVariants.{Unsaid, Said, Several}
+use Rattle.mesh_wire.specs.declared.singles.Single.{Single}
+use Rattle.mesh_wire.specs.declared.singles.Single.TheVariants.{Absent, Value, Conflict}
 use Rattle.mesh_wire.specs.Hello.{HasWilling}
 use Rattle.mesh_wire.specs.HelloHeading.{IsOther}
 use Rattle.mesh_wire.specs.HelloRows.{MetricFrom}
@@ -135,10 +135,10 @@ content_or m = by (contents_of m) refl
 -- ---- rows
 
 -- the metric of a code that is kept
-pub metric_of : (m : MessageFields) → HasOctets m → (net : NetAddr) (kind : MetricKind) (one : SingleNumber) → OneIs (Shows (HasValue m net link_metric) (flag_of kind)) one → (metric : Option Metric) × MetricFrom one metric
-metric_of m octets net kind Unsaid h = (None, refl)
-metric_of m octets net kind Several h = (None, refl)
-metric_of m octets net kind (Said n) h =
+pub metric_of : (m : MessageFields) → HasOctets m → (net : NetAddr) (kind : MetricKind) (one : Single ℕ) → OneIs (Shows (HasValue m net link_metric) (flag_of kind)) one → (metric : Option Metric) × MetricFrom one metric
+metric_of m octets net kind Absent h = (None, refl)
+metric_of m octets net kind Conflict h = (None, refl)
+metric_of m octets net kind (Value n) h =
     let (high, low, (value, part, is), on, code) = h.0 in
     let below : low < 256 = octets.parts net (record { kind = link_metric; ext = 0; value = value }) part low (subst (λ (l : List ℕ). Contains l low) is (in_tail high (low ∷ []) low (at_head low []))) in
     (Some (record { code = n / 16; in_range = omega (arith, below, code) }), refl)

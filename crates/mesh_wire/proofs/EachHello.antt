@@ -14,7 +14,7 @@ use Rattle.mesh_wire.specs.declared.hello.HelloHeader.{HelloHeader}
 use Rattle.mesh_wire.specs.Entries.{of_blocks}
 use Rattle.mesh_wire.specs.Hello.{OriginatorIs, HelloIs}
 use Rattle.mesh_wire.specs.HelloHeading.{HeadingIs}
-use Rattle.mesh_wire.specs.HelloRows.{number_from, local_from, link_from, other_from, HelloRowFrom}
+use Rattle.mesh_wire.specs.HelloRows.{local_from, link_from, other_from, HelloRowFrom}
 use Rattle.mesh_wire.specs.HelloRules.{BreaksHello, AddressWidth, HopLimit, HopCount, NoValidity, WrongInterval, WrongWilling}
 use Rattle.mesh_wire.specs.Laws.{HasOctets, ReadsOrBreaks}
 use Rattle.mesh_wire.specs.Made.{HasRows}
@@ -22,6 +22,7 @@ use Rattle.mesh_wire.specs.Metrics.{Link_in, Link_out, Near_in, Near_out}
 use Rattle.mesh_wire.specs.RowRules.{hello_rule}
 use Rattle.mesh_wire.specs.Rows.{HasValue}
 use Rattle.mesh_wire.specs.Rules.{Keeps}
+use Rattle.mesh_wire.specs.Singles.{value_from}
 use Rattle.mesh_wire.proofs.Deciding.{other_or, validity_or, interval_or, willing_or, willing_octet, metric_of}
 use Rattle.mesh_wire.proofs.HelloHeading.{first_number, width_kept, limit_kept, count_kept, validity_kept, interval_kept, willing_kept}
 use Rattle.mesh_wire.proofs.HelloRead.{rule_found, rows_found}
@@ -30,7 +31,7 @@ use Rattle.mesh_wire.proofs.Slots.{RowIs}
 
 -- ---- a row of what is kept
 
-row_by : (m : MessageFields) → HasOctets m → (t : AddressParts) → RowIs (HasValue m t.net) t.parts → (o : Option ℕ) → number_from t.parts.local.one ≡ o → (r : HelloRow) × HelloRowFrom t r
+row_by : (m : MessageFields) → HasOctets m → (t : AddressParts) → RowIs (HasValue m t.net) t.parts → (o : Option ℕ) → value_from t.parts.local.one ≡ o → (r : HelloRow) × HelloRowFrom t r
 row_by m octets t h (Some n) e = (
   record {
     addr = t.net;
@@ -55,8 +56,8 @@ row_by m octets t h None e =
       record {
         addr = t.net;
         local = None;
-        link = option_map link_from (number_from t.parts.link.one);
-        other = option_map other_from (number_from t.parts.other.one);
+        link = option_map link_from (value_from t.parts.link.one);
+        other = option_map other_from (value_from t.parts.other.one);
         metrics = record { link_in = a.0; link_out = b.0; near_in = c.0; near_out = d.0 };
         mpr = record { flooding = t.parts.flooding; routing = t.parts.routing };
       },
@@ -76,7 +77,7 @@ originator_of (Some address) = (Some (record { 0 = address_in address.octets }),
 
 module _ (m : MessageFields) (octets : HasOctets m) where
   of_heading : (heading : HelloHeader) → HeadingIs m heading → Outcome (HelloIs m) (BreaksHello m)
-  of_heading heading h = of_rows m HelloRowFrom hello_rule (HelloIs m) (BreaksHello m) (λ t is. row_by m octets t is (number_from t.parts.local.one) refl) (rule_found m heading h) value
+  of_heading heading h = of_rows m HelloRowFrom hello_rule (HelloIs m) (BreaksHello m) (λ t is. row_by m octets t is (value_from t.parts.local.one) refl) (rule_found m heading h) value
     where
       value : (rows : List HelloRow) → HasRows HelloRowFrom hello_rule (of_blocks m.blocks) rows → (hello : Hello) × HelloIs m hello × Keeps (BreaksHello m)
       value rows has =

@@ -14,7 +14,6 @@ use Rattle.mesh_wire.specs.declared.collect.AddressParts.{AddressParts}
 use Rattle.mesh_wire.specs.declared.tc.TcHeader.{TcHeader}
 use Rattle.mesh_wire.specs.Entries.{of_blocks}
 use Rattle.mesh_wire.specs.Hello.{OriginatorIs}
-use Rattle.mesh_wire.specs.HelloRows.{number_from}
 use Rattle.mesh_wire.specs.Laws.{HasOctets, ReadsOrBreaks}
 use Rattle.mesh_wire.specs.Made.{HasRows}
 use Rattle.mesh_wire.specs.Metrics.{Near_out}
@@ -25,6 +24,7 @@ use Rattle.mesh_wire.specs.Tc.{TcIs}
 use Rattle.mesh_wire.specs.TcHeading.{TcHeadingIs, TcRowFrom}
 use Rattle.mesh_wire.specs.TcRules.{BreaksTc, AddressWidth, NoOriginator, NoSequence, NoValidity, WrongInterval, Content}
 use Rattle.mesh_wire.specs.Times.{distance_of}
+use Rattle.mesh_wire.specs.Singles.{value_from}
 use Rattle.mesh_wire.proofs.Deciding.{validity_or, interval_or, content_or, metric_of}
 use Rattle.mesh_wire.proofs.InOrder.{NoneBelow, Decided, Outcome, first_or_none, of_either, of_rows}
 use Rattle.mesh_wire.proofs.Slots.{RowIs}
@@ -34,7 +34,7 @@ use Rattle.mesh_wire.proofs.TcRead.{rule_found, rows_found}
 row_of : (m : MessageFields) → HasOctets m → (t : AddressParts) → RowIs (HasValue m t.net) t.parts → (r : TcRow) × TcRowFrom t r
 row_of m octets t h =
     let a = metric_of m octets t.net Near_out t.parts.near_out h.near_out in (
-      record { dest = t.net; origin = t.parts.origin; routable = t.parts.routable; gateway = option_map (λ (n : ℕ). n / 256) (number_from t.parts.gateway); metric = a.0 },
+      record { dest = t.net; origin = t.parts.origin; routable = t.parts.routable; gateway = option_map (λ (n : ℕ). n / 256) (value_from t.parts.gateway); metric = a.0 },
       record { dest = refl; origin = refl; routable = refl; gateway = refl; metric = a.1 },
     )
 

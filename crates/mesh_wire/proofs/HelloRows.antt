@@ -7,17 +7,17 @@ use Rattle.mesh_atoms.specs.declared.codes.metric.Metric.{Metric}
 use Rattle.mesh_atoms.specs.declared.hello.HelloRow.{HelloRow}
 use Rattle.mesh_packet.specs.Fields.{MessageFields}
 use Rattle.mesh_wire.specs.declared.collect.AddressParts.{AddressParts}
-use Rattle.mesh_wire.specs.declared.parts.SingleNumber.{SingleNumber}
-use Rattle.mesh_wire.specs.declared.parts.SingleNumber.TheVariants.{Unsaid, Said, Several}
+use Rattle.mesh_wire.specs.declared.singles.Single.{Single}
+use Rattle.mesh_wire.specs.declared.singles.Single.TheVariants.{Absent, Value, Conflict}
 use Rattle.mesh_wire.specs.declared.parts.Octets.{Octets}
-use Rattle.mesh_wire.specs.RowRules.{is_several}
 use Rattle.mesh_wire.specs.Hello.{local_value, link_value, other_value, IsReadHelloRow}
-use Rattle.mesh_wire.specs.HelloRows.{number_from, local_from, link_from, other_from, MetricFrom, HelloRowFrom}
+use Rattle.mesh_wire.specs.HelloRows.{local_from, link_from, other_from, MetricFrom, HelloRowFrom}
 use Rattle.mesh_wire.specs.Kinds.{local_if, link_status, other_neighb, link_metric, mpr}
 use Rattle.mesh_wire.specs.Made.{AreMade}
 use Rattle.mesh_wire.specs.Metrics.{MetricKind, Link_in, Link_out, Near_in, Near_out, flag_of, ShowsMetric, MetricIs}
 use Rattle.mesh_wire.specs.Rows.{HoldsAddress, HasValue, OctetIs, SaysFlag, AreRows}
 use Rattle.mesh_wire.specs.Rules.{IsOctet}
+use Rattle.mesh_wire.specs.Singles.{is_conflict, value_from}
 use Rattle.mesh_wire.proofs.HelloRuled.{code_of, of_code, Sound}
 use Rattle.mesh_wire.proofs.Kept.{AreTold, right_octet, in_range}
 use Rattle.mesh_wire.proofs.Made.{made_from, made_of, ascending_made}
@@ -26,12 +26,12 @@ use Rattle.std.proofs.lemmas.Bool.{or_parts}
 
 -- ---- one octet
 
-octet_of : (m : MessageFields) (net : NetAddr) (kind low bound : ℕ) (one : SingleNumber) → OneIs (InRange (HasValue m net kind) low bound) one → ((x : List ℕ) → HasValue m net kind x → IsOctet low bound x) → is_several one ≡ false → OctetIs m net kind (number_from one)
-octet_of m net kind low bound Unsaid h right e = λ x said. (let i = right x said in h i.0 (in_range (HasValue m net kind) low bound x said i))
-octet_of m net kind low bound (Said n) h right e = h.0.0
-octet_of m net kind low bound Several h right e = absurd (cc)
+octet_of : (m : MessageFields) (net : NetAddr) (kind low bound : ℕ) (one : Single ℕ) → OneIs (InRange (HasValue m net kind) low bound) one → ((x : List ℕ) → HasValue m net kind x → IsOctet low bound x) → is_conflict one ≡ false → OctetIs m net kind (value_from one)
+octet_of m net kind low bound Absent h right e = λ x said. (let i = right x said in h i.0 (in_range (HasValue m net kind) low bound x said i))
+octet_of m net kind low bound (Value n) h right e = h.0.0
+octet_of m net kind low bound Conflict h right e = absurd (cc)
 
-pub octet_is : (m : MessageFields) (net : NetAddr) (kind low bound : ℕ) (o : Octets) → OctetsAre (HasValue m net kind) low bound o → o.wrong ≡ false → is_several o.one ≡ false → OctetIs m net kind (number_from o.one)
+pub octet_is : (m : MessageFields) (net : NetAddr) (kind low bound : ℕ) (o : Octets) → OctetsAre (HasValue m net kind) low bound o → o.wrong ≡ false → is_conflict o.one ≡ false → OctetIs m net kind (value_from o.one)
 octet_is m net kind low bound o h wrong one = octet_of m net kind low bound o.one h.one (right_octet (HasValue m net kind) low bound o h wrong) one
 
 -- a number that is there is below the bound
@@ -39,10 +39,10 @@ abbrev Below : ℕ → Option ℕ → Type 0
 Below bound None = Unit {0}
 Below bound (Some n) = n < bound
 
-below_of : (S : List ℕ → Type 0) (low bound : ℕ) (one : SingleNumber) → OneIs (InRange S low bound) one → Below bound (number_from one)
-below_of S low bound Unsaid h = tt
-below_of S low bound (Said n) h = h.0.2
-below_of S low bound Several h = tt
+below_of : (S : List ℕ → Type 0) (low bound : ℕ) (one : Single ℕ) → OneIs (InRange S low bound) one → Below bound (value_from one)
+below_of S low bound Absent h = tt
+below_of S low bound (Value n) h = h.0.2
+below_of S low bound Conflict h = tt
 
 back_again : {X : Type 0} (value : X → ℕ) (from : ℕ → X) (bound : ℕ) (o : Option ℕ) → ((n : ℕ) → n < bound → value (from n) ≡ n) → Below bound o → option_map value (option_map from o) ≡ o
 back_again value from bound None back h = refl
@@ -69,15 +69,15 @@ other_back (suc (suc n)) h = absurd (omega arith)
 sixteenth : (n code : ℕ) → n ≡ 16 * code → n / 16 ≡ code
 sixteenth n code e = omega (arith, e)
 
-pub metric_is : (m : MessageFields) (net : NetAddr) (kind : MetricKind) (one : SingleNumber) (metric : Option Metric) → OneIs (Shows (HasValue m net link_metric) (flag_of kind)) one → is_several one ≡ false → MetricFrom one metric → MetricIs m net kind metric
-metric_is m net kind Unsaid None h e f = λ code shows. h (16 * code) (of_code m net kind code shows)
-metric_is m net kind Unsaid (Some metric) h e f = absurd (cc)
-metric_is m net kind (Said n) None h e f = absurd (cc)
-metric_is m net kind (Said n) (Some metric) h e f =
+pub metric_is : (m : MessageFields) (net : NetAddr) (kind : MetricKind) (one : Single ℕ) (metric : Option Metric) → OneIs (Shows (HasValue m net link_metric) (flag_of kind)) one → is_conflict one ≡ false → MetricFrom one metric → MetricIs m net kind metric
+metric_is m net kind Absent None h e f = λ code shows. h (16 * code) (of_code m net kind code shows)
+metric_is m net kind Absent (Some metric) h e f = absurd (cc)
+metric_is m net kind (Value n) None h e f = absurd (cc)
+metric_is m net kind (Value n) (Some metric) h e f =
     let (code, shows, is) = code_of m net kind n h.0 in
     let same : metric.code ≡ n / 16 = cc in
     subst (ShowsMetric m net kind) (sym (same ∙ sixteenth n code is)) shows
-metric_is m net kind Several metric h e f = absurd (cc)
+metric_is m net kind Conflict metric h e f = absurd (cc)
 
 -- ---- one row
 
@@ -86,20 +86,20 @@ flag_is P a b e h = subst (λ (x : Bool). IsTrue x ↔ P) (sym e) h
 
 module _ (m : MessageFields) (t : AddressParts) (r : HelloRow) (kept : RowIs (HasValue m t.net) t.parts) (made : HelloRowFrom t r)
     (wrong : (t.parts.local.wrong ≡ false) × (t.parts.link.wrong ≡ false) × (t.parts.other.wrong ≡ false))
-    (one : (is_several t.parts.local.one ≡ false) × (is_several t.parts.link.one ≡ false) × (is_several t.parts.other.one ≡ false))
-    (links : (is_several t.parts.link_in ≡ false) × (is_several t.parts.link_out ≡ false) × (is_several t.parts.near_in ≡ false) × (is_several t.parts.near_out ≡ false)) where
+    (one : (is_conflict t.parts.local.one ≡ false) × (is_conflict t.parts.link.one ≡ false) × (is_conflict t.parts.other.one ≡ false))
+    (links : (is_conflict t.parts.link_in ≡ false) × (is_conflict t.parts.link_out ≡ false) × (is_conflict t.parts.near_in ≡ false) × (is_conflict t.parts.near_out ≡ false)) where
   here : RowIs (HasValue m r.addr) t.parts
   here = subst (λ (n : NetAddr). RowIs (HasValue m n) t.parts) (sym made.addr) kept
 
   pub row_is : IsReadHelloRow m r
   row_is = record {
     local =
-        let back : option_map local_value r.local ≡ number_from t.parts.local.one = ap (option_map local_value) made.local ∙ back_again local_value local_from 2 (number_from t.parts.local.one) local_back (below_of (HasValue m r.addr 2) 0 2 t.parts.local.one here.local.one) in
+        let back : option_map local_value r.local ≡ value_from t.parts.local.one = ap (option_map local_value) made.local ∙ back_again local_value local_from 2 (value_from t.parts.local.one) local_back (below_of (HasValue m r.addr 2) 0 2 t.parts.local.one here.local.one) in
         subst (OctetIs m r.addr local_if) (sym back) (octet_is m r.addr 2 0 2 t.parts.local here.local wrong.0 one.0);
     of_other = λ none.
         let k = made.of_other none in
-        let link : option_map link_value r.link ≡ number_from t.parts.link.one = ap (option_map link_value) k.link ∙ back_again link_value link_from 3 (number_from t.parts.link.one) link_back (below_of (HasValue m r.addr 3) 0 3 t.parts.link.one here.link.one) in
-        let other : option_map other_value r.other ≡ number_from t.parts.other.one = ap (option_map other_value) k.other ∙ back_again other_value other_from 2 (number_from t.parts.other.one) other_back (below_of (HasValue m r.addr 4) 0 2 t.parts.other.one here.other.one) in
+        let link : option_map link_value r.link ≡ value_from t.parts.link.one = ap (option_map link_value) k.link ∙ back_again link_value link_from 3 (value_from t.parts.link.one) link_back (below_of (HasValue m r.addr 3) 0 3 t.parts.link.one here.link.one) in
+        let other : option_map other_value r.other ≡ value_from t.parts.other.one = ap (option_map other_value) k.other ∙ back_again other_value other_from 2 (value_from t.parts.other.one) other_back (below_of (HasValue m r.addr 4) 0 2 t.parts.other.one here.other.one) in
         record {
           link = subst (OctetIs m r.addr link_status) (sym link) (octet_is m r.addr 3 0 3 t.parts.link here.link wrong.1 one.1);
           other = subst (OctetIs m r.addr other_neighb) (sym other) (octet_is m r.addr 4 0 2 t.parts.other here.other wrong.2 one.2);
@@ -133,8 +133,8 @@ rows_are m told are rows sound h = record {
       let s = sound t there in
       let k = are.each t there in (
         subst (HoldsAddress m) (sym made.addr) k.0,
-        row_is m t r k.1 made (parts_of t.parts.local.wrong t.parts.link.wrong t.parts.other.wrong s.defined) (parts_of (is_several t.parts.local.one) (is_several t.parts.link.one) (is_several t.parts.other.one) s.one)
-            (codes_of t.parts.wrong_metric (is_several t.parts.link_in) (is_several t.parts.link_out) (is_several t.parts.near_in) (is_several t.parts.near_out) s.metric),
+        row_is m t r k.1 made (parts_of t.parts.local.wrong t.parts.link.wrong t.parts.other.wrong s.defined) (parts_of (is_conflict t.parts.local.one) (is_conflict t.parts.link.one) (is_conflict t.parts.other.one) s.one)
+            (codes_of t.parts.wrong_metric (is_conflict t.parts.link_in) (is_conflict t.parts.link_out) (is_conflict t.parts.near_in) (is_conflict t.parts.near_out) s.metric),
       );
   all = λ net has.
       let (t, there, is) = are.all net has in

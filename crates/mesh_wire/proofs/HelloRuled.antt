@@ -5,15 +5,16 @@ use Rattle.std.proofs.lemmas.Bool.{cases_Bool, ltb-true, lt-ltb, and_parts as bo
 use Rattle.mesh_atoms.specs.declared.addr.NetAddr.{NetAddr}
 use Rattle.mesh_packet.specs.Fields.{MessageFields}
 use Rattle.mesh_wire.specs.declared.collect.AddressParts.{AddressParts}
-use Rattle.mesh_wire.specs.declared.parts.SingleNumber.{SingleNumber}
+use Rattle.mesh_wire.specs.declared.singles.Single.{Single}
 use Rattle.mesh_wire.specs.declared.parts.Octets.{Octets}
 use Rattle.mesh_wire.specs.declared.parts.RowParts.{RowParts}
-use Rattle.mesh_wire.specs.RowRules.{is_several, is_said, is_undefined, has_two, has_status, has_wrong_metric, hello_rule}
+use Rattle.mesh_wire.specs.RowRules.{is_undefined, has_two, has_status, has_wrong_metric, hello_rule}
 use Rattle.mesh_wire.specs.HelloRules.{BreaksHello, AddressWidth, HopLimit, HopCount, NoValidity, WrongInterval, WrongWilling, Undefined, TwoValues, ShortPrefix, WrongMetric}
 use Rattle.mesh_wire.specs.Kinds.{IsStatusBelow, link_metric}
 use Rattle.mesh_wire.specs.Metrics.{MetricKind, Link_in, Link_out, Near_in, Near_out, flag_of, ShowsMetric, HasWrongMetric}
 use Rattle.mesh_wire.specs.Rows.{HoldsAddress, HasValue}
-use Rattle.mesh_wire.proofs.Kept.{AreTold, told_of, says_has, right_octet, in_range, differ_several, several_differ, one_said, said_one}
+use Rattle.mesh_wire.specs.Singles.{is_conflict, is_said}
+use Rattle.mesh_wire.proofs.Kept.{AreTold, told_of, says_has, right_octet, in_range, differ_conflict, conflict_differ, one_said, said_one}
 use Rattle.mesh_wire.proofs.Ruled.{Decides, Reaches}
 use Rattle.mesh_wire.proofs.Slots.{OneIs, InRange, OctetsAre, Shows, RowIs}
 
@@ -61,31 +62,31 @@ code_of m net kind n (high, low, said, on, is) = (256 * (high % 16) + low, (high
 pub of_code : (m : MessageFields) (net : NetAddr) (kind : MetricKind) (code : ℕ) → ShowsMetric m net kind code → Shows (HasValue m net link_metric) (flag_of kind) (16 * code)
 of_code m net kind code (high, low, said, on, is) = (high, low, said, on, ap (λ (k : ℕ). 16 * k) is)
 
-two_codes : (m : MessageFields) (net : NetAddr) (kind : MetricKind) (one : SingleNumber) → OneIs (Shows (HasValue m net link_metric) (flag_of kind)) one → is_several one ≡ true → HasWrongMetric m net
+two_codes : (m : MessageFields) (net : NetAddr) (kind : MetricKind) (one : Single ℕ) → OneIs (Shows (HasValue m net link_metric) (flag_of kind)) one → is_conflict one ≡ true → HasWrongMetric m net
 two_codes m net kind one h e =
-    let (a, b, x, y, d) = several_differ (Shows (HasValue m net link_metric) (flag_of kind)) one h e in
+    let (a, b, x, y, d) = conflict_differ (Shows (HasValue m net link_metric) (flag_of kind)) one h e in
     let (c, s, f) = code_of m net kind a x in
     let (k, t, g) = code_of m net kind b y in
     inr (kind, c, k, s, t, λ same. d (f ∙ ap (λ (j : ℕ). 16 * j) same ∙ sym g))
 
-codes_two : (m : MessageFields) (net : NetAddr) (kind : MetricKind) (one : SingleNumber) (a b : ℕ) → OneIs (Shows (HasValue m net link_metric) (flag_of kind)) one → ShowsMetric m net kind a → ShowsMetric m net kind b → a ≢ b → is_several one ≡ true
-codes_two m net kind one a b h x y d = differ_several (Shows (HasValue m net link_metric) (flag_of kind)) one (16 * a) (16 * b) h (of_code m net kind a x) (of_code m net kind b y) (λ e. d (omega (arith, e)))
+codes_two : (m : MessageFields) (net : NetAddr) (kind : MetricKind) (one : Single ℕ) (a b : ℕ) → OneIs (Shows (HasValue m net link_metric) (flag_of kind)) one → ShowsMetric m net kind a → ShowsMetric m net kind b → a ≢ b → is_conflict one ≡ true
+codes_two m net kind one a b h x y d = differ_conflict (Shows (HasValue m net link_metric) (flag_of kind)) one (16 * a) (16 * b) h (of_code m net kind a x) (of_code m net kind b y) (λ e. d (omega (arith, e)))
 
 pub wrong_metric : (m : MessageFields) (net : NetAddr) (r : RowParts) → RowIs (HasValue m net) r → has_wrong_metric r ≡ true → HasWrongMetric m net
-wrong_metric m net r h e = elim (or_cases r.wrong_metric ((is_several r.link_in || is_several r.link_out) || (is_several r.near_in || is_several r.near_out)) e) [
+wrong_metric m net r h e = elim (or_cases r.wrong_metric ((is_conflict r.link_in || is_conflict r.link_out) || (is_conflict r.near_in || is_conflict r.near_out)) e) [
   | inl w ↦ inl (h.wrong_metric.0 w)
-  | inr some ↦ elim (or_cases (is_several r.link_in || is_several r.link_out) (is_several r.near_in || is_several r.near_out) some) [
-    | inl l ↦ elim (or_cases (is_several r.link_in) (is_several r.link_out) l) [ inl x ↦ two_codes m net Link_in r.link_in h.link_in x | inr x ↦ two_codes m net Link_out r.link_out h.link_out x ]
-    | inr l ↦ elim (or_cases (is_several r.near_in) (is_several r.near_out) l) [ inl x ↦ two_codes m net Near_in r.near_in h.near_in x | inr x ↦ two_codes m net Near_out r.near_out h.near_out x ]
+  | inr some ↦ elim (or_cases (is_conflict r.link_in || is_conflict r.link_out) (is_conflict r.near_in || is_conflict r.near_out) some) [
+    | inl l ↦ elim (or_cases (is_conflict r.link_in) (is_conflict r.link_out) l) [ inl x ↦ two_codes m net Link_in r.link_in h.link_in x | inr x ↦ two_codes m net Link_out r.link_out h.link_out x ]
+    | inr l ↦ elim (or_cases (is_conflict r.near_in) (is_conflict r.near_out) l) [ inl x ↦ two_codes m net Near_in r.near_in h.near_in x | inr x ↦ two_codes m net Near_out r.near_out h.near_out x ]
   ]
 ]
 
 module _ (r : RowParts) where
   abbrev links : Bool
-  links = is_several r.link_in || is_several r.link_out
+  links = is_conflict r.link_in || is_conflict r.link_out
 
   abbrev nears : Bool
-  nears = is_several r.near_in || is_several r.near_out
+  nears = is_conflict r.near_in || is_conflict r.near_out
 
   of_link : links ≡ true → has_wrong_metric r ≡ true
   of_link e = or_right r.wrong_metric (links || nears) (or_left links nears e)
@@ -95,10 +96,10 @@ module _ (r : RowParts) where
 
 pub metric_wrong : (m : MessageFields) (net : NetAddr) (r : RowParts) → RowIs (HasValue m net) r → HasWrongMetric m net → has_wrong_metric r ≡ true
 metric_wrong m net r h (inl w) = or_left r.wrong_metric (links r || nears r) (h.wrong_metric.1 w)
-metric_wrong m net r h (inr (Link_in, a, b, x, y, d)) = of_link r (or_left (is_several r.link_in) (is_several r.link_out) (codes_two m net Link_in r.link_in a b h.link_in x y d))
-metric_wrong m net r h (inr (Link_out, a, b, x, y, d)) = of_link r (or_right (is_several r.link_in) (is_several r.link_out) (codes_two m net Link_out r.link_out a b h.link_out x y d))
-metric_wrong m net r h (inr (Near_in, a, b, x, y, d)) = of_near r (or_left (is_several r.near_in) (is_several r.near_out) (codes_two m net Near_in r.near_in a b h.near_in x y d))
-metric_wrong m net r h (inr (Near_out, a, b, x, y, d)) = of_near r (or_right (is_several r.near_in) (is_several r.near_out) (codes_two m net Near_out r.near_out a b h.near_out x y d))
+metric_wrong m net r h (inr (Link_in, a, b, x, y, d)) = of_link r (or_left (is_conflict r.link_in) (is_conflict r.link_out) (codes_two m net Link_in r.link_in a b h.link_in x y d))
+metric_wrong m net r h (inr (Link_out, a, b, x, y, d)) = of_link r (or_right (is_conflict r.link_in) (is_conflict r.link_out) (codes_two m net Link_out r.link_out a b h.link_out x y d))
+metric_wrong m net r h (inr (Near_in, a, b, x, y, d)) = of_near r (or_left (is_conflict r.near_in) (is_conflict r.near_out) (codes_two m net Near_in r.near_in a b h.near_in x y d))
+metric_wrong m net r h (inr (Near_out, a, b, x, y, d)) = of_near r (or_right (is_conflict r.near_in) (is_conflict r.near_out) (codes_two m net Near_out r.near_out a b h.near_out x y d))
 
 pub wrong_metric_has : (m : MessageFields) (net : NetAddr) → HasWrongMetric m net → HoldsAddress m net
 wrong_metric_has m net (inl (x, said, other)) = says_has m net 7 x said
@@ -175,9 +176,9 @@ module _ (m : MessageFields) (rows : List AddressParts) (are : AreTold m rows) w
 
   two : (t : AddressParts) → Contains rows t → has_two t.parts ≡ true → BreaksHello m 27 (Some t.net)
   two t has e =
-      let (kind, bound, status, w) = three_one (λ (o : Octets). is_several o.one) t.parts e in
+      let (kind, bound, status, w) = three_one (λ (o : Octets). is_conflict o.one) t.parts e in
       let k = kept_is (HasValue m t.net) t.parts kind bound status (are.each t has).1 in
-      let (a, b, x, y, d) = several_differ (InRange (HasValue m t.net kind) 0 bound) (kept_of status t.parts).one k.one w in
+      let (a, b, x, y, d) = conflict_differ (InRange (HasValue m t.net kind) 0 bound) (kept_of status t.parts).one k.one w in
       TwoValues t.net kind bound status (a ∷ [], b ∷ [], x.0, y.0, λ same. d (head_of a b same))
 
   short : (t : AddressParts) → Contains rows t → is_short t ≡ true → BreaksHello m 28 (Some t.net)
@@ -222,8 +223,8 @@ module _ (m : MessageFields) (rows : List AddressParts) (are : AreTold m rows) w
       let i = right_octet (HasValue m net kind) 0 bound (kept_of status t.parts) o right x said_x in
       let j = right_octet (HasValue m net kind) 0 bound (kept_of status t.parts) o right y said_y in
       second_passed (is_undefined t.parts) (has_two t.parts) (is_short t) (has_wrong_metric t.parts)
-      (one_of_three (λ (q : Octets). is_several q.one) t.parts kind bound status
-      (differ_several (InRange (HasValue m net kind) 0 bound) (kept_of status t.parts).one i.0 j.0 o.one (in_range (HasValue m net kind) 0 bound x said_x i) (in_range (HasValue m net kind) 0 bound y said_y j)
+      (one_of_three (λ (q : Octets). is_conflict q.one) t.parts kind bound status
+      (differ_conflict (InRange (HasValue m net kind) 0 bound) (kept_of status t.parts).one i.0 j.0 o.one (in_range (HasValue m net kind) 0 bound x said_x i) (in_range (HasValue m net kind) 0 bound y said_y j)
       (λ same. d (i.1 ∙ ap (λ (n : ℕ). n ∷ []) same ∙ sym j.1))))))
   reaches k a (ShortPrefix net kind bound status (x, said) low) e =
       let (t, has, is, h) = told_of m rows are net (says_has m net kind x said) in

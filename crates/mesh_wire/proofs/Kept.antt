@@ -5,15 +5,15 @@ use Rattle.std.proofs.lemmas.Bool.{cases_lt}
 use Rattle.mesh_atoms.specs.declared.addr.NetAddr.{NetAddr}
 use Rattle.mesh_packet.specs.Fields.{MessageFields}
 use Rattle.mesh_wire.specs.declared.collect.AddressParts.{AddressParts}
-use Rattle.mesh_wire.specs.declared.parts.SingleNumber.{SingleNumber}
-use Rattle.mesh_wire.specs.declared.parts.SingleNumber.TheVariants.{Unsaid, Said, Several}
+use Rattle.mesh_wire.specs.declared.singles.Single.{Single}
+use Rattle.mesh_wire.specs.declared.singles.Single.TheVariants.{Absent, Value, Conflict}
 use Rattle.mesh_wire.specs.declared.parts.Octets.{Octets}
 use Rattle.mesh_wire.specs.declared.parts.RowParts.{RowParts}
 use Rattle.mesh_wire.specs.Collects.{AreCollected}
 use Rattle.mesh_wire.specs.Entries.{of_blocks, collected}
-use Rattle.mesh_wire.specs.RowRules.{is_several, is_said}
 use Rattle.mesh_wire.specs.Rows.{HoldsAddress, HasValue, AreRows}
 use Rattle.mesh_wire.specs.Rules.{IsOctet}
+use Rattle.mesh_wire.specs.Singles.{is_conflict, is_said}
 use Rattle.mesh_wire.proofs.Collected.{AnyOf, At, StandsOf, SaysOf, collected_is}
 use Rattle.mesh_wire.proofs.Entries.{says_of, of_says, has_of, of_has}
 use Rattle.mesh_wire.proofs.Slots.{OneIs, InRange, OctetsAre, RowIs, row_same}
@@ -77,23 +77,23 @@ right_octet S low bound o h e x s = elim (octet_or low bound x) [
 pub in_range : (S : List ℕ → Type 0) (low bound : ℕ) (x : List ℕ) → S x → (i : IsOctet low bound x) → InRange S low bound i.0
 in_range S low bound x s i = (subst S i.1 s, i.2, i.3)
 
--- two numbers that differ are several
-pub differ_several : (T : ℕ → Type 0) (one : SingleNumber) (a b : ℕ) → OneIs T one → T a → T b → a ≢ b → is_several one ≡ true
-differ_several T Unsaid a b h x y d = absurd (h a x)
-differ_several T (Said n) a b h x y d = absurd (d (h.1 a x ∙ sym (h.1 b y)))
-differ_several T Several a b h x y d = refl
+-- two values that differ are a conflict
+pub differ_conflict : {X : Type 0} (T : X → Type 0) (one : Single X) (a b : X) → OneIs T one → T a → T b → a ≢ b → is_conflict one ≡ true
+differ_conflict T Absent a b h x y d = absurd (h a x)
+differ_conflict T (Value n) a b h x y d = absurd (d (h.1 a x ∙ sym (h.1 b y)))
+differ_conflict T Conflict a b h x y d = refl
 
-pub several_differ : (T : ℕ → Type 0) (one : SingleNumber) → OneIs T one → is_several one ≡ true → (a : ℕ) × (b : ℕ) × T a × T b × (a ≢ b)
-several_differ T Unsaid h e = absurd (cc)
-several_differ T (Said n) h e = absurd (cc)
-several_differ T Several h e = h
+pub conflict_differ : {X : Type 0} (T : X → Type 0) (one : Single X) → OneIs T one → is_conflict one ≡ true → (a : X) × (b : X) × T a × T b × (a ≢ b)
+conflict_differ T Absent h e = absurd (cc)
+conflict_differ T (Value n) h e = absurd (cc)
+conflict_differ T Conflict h e = h
 
-pub one_said : (T : ℕ → Type 0) (one : SingleNumber) (a : ℕ) → OneIs T one → T a → is_said one ≡ true
-one_said T Unsaid a h x = absurd (h a x)
-one_said T (Said n) a h x = refl
-one_said T Several a h x = refl
+pub one_said : {X : Type 0} (T : X → Type 0) (one : Single X) (a : X) → OneIs T one → T a → is_said one ≡ true
+one_said T Absent a h x = absurd (h a x)
+one_said T (Value n) a h x = refl
+one_said T Conflict a h x = refl
 
-pub said_one : (T : ℕ → Type 0) (one : SingleNumber) → OneIs T one → is_said one ≡ true → (a : ℕ) × T a
-said_one T Unsaid h e = absurd (cc)
-said_one T (Said n) h e = (n, h.0)
-said_one T Several (a, b, x, y, d) e = (a, x)
+pub said_one : {X : Type 0} (T : X → Type 0) (one : Single X) → OneIs T one → is_said one ≡ true → (a : X) × T a
+said_one T Absent h e = absurd (cc)
+said_one T (Value n) h e = (n, h.0)
+said_one T Conflict (a, b, x, y, d) e = (a, x)

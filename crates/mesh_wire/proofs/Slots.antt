@@ -1,37 +1,43 @@
 -- What is kept of values, and that one value more is kept too.
 use Rattle.std.proofs.Common.{◌≡◌, ℕ, ◌+◌, ◌*◌, ◌%◌, ◌<◌, ◌≤◌, ◌⊎◌, inl, inr, refl, sym, ◌∙◌, ap, subst, arith, Bool, true, false, List, length, [], ◌∷◌}
-use Rattle.std.specs.Prelude.{◌==◌, ◌&&◌, ◌||◌, ◌↔◌, ◌≢◌, not, nat_le, nat_lt, IsTrue}
+use Rattle.std.specs.Prelude.{◌==◌, ◌&&◌, ◌||◌, ◌↔◌, ◌≢◌, not, nat_eq, nat_le, nat_lt, IsTrue}
 use Rattle.std.proofs.lemmas.Bool.{cases_Bool, eq-eqb, ne_eqb, eqb-true, eqb-false, ltb-true, leb-true, lt-ltb, le-leb, or_cases, and_from as and_both, or_left, or_right, and_parts as both}
 use Rattle.mesh_atoms.specs.Reading.{has}
-use Rattle.mesh_wire.specs.declared.parts.SingleNumber.{SingleNumber}
-use Rattle.mesh_wire.specs.declared.parts.SingleNumber.TheVariants.{Unsaid, Said, Several}
+use Rattle.mesh_wire.specs.declared.singles.Single.{Single}
+use Rattle.mesh_wire.specs.declared.singles.Single.TheVariants.{Absent, Value, Conflict}
 use Rattle.mesh_wire.specs.declared.parts.Octets.{Octets}
 use Rattle.mesh_wire.specs.declared.parts.RowParts.{RowParts}
 use Rattle.mesh_wire.specs.Rules.{IsOctet}
-use Rattle.mesh_wire.specs.KeptParts.{also, code_also, is_octet_in, is_flag_set, octets_also, octet_also, has_other_length, no_parts, take_part}
+use Rattle.mesh_wire.specs.KeptParts.{code_also, is_octet_in, is_flag_set, octets_also, octet_also, has_other_length, no_parts, take_part}
+use Rattle.mesh_wire.specs.Singles.{also}
 
--- ---- booleans
+-- ---- several values
 
--- ---- numbers
+-- what is kept of the values that are said
+abbrev pub OneIs : {X : Type 0} → (X → Type 0) → Single X → Type 0
+OneIs {X} T Absent = (x : X) → T x → ⊥
+OneIs {X} T (Value x) = T x × ((y : X) → T y → y ≡ x)
+OneIs {X} T Conflict = (a : X) × (b : X) × T a × T b × (a ≢ b)
 
--- what is kept of the numbers that are said
-abbrev pub OneIs : (ℕ → Type 0) → SingleNumber → Type 0
-OneIs T Unsaid = (n : ℕ) → T n → ⊥
-OneIs T (Said n) = T n × ((m : ℕ) → T m → m ≡ n)
-OneIs T Several = (a : ℕ) × (b : ℕ) × T a × T b × (a ≢ b)
+pub one_same : {X : Type 0} (T U : X → Type 0) (one : Single X) → ((x : X) → U x → T x) → ((x : X) → T x → U x) → OneIs T one → OneIs U one
+one_same T U Absent back keep h = λ x u. h x (back x u)
+one_same T U (Value k) back keep h = (keep k h.0, λ x u. h.1 x (back x u))
+one_same T U Conflict back keep (a, b, x, y, d) = (a, b, keep a x, keep b y, d)
 
-pub one_same : (T U : ℕ → Type 0) (one : SingleNumber) → ((m : ℕ) → U m → T m) → ((m : ℕ) → T m → U m) → OneIs T one → OneIs U one
-one_same T U Unsaid back keep h = λ n u. h n (back n u)
-one_same T U (Said k) back keep h = (keep k h.0, λ m u. h.1 m (back m u))
-one_same T U Several back keep (a, b, x, y, d) = (a, b, keep a x, keep b y, d)
+-- a test that tells values from each other
+abbrev Tells : {X : Type 0} → (X → X → Bool) → Type 0
+Tells {X} same = (a b : X) → (same a b ≡ true → a ≡ b) × (same a b ≡ false → a ≢ b)
 
-one_more : (T U : ℕ → Type 0) (one : SingleNumber) (n : ℕ) → ((m : ℕ) → U m → T m ⊎ (m ≡ n)) → ((m : ℕ) → T m → U m) → U n → OneIs T one → OneIs U (also one n)
-one_more T U Unsaid n split keep new h = (new, λ m u. elim (split m u) [ inl t ↦ absurd (h m t) | inr e ↦ e ])
-one_more T U (Said k) n split keep new h = elim (cases_Bool (k == n)) [
-  | inl e ↦ rw e (keep k h.0, λ m u. elim (split m u) [ inl t ↦ h.1 m t | inr f ↦ f ∙ sym (eqb-true k n e) ])
-  | inr e ↦ rw e (k, n, keep k h.0, new, eqb-false k n e)
+numbers : Tells nat_eq
+numbers a b = (eqb-true a b, eqb-false a b)
+
+one_more : {X : Type 0} (same : X → X → Bool) → Tells same → (T U : X → Type 0) (one : Single X) (new : X) → ((x : X) → U x → T x ⊎ (x ≡ new)) → ((x : X) → T x → U x) → U new → OneIs T one → OneIs U (also same one new)
+one_more same tells T U Absent new split keep said h = (said, λ x u. elim (split x u) [ inl t ↦ absurd (h x t) | inr e ↦ e ])
+one_more same tells T U (Value k) new split keep said h = elim (cases_Bool (same k new)) [
+  | inl e ↦ rw e (keep k h.0, λ x u. elim (split x u) [ inl t ↦ h.1 x t | inr f ↦ f ∙ sym ((tells k new).0 e) ])
+  | inr e ↦ rw e (k, new, keep k h.0, said, (tells k new).1 e)
 ]
-one_more T U Several n split keep new (a, b, x, y, d) = (a, b, keep a x, keep b y, d)
+one_more same tells T U Conflict new split keep said (a, b, x, y, d) = (a, b, keep a x, keep b y, d)
 
 -- ---- values of one octet
 
@@ -63,13 +69,13 @@ pub same_octet : (a b : ℕ) → ◌≡◌ {A = List ℕ} (a ∷ []) (b ∷ []) 
 same_octet a b e = cc
 
 octets_right : (S U : List ℕ → Type 0) (low bound : ℕ) (o : Octets) (n : ℕ) → ((x : List ℕ) → U x → S x ⊎ (x ≡ n ∷ [])) → ((x : List ℕ) → S x → U x) → U (n ∷ []) → low ≤ n → n < bound →
-    OctetsAre S low bound o → OctetsAre U low bound (record { wrong = o.wrong; one = also o.one n })
+    OctetsAre S low bound o → OctetsAre U low bound (record { wrong = o.wrong; one = also nat_eq o.one n })
 octets_right S U low bound o n split keep said up down h = record {
   wrong = (
     λ e. let w = h.wrong.0 e in (w.0, keep w.0 w.1, w.2),
     λ w. elim (split w.0 w.1) [ inl s ↦ h.wrong.1 (w.0, s, w.2) | inr e ↦ absurd (w.2 (n, e, up, down)) ],
   );
-  one = one_more (InRange S low bound) (InRange U low bound) o.one n
+  one = one_more nat_eq numbers (InRange S low bound) (InRange U low bound) o.one n
       (λ m u. elim (split (m ∷ []) u.0) [ inl s ↦ inl (s, u.1, u.2) | inr e ↦ inr (same_octet m n e) ])
       (λ m s. (keep (m ∷ []) s.0, s.1, s.2)) (said, up, down) h.one;
 }
@@ -92,12 +98,12 @@ octets_more S U low bound o (n ∷ []) split keep said h = elim (cases_Bool (nat
 abbrev pub Shows : (List ℕ → Type 0) → ℕ → ℕ → Type 0
 Shows S flag code = (high : ℕ) × (low : ℕ) × S (high ∷ low ∷ []) × (has high flag ≡ true) × (code ≡ 16 * (256 * (high % 16) + low))
 
-codes_same : (S U : List ℕ → Type 0) (flag : ℕ) (one : SingleNumber) → ((x : List ℕ) → U x → S x) → ((x : List ℕ) → S x → U x) → OneIs (Shows S flag) one → OneIs (Shows U flag) one
+codes_same : (S U : List ℕ → Type 0) (flag : ℕ) (one : Single ℕ) → ((x : List ℕ) → U x → S x) → ((x : List ℕ) → S x → U x) → OneIs (Shows S flag) one → OneIs (Shows U flag) one
 codes_same S U flag one back keep h = one_same (Shows S flag) (Shows U flag) one
     (λ m (high, low, u, on, is). (high, low, back (high ∷ low ∷ []) u, on, is)) (λ m (high, low, s, on, is). (high, low, keep (high ∷ low ∷ []) s, on, is)) h
 
 -- a value that shows no code of that kind
-codes_none : (S U : List ℕ → Type 0) (flag : ℕ) (one : SingleNumber) (new : List ℕ) → ((x : List ℕ) → U x → S x ⊎ (x ≡ new)) → ((x : List ℕ) → S x → U x) →
+codes_none : (S U : List ℕ → Type 0) (flag : ℕ) (one : Single ℕ) (new : List ℕ) → ((x : List ℕ) → U x → S x ⊎ (x ≡ new)) → ((x : List ℕ) → S x → U x) →
     ((high low : ℕ) → high ∷ low ∷ [] ≡ new → has high flag ≡ true → ⊥) → OneIs (Shows S flag) one → OneIs (Shows U flag) one
 codes_none S U flag one new split keep never h = one_same (Shows S flag) (Shows U flag) one
     (λ m (high, low, u, on, is). elim (split (high ∷ low ∷ []) u) [ inl s ↦ (high, low, s, on, is) | inr e ↦ absurd (never high low e on) ])
@@ -106,13 +112,13 @@ codes_none S U flag one new split keep never h = one_same (Shows S flag) (Shows 
 same_two : (a b c d : ℕ) → ◌≡◌ {A = List ℕ} (a ∷ b ∷ []) (c ∷ d ∷ []) → (a ≡ c) × (b ≡ d)
 same_two a b c d e = let x : a ≡ c = cc in let y : b ≡ d = cc in (x, y)
 
-codes_more : (S U : List ℕ → Type 0) (flag : ℕ) (one : SingleNumber) (new : List ℕ) → ((x : List ℕ) → U x → S x ⊎ (x ≡ new)) → ((x : List ℕ) → S x → U x) → U new →
+codes_more : (S U : List ℕ → Type 0) (flag : ℕ) (one : Single ℕ) (new : List ℕ) → ((x : List ℕ) → U x → S x ⊎ (x ≡ new)) → ((x : List ℕ) → S x → U x) → U new →
     OneIs (Shows S flag) one → OneIs (Shows U flag) (code_also true flag new one)
 codes_more S U flag one [] split keep said h = codes_none S U flag one [] split keep (λ a b e on. cc) h
 codes_more S U flag one (x ∷ []) split keep said h = codes_none S U flag one (x ∷ []) split keep (λ a b e on. cc) h
 codes_more S U flag one (x ∷ y ∷ z ∷ rest) split keep said h = codes_none S U flag one (x ∷ y ∷ z ∷ rest) split keep (λ a b e on. cc) h
 codes_more S U flag one (high ∷ low ∷ []) split keep said h = elim (cases_Bool (has high flag)) [
-  | inl e ↦ rw e (one_more (Shows S flag) (Shows U flag) one (16 * (256 * (high % 16) + low))
+  | inl e ↦ rw e (one_more nat_eq numbers (Shows S flag) (Shows U flag) one (16 * (256 * (high % 16) + low))
       (λ m (a, b, u, on, is). elim (split (a ∷ b ∷ []) u) [
         | inl s ↦ inl (a, b, s, on, is)
         | inr f ↦ let p = same_two a b high low f in inr (is ∙ ap (λ (k : ℕ). 16 * (256 * (k % 16) + b)) p.0 ∙ ap (λ (k : ℕ). 16 * (256 * (high % 16) + k)) p.1)
@@ -127,17 +133,17 @@ codes_more S U flag one (high ∷ low ∷ []) split keep said h = elim (cases_Bo
 abbrev pub Octet : (List ℕ → Type 0) → ℕ → Type 0
 Octet S n = (octet : ℕ) × S (octet ∷ []) × (n ≡ 256 * octet)
 
-octet_same : (S U : List ℕ → Type 0) (one : SingleNumber) → ((x : List ℕ) → U x → S x) → ((x : List ℕ) → S x → U x) → OneIs (Octet S) one → OneIs (Octet U) one
+octet_same : (S U : List ℕ → Type 0) (one : Single ℕ) → ((x : List ℕ) → U x → S x) → ((x : List ℕ) → S x → U x) → OneIs (Octet S) one → OneIs (Octet U) one
 octet_same S U one back keep h = one_same (Octet S) (Octet U) one (λ m (o, u, is). (o, back (o ∷ []) u, is)) (λ m (o, s, is). (o, keep (o ∷ []) s, is)) h
 
-octet_none : (S U : List ℕ → Type 0) (one : SingleNumber) (new : List ℕ) → ((x : List ℕ) → U x → S x ⊎ (x ≡ new)) → ((x : List ℕ) → S x → U x) → ((o : ℕ) → o ∷ [] ≡ new → ⊥) → OneIs (Octet S) one → OneIs (Octet U) one
+octet_none : (S U : List ℕ → Type 0) (one : Single ℕ) (new : List ℕ) → ((x : List ℕ) → U x → S x ⊎ (x ≡ new)) → ((x : List ℕ) → S x → U x) → ((o : ℕ) → o ∷ [] ≡ new → ⊥) → OneIs (Octet S) one → OneIs (Octet U) one
 octet_none S U one new split keep never h = one_same (Octet S) (Octet U) one
     (λ m (o, u, is). elim (split (o ∷ []) u) [ inl s ↦ (o, s, is) | inr e ↦ absurd (never o e) ]) (λ m (o, s, is). (o, keep (o ∷ []) s, is)) h
 
-octet_more : (S U : List ℕ → Type 0) (one : SingleNumber) (new : List ℕ) → ((x : List ℕ) → U x → S x ⊎ (x ≡ new)) → ((x : List ℕ) → S x → U x) → U new → OneIs (Octet S) one → OneIs (Octet U) (octet_also true new one)
+octet_more : (S U : List ℕ → Type 0) (one : Single ℕ) (new : List ℕ) → ((x : List ℕ) → U x → S x ⊎ (x ≡ new)) → ((x : List ℕ) → S x → U x) → U new → OneIs (Octet S) one → OneIs (Octet U) (octet_also true new one)
 octet_more S U one [] split keep said h = octet_none S U one [] split keep (λ o e. cc) h
 octet_more S U one (a ∷ b ∷ rest) split keep said h = octet_none S U one (a ∷ b ∷ rest) split keep (λ o e. cc) h
-octet_more S U one (n ∷ []) split keep said h = one_more (Octet S) (Octet U) one (256 * n)
+octet_more S U one (n ∷ []) split keep said h = one_more nat_eq numbers (Octet S) (Octet U) one (256 * n)
     (λ m (o, u, is). elim (split (o ∷ []) u) [ inl s ↦ inl (o, s, is) | inr e ↦ inr (is ∙ ap (λ (k : ℕ). 256 * k) (same_octet o n e)) ])
     (λ m (o, s, is). (o, keep (o ∷ []) s, is)) (n, said, refl) h
 
@@ -165,7 +171,7 @@ module _ (S U : ℕ → List ℕ → Type 0) (kind : ℕ) (new : List ℕ) (more
     | inr e ↦ rw e (octets_same (S K) (U K) low bound o (apart (eqb-false kind K e)) (more.keep K) h)
   ]
 
-  pub codes_at : (flag : ℕ) (one : SingleNumber) → OneIs (Shows (S K) flag) one → OneIs (Shows (U K) flag) (code_also (kind == K) flag new one)
+  pub codes_at : (flag : ℕ) (one : Single ℕ) → OneIs (Shows (S K) flag) one → OneIs (Shows (U K) flag) (code_also (kind == K) flag new one)
   codes_at flag one h = elim (cases_Bool (kind == K)) [
     | inl e ↦ let f = eqb-true kind K e in rw e (codes_more (S K) (U K) flag one new (here f) (more.keep K) (new_here f) h)
     | inr e ↦ rw e (off new (codes_same (S K) (U K) flag one (apart (eqb-false kind K e)) (more.keep K) h))
@@ -177,7 +183,7 @@ module _ (S U : ℕ → List ℕ → Type 0) (kind : ℕ) (new : List ℕ) (more
       off (x ∷ y ∷ []) g = g
       off (x ∷ y ∷ z ∷ rest) g = g
 
-  pub octet_at : (one : SingleNumber) → OneIs (Octet (S K)) one → OneIs (Octet (U K)) (octet_also (kind == K) new one)
+  pub octet_at : (one : Single ℕ) → OneIs (Octet (S K)) one → OneIs (Octet (U K)) (octet_also (kind == K) new one)
   octet_at one h = elim (cases_Bool (kind == K)) [
     | inl e ↦ let f = eqb-true kind K e in rw e (octet_more (S K) (U K) one new (here f) (more.keep K) (new_here f) h)
     | inr e ↦ rw e (off new (octet_same (S K) (U K) one (apart (eqb-false kind K e)) (more.keep K) h))
@@ -312,7 +318,7 @@ module _ (S U : ℕ → List ℕ → Type 0) (back : (k : ℕ) (x : List ℕ) �
 -- nothing is said
 pub row_none : (S : ℕ → List ℕ → Type 0) → ((k : ℕ) (x : List ℕ) → S k x → ⊥) → RowIs S no_parts
 row_none S never =
-    let octets : (k low bound : ℕ) → OctetsAre (S k) low bound (record { wrong = false; one = Unsaid }) = λ k low bound. record { wrong = (λ e. absurd (cc), λ w. absurd (never k w.0 w.1)); one = λ n t. never k (n ∷ []) t.0 } in
+    let octets : (k low bound : ℕ) → OctetsAre (S k) low bound (record { wrong = false; one = Absent }) = λ k low bound. record { wrong = (λ e. absurd (cc), λ w. absurd (never k w.0 w.1)); one = λ n t. never k (n ∷ []) t.0 } in
     let codes : (flag : ℕ) (n : ℕ) → Shows (S 7) flag n → ⊥ = λ flag n (high, low, s, on, is). never 7 (high ∷ low ∷ []) s in
     let flag : (k f : ℕ) → IsTrue false ↔ (S k (f ∷ []) ⊎ S k (3 ∷ [])) = λ k f. (λ e. absurd (cc), λ u. elim u [ inl v ↦ absurd (never k (f ∷ []) v) | inr v ↦ absurd (never k (3 ∷ []) v) ]) in
     record {

@@ -8,16 +8,15 @@ use Rattle.mesh_atoms.specs.declared.tc.TcRow.{TcRow}
 use Rattle.mesh_atoms.proofs.Lists.{single_of}
 use Rattle.mesh_packet.specs.Fields.{MessageFields}
 use Rattle.mesh_wire.specs.declared.collect.AddressParts.{AddressParts}
-use Rattle.mesh_wire.specs.declared.parts.SingleNumber.{SingleNumber}
-use Rattle.mesh_wire.specs.declared.parts.SingleNumber.TheVariants.{Unsaid, Said, Several}
-use Rattle.mesh_wire.specs.RowRules.{is_several}
-use Rattle.mesh_wire.specs.HelloRows.{number_from}
+use Rattle.mesh_wire.specs.declared.singles.Single.{Single}
+use Rattle.mesh_wire.specs.declared.singles.Single.TheVariants.{Absent, Value, Conflict}
 use Rattle.mesh_wire.specs.Kinds.{nbr_addr_type, gateway}
 use Rattle.mesh_wire.specs.Made.{AreMade}
 use Rattle.mesh_wire.specs.Metrics.{Near_out}
 use Rattle.mesh_wire.specs.Rows.{HoldsAddress, HasValue, OctetIs, SaysFlag, AreRows}
 use Rattle.mesh_wire.specs.Tc.{IsReadTcRow}
 use Rattle.mesh_wire.specs.TcHeading.{TcRowFrom}
+use Rattle.mesh_wire.specs.Singles.{is_conflict, value_from}
 use Rattle.mesh_wire.proofs.HelloRows.{metric_is, flag_is}
 use Rattle.mesh_wire.proofs.Kept.{AreTold}
 use Rattle.mesh_wire.proofs.Made.{made_from, made_of, ascending_made}
@@ -28,12 +27,12 @@ use Rattle.mesh_wire.proofs.Slots.{OneIs, Octet, RowIs}
 of_256 : (n octet : ℕ) → n ≡ 256 * octet → n / 256 ≡ octet
 of_256 n octet e = omega (arith, e)
 
-gateway_of : (m : MessageFields) (net : NetAddr) (one : SingleNumber) → OneIs (Octet (HasValue m net gateway)) one → ((x : List ℕ) → HasValue m net gateway x → length x ≡ 1) → is_several one ≡ false → OctetIs m net gateway (option_map (λ (n : ℕ). n / 256) (number_from one))
-gateway_of m net Unsaid h right e = λ x said. (let (n, is) = single_of x (right x said) in h (256 * n) (n, subst (HasValue m net gateway) is said, refl))
-gateway_of m net (Said n) h right e =
+gateway_of : (m : MessageFields) (net : NetAddr) (one : Single ℕ) → OneIs (Octet (HasValue m net gateway)) one → ((x : List ℕ) → HasValue m net gateway x → length x ≡ 1) → is_conflict one ≡ false → OctetIs m net gateway (option_map (λ (n : ℕ). n / 256) (value_from one))
+gateway_of m net Absent h right e = λ x said. (let (n, is) = single_of x (right x said) in h (256 * n) (n, subst (HasValue m net gateway) is said, refl))
+gateway_of m net (Value n) h right e =
     let (octet, said, is) = h.0 in
     subst (λ (k : ℕ). HasValue m net gateway (k ∷ [])) (sym (of_256 n octet is)) said
-gateway_of m net Several h right e = absurd (cc)
+gateway_of m net Conflict h right e = absurd (cc)
 
 -- where no value is of another length, each is of that one
 pub right_length : (S : List ℕ → Type 0) (n : ℕ) (b : Bool) → (IsTrue b ↔ ((x : List ℕ) × S x × (length x ≢ n))) → b ≡ false → (x : List ℕ) → S x → length x ≡ n
@@ -43,7 +42,7 @@ right_length S n b h e x s = elim (cases_eq (length x) n) [
 ]
 
 module _ (m : MessageFields) (t : AddressParts) (r : TcRow) (kept : RowIs (HasValue m t.net) t.parts) (made : TcRowFrom t r)
-    (wrong : t.parts.wrong_gateway ≡ false) (one : is_several t.parts.gateway ≡ false) (metric : is_several t.parts.near_out ≡ false) where
+    (wrong : t.parts.wrong_gateway ≡ false) (one : is_conflict t.parts.gateway ≡ false) (metric : is_conflict t.parts.near_out ≡ false) where
   here : RowIs (HasValue m r.dest) t.parts
   here = subst (λ (n : NetAddr). RowIs (HasValue m n) t.parts) (sym made.dest) kept
 
@@ -60,8 +59,8 @@ module _ (m : MessageFields) (t : AddressParts) (r : TcRow) (kept : RowIs (HasVa
 -- a row that keeps the rules that its reading looks at
 pub record IsSound (t : AddressParts) : Type 0 where
   pub gateway : t.parts.wrong_gateway ≡ false
-  pub one : is_several t.parts.gateway ≡ false
-  pub metric : is_several t.parts.near_out ≡ false
+  pub one : is_conflict t.parts.gateway ≡ false
+  pub metric : is_conflict t.parts.near_out ≡ false
 
 pub rows_are : (m : MessageFields) (told : List AddressParts) → AreTold m told → (rows : List TcRow) → ((t : AddressParts) → Contains told t → IsSound t) → AreMade TcRowFrom told rows → AreRows m (λ (row : TcRow). row.dest) (IsReadTcRow m) rows
 rows_are m told are rows sound h = record {

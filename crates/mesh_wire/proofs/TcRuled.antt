@@ -7,13 +7,14 @@ use Rattle.mesh_atoms.proofs.Lists.{single_of}
 use Rattle.mesh_packet.specs.Fields.{MessageFields}
 use Rattle.mesh_wire.specs.declared.collect.AddressParts.{AddressParts}
 use Rattle.mesh_wire.specs.declared.parts.RowParts.{RowParts}
-use Rattle.mesh_wire.specs.RowRules.{is_several, is_said, has_wrong_type, has_wrong_gateway, has_wrong_metric, tc_rule}
+use Rattle.mesh_wire.specs.RowRules.{has_wrong_type, has_wrong_gateway, has_wrong_metric, tc_rule}
 use Rattle.mesh_wire.specs.Kinds.{nbr_addr_type, gateway}
 use Rattle.mesh_wire.specs.Rows.{HasValue, HasType, HasTwoValues}
 use Rattle.mesh_wire.specs.Rules.{HasUndefined, IsOctet}
 use Rattle.mesh_wire.specs.TcRules.{BreaksTc, AddressWidth, NoOriginator, NoSequence, NoValidity, WrongInterval, Content, AddrType, TwoAddrTypes, ShortPrefix, GatewayOctet, TwoGateways, Beside, WrongMetric}
+use Rattle.mesh_wire.specs.Singles.{is_conflict, is_said}
 use Rattle.mesh_wire.proofs.HelloRuled.{wrong_metric, metric_wrong, wrong_metric_has}
-use Rattle.mesh_wire.proofs.Kept.{AreTold, told_of, says_has, right_octet, in_range, differ_several, several_differ, one_said, said_one}
+use Rattle.mesh_wire.proofs.Kept.{AreTold, told_of, says_has, right_octet, in_range, differ_conflict, conflict_differ, one_said, said_one}
 use Rattle.mesh_wire.proofs.Ruled.{Decides, Reaches}
 use Rattle.mesh_wire.proofs.Slots.{InRange, Octet, RowIs, same_octet as head_of}
 use Rattle.mesh_wire.proofs.TcRows.{IsSound, right_length}
@@ -21,10 +22,10 @@ use Rattle.mesh_wire.proofs.TcRows.{IsSound, right_length}
 -- ---- the type of an address
 
 type_broken : (m : MessageFields) (net : NetAddr) (r : RowParts) → RowIs (HasValue m net) r → has_wrong_type net.prefix r ≡ true → BreaksTc m 37 (Some net)
-type_broken m net r h e = elim (or_cases r.addr_type.wrong (is_several r.addr_type.one || (nat_lt net.prefix 32 && is_said r.addr_type.one)) e) [
+type_broken m net r h e = elim (or_cases r.addr_type.wrong (is_conflict r.addr_type.one || (nat_lt net.prefix 32 && is_said r.addr_type.one)) e) [
   | inl w ↦ AddrType net (h.addr_type.wrong.0 w)
-  | inr rest ↦ elim (or_cases (is_several r.addr_type.one) (nat_lt net.prefix 32 && is_said r.addr_type.one) rest) [
-    | inl two ↦ let (a, b, x, y, d) = several_differ (InRange (HasValue m net nbr_addr_type) 1 4) r.addr_type.one h.addr_type.one two in TwoAddrTypes net (a ∷ [], b ∷ [], x.0, y.0, λ same. d (head_of a b same))
+  | inr rest ↦ elim (or_cases (is_conflict r.addr_type.one) (nat_lt net.prefix 32 && is_said r.addr_type.one) rest) [
+    | inl two ↦ let (a, b, x, y, d) = conflict_differ (InRange (HasValue m net nbr_addr_type) 1 4) r.addr_type.one h.addr_type.one two in TwoAddrTypes net (a ∷ [], b ∷ [], x.0, y.0, λ same. d (head_of a b same))
     | inr short ↦
         let p = both (nat_lt net.prefix 32) (is_said r.addr_type.one) short in
         let (a, x) = said_one (InRange (HasValue m net nbr_addr_type) 1 4) r.addr_type.one h.addr_type.one p.1 in
@@ -44,7 +45,7 @@ module _ (m : MessageFields) (net : NetAddr) (prefix : ℕ) (same : prefix ≡ n
   short = nat_lt prefix 32 && is_said r.addr_type.one
 
   wrong_is : r.addr_type.wrong ≡ true → has_wrong_type prefix r ≡ true
-  wrong_is w = or_left r.addr_type.wrong (is_several r.addr_type.one || short) w
+  wrong_is w = or_left r.addr_type.wrong (is_conflict r.addr_type.one || short) w
 
   undefined_type : HasUndefined m net nbr_addr_type 1 4 → has_wrong_type prefix r ≡ true
   undefined_type u = wrong_is (h.addr_type.wrong.1 u)
@@ -54,25 +55,25 @@ module _ (m : MessageFields) (net : NetAddr) (prefix : ℕ) (same : prefix ≡ n
     | inl w ↦ wrong_is w
     | inr (n, i) ↦
         let j = right_octet (HasValue m net nbr_addr_type) 1 4 r.addr_type h.addr_type n y said_y in
-        or_right r.addr_type.wrong (is_several r.addr_type.one || short) (or_left (is_several r.addr_type.one) short
-        (differ_several (InRange (HasValue m net nbr_addr_type) 1 4) r.addr_type.one i.0 j.0 h.addr_type.one (in_range (HasValue m net nbr_addr_type) 1 4 x said_x i) (in_range (HasValue m net nbr_addr_type) 1 4 y said_y j)
+        or_right r.addr_type.wrong (is_conflict r.addr_type.one || short) (or_left (is_conflict r.addr_type.one) short
+        (differ_conflict (InRange (HasValue m net nbr_addr_type) 1 4) r.addr_type.one i.0 j.0 h.addr_type.one (in_range (HasValue m net nbr_addr_type) 1 4 x said_x i) (in_range (HasValue m net nbr_addr_type) 1 4 y said_y j)
         (λ e. d (i.1 ∙ ap (λ (k : ℕ). k ∷ []) e ∙ sym j.1))))
   ]
 
   short_type : HasType m net nbr_addr_type → net.prefix < 32 → has_wrong_type prefix r ≡ true
   short_type (x, said) lt = elim (type_said m net r h x said) [
     | inl w ↦ wrong_is w
-    | inr (n, i) ↦ or_right r.addr_type.wrong (is_several r.addr_type.one || short) (or_right (is_several r.addr_type.one) short
+    | inr (n, i) ↦ or_right r.addr_type.wrong (is_conflict r.addr_type.one || short) (or_right (is_conflict r.addr_type.one) short
         (and_both (nat_lt prefix 32) (is_said r.addr_type.one) (lt-ltb prefix 32 (omega (arith, same, lt))) (one_said (InRange (HasValue m net nbr_addr_type) 1 4) r.addr_type.one i.0 h.addr_type.one (in_range (HasValue m net nbr_addr_type) 1 4 x said i))))
   ]
 
 -- ---- the gateway
 
 gateway_broken : (m : MessageFields) (net : NetAddr) (r : RowParts) → RowIs (HasValue m net) r → has_wrong_gateway r ≡ true → BreaksTc m 38 (Some net)
-gateway_broken m net r h e = elim (or_cases r.wrong_gateway (is_several r.gateway || (is_said r.gateway && is_said r.addr_type.one)) e) [
+gateway_broken m net r h e = elim (or_cases r.wrong_gateway (is_conflict r.gateway || (is_said r.gateway && is_said r.addr_type.one)) e) [
   | inl w ↦ GatewayOctet net (h.wrong_gateway.0 w)
-  | inr rest ↦ elim (or_cases (is_several r.gateway) (is_said r.gateway && is_said r.addr_type.one) rest) [
-    | inl two ↦ let (a, b, (o, x, is_o), (p, y, is_p), d) = several_differ (Octet (HasValue m net gateway)) r.gateway h.gateway two in TwoGateways net (o ∷ [], p ∷ [], x, y, λ same. d (is_o ∙ ap (λ (k : ℕ). 256 * k) (head_of o p same) ∙ sym is_p))
+  | inr rest ↦ elim (or_cases (is_conflict r.gateway) (is_said r.gateway && is_said r.addr_type.one) rest) [
+    | inl two ↦ let (a, b, (o, x, is_o), (p, y, is_p), d) = conflict_differ (Octet (HasValue m net gateway)) r.gateway h.gateway two in TwoGateways net (o ∷ [], p ∷ [], x, y, λ same. d (is_o ∙ ap (λ (k : ℕ). 256 * k) (head_of o p same) ∙ sym is_p))
     | inr beside ↦
         let p = both (is_said r.gateway) (is_said r.addr_type.one) beside in
         let (a, (o, x, is)) = said_one (Octet (HasValue m net gateway)) r.gateway h.gateway p.0 in
@@ -96,15 +97,15 @@ module _ (m : MessageFields) (net : NetAddr) (r : RowParts) (h : RowIs (HasValue
   beside = is_said r.gateway && is_said r.addr_type.one
 
   other_is : r.wrong_gateway ≡ true → has_wrong_gateway r ≡ true
-  other_is w = or_left r.wrong_gateway (is_several r.gateway || beside) w
+  other_is w = or_left r.wrong_gateway (is_conflict r.gateway || beside) w
 
   two_gateways : HasTwoValues m net gateway → has_wrong_gateway r ≡ true
   two_gateways (x, y, said_x, said_y, d) = elim (gateway_said m net r h x said_x) [
     | inl w ↦ other_is w
     | inr (f, (n, is_n)) ↦
         let (k, is_k) = single_of y (right_length (HasValue m net gateway) 1 r.wrong_gateway h.wrong_gateway f y said_y) in
-        or_right r.wrong_gateway (is_several r.gateway || beside) (or_left (is_several r.gateway) beside
-        (differ_several (Octet (HasValue m net gateway)) r.gateway (256 * n) (256 * k) h.gateway (octet_kept m net x n said_x is_n) (octet_kept m net y k said_y is_k)
+        or_right r.wrong_gateway (is_conflict r.gateway || beside) (or_left (is_conflict r.gateway) beside
+        (differ_conflict (Octet (HasValue m net gateway)) r.gateway (256 * n) (256 * k) h.gateway (octet_kept m net x n said_x is_n) (octet_kept m net y k said_y is_k)
         (λ e. d (is_n ∙ ap (λ (j : ℕ). j ∷ []) (let s : n ≡ k = omega (arith, e) in s) ∙ sym is_k))))
   ]
 
@@ -113,7 +114,7 @@ module _ (m : MessageFields) (net : NetAddr) (r : RowParts) (h : RowIs (HasValue
     | inl w ↦ other_is w
     | inr (f, (n, is)) ↦
         let i = right_octet (HasValue m net nbr_addr_type) 1 4 r.addr_type h.addr_type right y typed in
-        or_right r.wrong_gateway (is_several r.gateway || beside) (or_right (is_several r.gateway) beside
+        or_right r.wrong_gateway (is_conflict r.gateway || beside) (or_right (is_conflict r.gateway) beside
         (and_both (is_said r.gateway) (is_said r.addr_type.one) (one_said (Octet (HasValue m net gateway)) r.gateway (256 * n) h.gateway (octet_kept m net x n said is))
         (one_said (InRange (HasValue m net nbr_addr_type) 1 4) r.addr_type.one i.0 h.addr_type.one (in_range (HasValue m net nbr_addr_type) 1 4 y typed i))))
   ]
@@ -160,12 +161,12 @@ typed t = has_wrong_type t.net.prefix t.parts
 pub sound_of : (t : AddressParts) → tc_rule t ≡ None → IsSound t
 sound_of t e =
     let (g, w) = none_passed (typed t) (has_wrong_gateway t.parts) (has_wrong_metric t.parts) e in
-    let p = or_parts t.parts.wrong_gateway (is_several t.parts.gateway || (is_said t.parts.gateway && is_said t.parts.addr_type.one)) g in
-    let q = or_parts t.parts.wrong_metric ((is_several t.parts.link_in || is_several t.parts.link_out) || (is_several t.parts.near_in || is_several t.parts.near_out)) w in
+    let p = or_parts t.parts.wrong_gateway (is_conflict t.parts.gateway || (is_said t.parts.gateway && is_said t.parts.addr_type.one)) g in
+    let q = or_parts t.parts.wrong_metric ((is_conflict t.parts.link_in || is_conflict t.parts.link_out) || (is_conflict t.parts.near_in || is_conflict t.parts.near_out)) w in
     record {
       gateway = p.0;
-      one = (or_parts (is_several t.parts.gateway) (is_said t.parts.gateway && is_said t.parts.addr_type.one) p.1).0;
-      metric = (or_parts (is_several t.parts.near_in) (is_several t.parts.near_out) (or_parts (is_several t.parts.link_in || is_several t.parts.link_out) (is_several t.parts.near_in || is_several t.parts.near_out) q.1).1).1;
+      one = (or_parts (is_conflict t.parts.gateway) (is_said t.parts.gateway && is_said t.parts.addr_type.one) p.1).0;
+      metric = (or_parts (is_conflict t.parts.near_in) (is_conflict t.parts.near_out) (or_parts (is_conflict t.parts.link_in || is_conflict t.parts.link_out) (is_conflict t.parts.near_in || is_conflict t.parts.near_out) q.1).1).1;
     }
 
 -- ---- the rules
@@ -212,7 +213,7 @@ module _ (m : MessageFields) (rows : List AddressParts) (are : AreTold m rows) w
       let (t, has, is, h) = row_of net 10 x said in
       elim (cases_Bool t.parts.addr_type.wrong) [
         | inl w ↦
-            let (n, f, le) = first_passed (typed t) (has_wrong_gateway t.parts) (has_wrong_metric t.parts) (or_left t.parts.addr_type.wrong (is_several t.parts.addr_type.one || (nat_lt t.net.prefix 32 && is_said t.parts.addr_type.one)) w) in
+            let (n, f, le) = first_passed (typed t) (has_wrong_gateway t.parts) (has_wrong_metric t.parts) (or_left t.parts.addr_type.wrong (is_conflict t.parts.addr_type.one || (nat_lt t.net.prefix 32 && is_said t.parts.addr_type.one)) w) in
             reached t net 38 has is (n, f, omega (arith, le))
         | inr right ↦ at_gateway t net has is (beside_type m net t.parts h right (x, said) (y, there))
       ]

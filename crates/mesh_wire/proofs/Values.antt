@@ -1,16 +1,8 @@
--- The values of the TLVs of a type, found one after the other.
-use Rattle.std.proofs.Common.{ℕ, List, [], ◌∷◌}
+-- What is found of a list, looked through from its front.
+use Rattle.std.proofs.Common.{List, [], ◌∷◌}
 use Rattle.std.specs.Prelude.{Option, Some, None}
-use Rattle.mesh_tlv.specs.declared.tlv.Tlv.{Tlv}
-use Rattle.mesh_tlv.specs.Fields.{TlvFields, fields}
-use denote.Ref.{Bor}
 
--- the value that was found, if one was
-abbrev pub front : Option (Bor (List ℕ)) → List (List ℕ)
-front None = []
-front (Some octets) = octets.now ∷ []
-
--- the TLV that was found, if one was
-abbrev pub front_tlv : Option Tlv → List TlvFields
-front_tlv None = []
-front_tlv (Some tlv) = fields tlv ∷ []
+-- the one that was found, if one was, as it is seen
+abbrev pub front : {T X : Type 0} → (T → X) → Option T → List X
+front view None = []
+front view (Some found) = view found ∷ []

@@ -1,6 +1,6 @@
 -- How the row of a HELLO is made of what is kept of its address.
 use Rattle.std.proofs.Common.{zero, suc}
-use Rattle.std.specs.Prelude.{◌≡◌, ℕ, ◌/◌, Option, Some, None, IsSome}
+use Rattle.std.specs.Prelude.{◌≡◌, ℕ, ◌/◌, Option, None, IsSome}
 use Rattle.std.specs.Option.{option_map}
 use Rattle.mesh_atoms.specs.declared.codes.metric.Metric.{Metric}
 use Rattle.mesh_atoms.specs.declared.hello.LocalIf.{LocalIf}
@@ -12,14 +12,8 @@ use Rattle.mesh_atoms.specs.declared.hello.OtherStatus.TheVariants as other
 use Rattle.mesh_atoms.specs.declared.hello.HelloRow.{HelloRow}
 use Rattle.mesh_atoms.specs.Writable.{IsAlone}
 use Rattle.mesh_wire.specs.declared.collect.AddressParts.{AddressParts}
-use Rattle.mesh_wire.specs.declared.parts.SingleNumber.{SingleNumber}
-use Rattle.mesh_wire.specs.declared.parts.SingleNumber.TheVariants.{Unsaid, Said, Several}
-
--- the one number
-abbrev pub number_from : SingleNumber → Option ℕ
-number_from Unsaid = None
-number_from (Said n) = Some n
-number_from Several = None
+use Rattle.mesh_wire.specs.declared.singles.Single.{Single}
+use Rattle.mesh_wire.specs.Singles.{value_from}
 
 -- LOCAL_IF of a value
 abbrev pub local_from : ℕ → LocalIf
@@ -38,13 +32,13 @@ other_from zero = other.Lost
 other_from (suc n) = other.Symmetric
 
 -- the metric whose code is kept 16 times
-abbrev pub MetricFrom : SingleNumber → Option Metric → Type 0
-MetricFrom one metric = option_map (λ (m : Metric). m.code) metric ≡ option_map (λ (n : ℕ). n / 16) (number_from one)
+abbrev pub MetricFrom : Single ℕ → Option Metric → Type 0
+MetricFrom one metric = option_map (λ (m : Metric). m.code) metric ≡ option_map (λ (n : ℕ). n / 16) (value_from one)
 
 -- status, metrics and relays as they are kept
 pub record TellsKept (told : AddressParts) (row : HelloRow) : Type 0 where
-  pub link : row.link ≡ option_map link_from (number_from told.parts.link.one)
-  pub other : row.other ≡ option_map other_from (number_from told.parts.other.one)
+  pub link : row.link ≡ option_map link_from (value_from told.parts.link.one)
+  pub other : row.other ≡ option_map other_from (value_from told.parts.other.one)
   pub link_in : MetricFrom told.parts.link_in row.metrics.link_in
   pub link_out : MetricFrom told.parts.link_out row.metrics.link_out
   pub near_in : MetricFrom told.parts.near_in row.metrics.near_in
@@ -55,6 +49,6 @@ pub record TellsKept (told : AddressParts) (row : HelloRow) : Type 0 where
 -- the row of what is kept of an address
 pub record HelloRowFrom (told : AddressParts) (row : HelloRow) : Type 0 where
   pub addr : row.addr ≡ told.net
-  pub local : row.local ≡ option_map local_from (number_from told.parts.local.one)
+  pub local : row.local ≡ option_map local_from (value_from told.parts.local.one)
   pub of_other : row.local ≡ None → TellsKept told row
   pub of_sender : IsSome row.local → IsAlone row

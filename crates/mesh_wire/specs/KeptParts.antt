@@ -1,28 +1,23 @@
 -- What is kept of the values that are said of one address, value by value.
-use Rattle.std.specs.Prelude.{ℕ, ◌+◌, ◌*◌, ◌%◌, List, [], ◌∷◌, length, Bool, true, false, not, ◌&&◌, ◌||◌, ◌==◌, nat_lt, nat_le, if◌then◌else◌}
+use Rattle.std.specs.Prelude.{ℕ, ◌+◌, ◌*◌, ◌%◌, List, [], ◌∷◌, length, Bool, true, false, not, ◌&&◌, ◌||◌, ◌==◌, nat_eq, nat_lt, nat_le, if◌then◌else◌}
 use Rattle.mesh_atoms.specs.Reading.{has}
 use Rattle.mesh_wire.specs.Kinds.{local_if, link_status, other_neighb, link_metric, mpr, nbr_addr_type, gateway}
-use Rattle.mesh_wire.specs.declared.parts.SingleNumber.{SingleNumber}
-use Rattle.mesh_wire.specs.declared.parts.SingleNumber.TheVariants.{Unsaid, Said, Several}
+use Rattle.mesh_wire.specs.declared.singles.Single.{Single}
+use Rattle.mesh_wire.specs.declared.singles.Single.TheVariants.{Absent}
 use Rattle.mesh_wire.specs.declared.parts.Octets.{Octets}
 use Rattle.mesh_wire.specs.declared.parts.RowParts.{RowParts}
-
--- one number more
-abbrev pub also : SingleNumber → ℕ → SingleNumber
-also Unsaid n = Said n
-also (Said m) n = if m == n then Said m else Several
-also Several n = Several
+use Rattle.mesh_wire.specs.Singles.{also}
 
 -- one metric more, where it is of that kind, as 16 times its code
-abbrev pub code_also : Bool → ℕ → List ℕ → SingleNumber → SingleNumber
-code_also on flag (high ∷ low ∷ []) one = if on && has high flag then also one (16 * (256 * (high % 16) + low)) else one
+abbrev pub code_also : Bool → ℕ → List ℕ → Single ℕ → Single ℕ
+code_also on flag (high ∷ low ∷ []) one = if on && has high flag then also nat_eq one (16 * (256 * (high % 16) + low)) else one
 code_also on flag [] one = one
 code_also on flag (a ∷ []) one = one
 code_also on flag (a ∷ b ∷ c ∷ rest) one = one
 
 -- one octet more, where it is of that type, as 256 times the octet
-abbrev pub octet_also : Bool → List ℕ → SingleNumber → SingleNumber
-octet_also on (n ∷ []) one = if on then also one (256 * n) else one
+abbrev pub octet_also : Bool → List ℕ → Single ℕ → Single ℕ
+octet_also on (n ∷ []) one = if on then also nat_eq one (256 * n) else one
 octet_also on [] one = one
 octet_also on (a ∷ b ∷ rest) one = one
 
@@ -40,7 +35,7 @@ is_flag_set flag octets = is_octet_in flag (flag + 1) octets || is_octet_in 3 4 
 abbrev pub octets_also : Bool → ℕ → ℕ → List ℕ → Octets → Octets
 octets_also false low bound octets o = o
 octets_also true low bound (n ∷ []) o =
-    if nat_le low n && nat_lt n bound then record { wrong = o.wrong; one = also o.one n } else record { wrong = true; one = o.one }
+    if nat_le low n && nat_lt n bound then record { wrong = o.wrong; one = also nat_eq o.one n } else record { wrong = true; one = o.one }
 octets_also true low bound [] o = record { wrong = true; one = o.one }
 octets_also true low bound (a ∷ b ∷ rest) o = record { wrong = true; one = o.one }
 
@@ -51,17 +46,17 @@ has_other_length n octets = not (length octets == n)
 -- nothing is said
 abbrev pub no_parts : RowParts
 no_parts = record {
-  local = record { wrong = false; one = Unsaid };
-  link = record { wrong = false; one = Unsaid };
-  other = record { wrong = false; one = Unsaid };
-  addr_type = record { wrong = false; one = Unsaid };
+  local = record { wrong = false; one = Absent };
+  link = record { wrong = false; one = Absent };
+  other = record { wrong = false; one = Absent };
+  addr_type = record { wrong = false; one = Absent };
   wrong_gateway = false;
-  gateway = Unsaid;
+  gateway = Absent;
   wrong_metric = false;
-  link_in = Unsaid;
-  link_out = Unsaid;
-  near_in = Unsaid;
-  near_out = Unsaid;
+  link_in = Absent;
+  link_out = Absent;
+  near_in = Absent;
+  near_out = Absent;
   flooding = false;
   routing = false;
   origin = false;

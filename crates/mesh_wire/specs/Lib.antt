@@ -22,6 +22,7 @@ pub mod RowRules
 pub mod Rows
 pub mod Rules
 pub mod Runs
+pub mod Singles
 pub mod Sizes
 pub mod Spellings
 pub mod Standing

@@ -1,24 +1,11 @@
 -- Which rule a row breaks, and the first that rows break.
-use Rattle.std.specs.Prelude.{ℕ, List, [], ◌∷◌, Option, Some, None, Bool, true, false, ◌||◌, ◌&&◌, nat_lt, if◌then◌else◌}
+use Rattle.std.specs.Prelude.{ℕ, List, [], ◌∷◌, Option, Some, None, Bool, ◌||◌, ◌&&◌, nat_lt, if◌then◌else◌}
 use Rattle.mesh_atoms.specs.declared.addr.NetAddr.{NetAddr}
 use Rattle.mesh_atoms.specs.declared.hello_rule.TheConstants.{UNDEFINED, TWO_VALUES, PREFIX, METRIC}
 use Rattle.mesh_atoms.specs.declared.tc_rule.TheConstants as tc
 use Rattle.mesh_wire.specs.declared.collect.AddressParts.{AddressParts}
-use Rattle.mesh_wire.specs.declared.parts.SingleNumber.{SingleNumber}
-use Rattle.mesh_wire.specs.declared.parts.SingleNumber.TheVariants.{Unsaid, Said, Several}
 use Rattle.mesh_wire.specs.declared.parts.RowParts.{RowParts}
-
--- different numbers
-abbrev pub is_several : SingleNumber → Bool
-is_several Unsaid = false
-is_several (Said n) = false
-is_several Several = true
-
--- some number
-abbrev pub is_said : SingleNumber → Bool
-is_said Unsaid = false
-is_said (Said n) = true
-is_said Several = true
+use Rattle.mesh_wire.specs.Singles.{is_conflict, is_said}
 
 -- a LOCAL_IF, LINK_STATUS or OTHER_NEIGHB of undefined value
 abbrev pub is_undefined : RowParts → Bool
@@ -26,7 +13,7 @@ is_undefined r = r.local.wrong || (r.link.wrong || r.other.wrong)
 
 -- two values of one of these
 abbrev pub has_two : RowParts → Bool
-has_two r = is_several r.local.one || (is_several r.link.one || is_several r.other.one)
+has_two r = is_conflict r.local.one || (is_conflict r.link.one || is_conflict r.other.one)
 
 -- one of these
 abbrev pub has_status : RowParts → Bool
@@ -34,15 +21,15 @@ has_status r = is_said r.local.one || (is_said r.link.one || is_said r.other.one
 
 -- a metric that isn't of two octets, or two codes of one kind
 abbrev pub has_wrong_metric : RowParts → Bool
-has_wrong_metric r = r.wrong_metric || ((is_several r.link_in || is_several r.link_out) || (is_several r.near_in || is_several r.near_out))
+has_wrong_metric r = r.wrong_metric || ((is_conflict r.link_in || is_conflict r.link_out) || (is_conflict r.near_in || is_conflict r.near_out))
 
 -- a NBR_ADDR_TYPE of undefined value, two values of it, or one on a short prefix
 abbrev pub has_wrong_type : ℕ → RowParts → Bool
-has_wrong_type prefix r = r.addr_type.wrong || (is_several r.addr_type.one || (nat_lt prefix 32 && is_said r.addr_type.one))
+has_wrong_type prefix r = r.addr_type.wrong || (is_conflict r.addr_type.one || (nat_lt prefix 32 && is_said r.addr_type.one))
 
 -- a GATEWAY that isn't one octet, two values of it, or one beside a NBR_ADDR_TYPE
 abbrev pub has_wrong_gateway : RowParts → Bool
-has_wrong_gateway r = r.wrong_gateway || (is_several r.gateway || (is_said r.gateway && is_said r.addr_type.one))
+has_wrong_gateway r = r.wrong_gateway || (is_conflict r.gateway || (is_said r.gateway && is_said r.addr_type.one))
 
 -- the first rule on the addresses of a HELLO that a row breaks
 abbrev pub hello_rule : AddressParts → Option ℕ

@@ -1,28 +1,21 @@
 -- What a TC says before its rows, and how a row is made of what is kept of its address.
-use Rattle.std.specs.Prelude.{◌≡◌, ℕ, ◌/◌, List, [], ◌∷◌, filter, Some, ◌==◌, ◌&&◌, nat_lt}
+use Rattle.std.specs.Prelude.{◌≡◌, ℕ, ◌/◌, List, filter, Some, ◌==◌, ◌&&◌, nat_lt}
 use Rattle.std.specs.Option.{option_map}
 use Rattle.mesh_atoms.specs.declared.tc.TcRow.{TcRow}
-use Rattle.mesh_tlv.specs.Fields.{TlvFields, fields}
+use Rattle.mesh_tlv.specs.Fields.{TlvFields}
 use Rattle.mesh_packet.specs.Fields.{MessageFields}
 use Rattle.mesh_wire.specs.declared.collect.AddressParts.{AddressParts}
-use Rattle.mesh_wire.specs.declared.tc.SingleContent.{SingleContent}
-use Rattle.mesh_wire.specs.declared.tc.SingleContent.TheVariants.{Nothing, Single, More}
 use Rattle.mesh_wire.specs.declared.tc.TcHeader.{TcHeader}
 use Rattle.mesh_wire.specs.Hello.{OriginatorIs}
-use Rattle.mesh_wire.specs.HelloRows.{MetricFrom, number_from}
+use Rattle.mesh_wire.specs.HelloRows.{MetricFrom}
 use Rattle.mesh_wire.specs.Kinds.{cont_seq_num}
+use Rattle.mesh_wire.specs.Singles.{value_from}
 use Rattle.mesh_wire.specs.Tc.{ContentIs}
 use Rattle.mesh_wire.specs.Times.{distance_of, ValidityIs, IntervalIs}
 
 -- the TLVs CONT_SEQ_NUM of extension 0 or 1
 abbrev pub contents_in : List TlvFields → List TlvFields
 contents_in tlvs = filter (λ (p : TlvFields). p.kind == cont_seq_num && nat_lt p.ext 2) tlvs
-
--- whether there are none, one or more
-abbrev pub ContentsAre : List TlvFields → SingleContent → Type 0
-ContentsAre tlvs Nothing = tlvs ≡ []
-ContentsAre tlvs (Single tlv) = tlvs ≡ fields tlv ∷ []
-ContentsAre tlvs More = (a : TlvFields) × (b : TlvFields) × (rest : List TlvFields) × (tlvs ≡ a ∷ (b ∷ rest))
 
 -- no rule on it is broken, and it says this
 pub record TcHeadingIs (message : MessageFields) (heading : TcHeader) : Type 0 where
@@ -38,5 +31,5 @@ pub record TcRowFrom (told : AddressParts) (row : TcRow) : Type 0 where
   pub dest : row.dest ≡ told.net
   pub origin : row.origin ≡ told.parts.origin
   pub routable : row.routable ≡ told.parts.routable
-  pub gateway : row.gateway ≡ option_map (λ (n : ℕ). n / 256) (number_from told.parts.gateway)
+  pub gateway : row.gateway ≡ option_map (λ (n : ℕ). n / 256) (value_from told.parts.gateway)
   pub metric : MetricFrom told.parts.near_out row.metric

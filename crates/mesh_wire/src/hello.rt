@@ -7,14 +7,15 @@ ghost use Rattle.mesh_packet.specs.Fields.{fields_of_message};
 ghost use Rattle.mesh_wire.specs.Answers.{IfBroken, GivesValue, RefusesAt};
 ghost use Rattle.mesh_wire.specs.Hello.{OriginatorIs, HelloIs};
 ghost use Rattle.mesh_wire.specs.HelloHeading.{IsOther, HeadingIs};
-ghost use Rattle.mesh_wire.specs.HelloRows.{number_from, local_from, link_from, other_from};
+ghost use Rattle.mesh_wire.specs.HelloRows.{local_from, link_from, other_from};
 ghost use Rattle.mesh_wire.specs.HelloRules.{BreaksHello};
 ghost use Rattle.mesh_wire.specs.Rules.{Keeps, FirstBroken};
+ghost use Rattle.mesh_wire.specs.Singles.{value_from};
 
 use crate::collect::AddressParts;
 use crate::fault::WireFault;
-use crate::parts::SingleNumber;
 use crate::rows::{Row, rows_in};
+use crate::singles::Single;
 use crate::times;
 use mesh_atoms::{
     Addr4, Hello, HelloRow, LinkStatus, LocalIf, Metrics, Mpr, OtherStatus, Seq, Willing,
@@ -72,20 +73,20 @@ pub(crate) fn heading_of(message: &Message) -> Result<HelloHeader, u8>
     })
 }
 
-fn local_from(one: SingleNumber) -> Option<LocalIf>
-    ensures { result ≡ option_map local_from (number_from one) }
+fn local_from(one: Single<u16>) -> Option<LocalIf>
+    ensures { result ≡ option_map local_from (value_from one) }
 {
-    match one.number() {
+    match one.value() {
         Some(0) => Some(LocalIf::This),
         Some(_) => Some(LocalIf::Other),
         None => None,
     }
 }
 
-fn link_from(one: SingleNumber) -> Option<LinkStatus>
-    ensures { result ≡ option_map link_from (number_from one) }
+fn link_from(one: Single<u16>) -> Option<LinkStatus>
+    ensures { result ≡ option_map link_from (value_from one) }
 {
-    match one.number() {
+    match one.value() {
         Some(0) => Some(LinkStatus::Lost),
         Some(1) => Some(LinkStatus::Symmetric),
         Some(_) => Some(LinkStatus::Heard),
@@ -93,10 +94,10 @@ fn link_from(one: SingleNumber) -> Option<LinkStatus>
     }
 }
 
-fn other_from(one: SingleNumber) -> Option<OtherStatus>
-    ensures { result ≡ option_map other_from (number_from one) }
+fn other_from(one: Single<u16>) -> Option<OtherStatus>
+    ensures { result ≡ option_map other_from (value_from one) }
 {
-    match one.number() {
+    match one.value() {
         Some(0) => Some(OtherStatus::Lost),
         Some(_) => Some(OtherStatus::Symmetric),
         None => None,

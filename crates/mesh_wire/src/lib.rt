@@ -12,6 +12,7 @@ mod parts;
 mod rows;
 mod rules;
 mod runs;
+mod singles;
 mod summary;
 mod tc;
 mod times;

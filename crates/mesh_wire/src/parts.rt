@@ -1,25 +1,18 @@
 //! What is kept of all that the TLVs of a message say of one address (RFC 6130, section 10, and RFC 7181, section 13.3).
 ghost use Rattle.std.specs.Prelude.{◌≡◌, true, ◌<◌, ◌||◌};
-ghost use Rattle.mesh_wire.specs.KeptParts.{also, is_octet_in, octets_also, octet_also, code_also, has_other_length, is_flag_set, take_part, no_parts};
+ghost use Rattle.mesh_wire.specs.KeptParts.{is_octet_in, octets_also, octet_also, code_also, has_other_length, is_flag_set, take_part, no_parts};
 
+use crate::singles::Single;
 use mesh_atoms::short_of;
 use mesh_atoms::tlv_type::{
     GATEWAY, LINK_METRIC, LINK_STATUS, LOCAL_IF, MPR, NBR_ADDR_TYPE, OTHER_NEIGHB,
 };
 
-/// Of several numbers: none, one, though it may have come more than once, or different ones.
-#[derive(Clone, Copy)]
-pub(crate) enum SingleNumber {
-    Unsaid,
-    Said(u16),
-    Several,
-}
-
 /// The values of a type that has one octet in a range: whether one isn't such, and which octet the others are.
 #[derive(Clone, Copy)]
 pub(crate) struct Octets {
     pub wrong: bool,
-    pub one: SingleNumber,
+    pub one: Single<u16>,
 }
 
 /// What the TLVs say of one address.
@@ -30,36 +23,19 @@ pub(crate) struct RowParts {
     pub other: Octets,
     pub addr_type: Octets,
     pub wrong_gateway: bool,
-    pub gateway: SingleNumber,
+    pub gateway: Single<u16>,
     pub wrong_metric: bool,
-    pub link_in: SingleNumber,
-    pub link_out: SingleNumber,
-    pub near_in: SingleNumber,
-    pub near_out: SingleNumber,
+    pub link_in: Single<u16>,
+    pub link_out: Single<u16>,
+    pub near_in: Single<u16>,
+    pub near_out: Single<u16>,
     pub flooding: bool,
     pub routing: bool,
     pub origin: bool,
     pub routable: bool,
 }
 
-impl SingleNumber {
-    // One number more.
-    fn also(self, number: u16) -> SingleNumber
-        ensures { result ≡ also self number }
-    {
-        match self {
-            SingleNumber::Unsaid => SingleNumber::Said(number),
-            SingleNumber::Said(first) => {
-                if first == number {
-                    self
-                } else {
-                    SingleNumber::Several
-                }
-            }
-            SingleNumber::Several => self,
-        }
-    }
-
+impl Single<u16> {
     // One octet more. It is kept as 256 times the octet, so that its type keeps that to 8 bits.
     fn take_octet(&mut self, octets: &[u8])
         ensures { self.new ≡ octet_also true octets.now self.old }
@@ -145,7 +121,7 @@ impl RowParts {
     {
         let none = Octets {
             wrong: false,
-            one: SingleNumber::Unsaid,
+            one: Single::Absent,
         };
         RowParts {
             local: none,
@@ -153,12 +129,12 @@ impl RowParts {
             other: none,
             addr_type: none,
             wrong_gateway: false,
-            gateway: SingleNumber::Unsaid,
+            gateway: Single::Absent,
             wrong_metric: false,
-            link_in: SingleNumber::Unsaid,
-            link_out: SingleNumber::Unsaid,
-            near_in: SingleNumber::Unsaid,
-            near_out: SingleNumber::Unsaid,
+            link_in: Single::Absent,
+            link_out: Single::Absent,
+            near_in: Single::Absent,
+            near_out: Single::Absent,
             flooding: false,
             routing: false,
             origin: false,

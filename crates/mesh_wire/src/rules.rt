@@ -1,47 +1,20 @@
 //! The rules on the addresses of a message, by what is kept of each (RFC 6130, section 12.1, and RFC 7181, section 16.3.1).
 ghost use Rattle.std.specs.Prelude.{◌≡◌};
-ghost use Rattle.mesh_wire.specs.RowRules.{is_several, is_said, is_undefined, has_two, has_status, has_wrong_type, has_wrong_gateway, has_wrong_metric, hello_rule, tc_rule};
-ghost use Rattle.mesh_wire.specs.HelloRows.{number_from, MetricFrom};
+ghost use Rattle.mesh_wire.specs.RowRules.{is_undefined, has_two, has_status, has_wrong_type, has_wrong_gateway, has_wrong_metric, hello_rule, tc_rule};
+ghost use Rattle.mesh_wire.specs.HelloRows.{MetricFrom};
 
 use crate::collect::AddressParts;
-use crate::parts::{RowParts, SingleNumber};
+use crate::parts::RowParts;
+use crate::singles::Single;
 use mesh_atoms::{Metric, hello_rule, tc_rule};
 
-impl SingleNumber {
-    fn is_several(self) -> bool
-        ensures { result ≡ is_several self }
-    {
-        match self {
-            SingleNumber::Several => true,
-            _ => false,
-        }
-    }
-
-    fn is_said(self) -> bool
-        ensures { result ≡ is_said self }
-    {
-        match self {
-            SingleNumber::Unsaid => false,
-            _ => true,
-        }
-    }
-
-    // The one number.
-    pub(crate) fn number(self) -> Option<u16>
-        ensures { result ≡ number_from self }
-    {
-        match self {
-            SingleNumber::Said(number) => Some(number),
-            _ => None,
-        }
-    }
-
+impl Single<u16> {
     // The metric whose code is kept 16 times.
     pub(crate) fn metric(self) -> Option<Metric>
         ensures { MetricFrom self result }
     {
         match self {
-            SingleNumber::Said(number) => Metric::of_code(number / 16),
+            Single::Value(number) => Metric::of_code(number / 16),
             _ => None,
         }
     }
@@ -57,7 +30,8 @@ impl RowParts {
     fn has_two(&self) -> bool
         ensures { result ≡ has_two self.now }
     {
-        self.local.one.is_several() || (self.link.one.is_several() || self.other.one.is_several())
+        self.local.one.is_conflict()
+            || (self.link.one.is_conflict() || self.other.one.is_conflict())
     }
 
     fn has_status(&self) -> bool
@@ -70,22 +44,22 @@ impl RowParts {
         ensures { result ≡ has_wrong_metric self.now }
     {
         self.wrong_metric
-            || ((self.link_in.is_several() || self.link_out.is_several())
-                || (self.near_in.is_several() || self.near_out.is_several()))
+            || ((self.link_in.is_conflict() || self.link_out.is_conflict())
+                || (self.near_in.is_conflict() || self.near_out.is_conflict()))
     }
 
     fn has_wrong_type(&self, prefix: u8) -> bool
         ensures { result ≡ has_wrong_type prefix self.now }
     {
         self.addr_type.wrong
-            || (self.addr_type.one.is_several() || (prefix < 32 && self.addr_type.one.is_said()))
+            || (self.addr_type.one.is_conflict() || (prefix < 32 && self.addr_type.one.is_said()))
     }
 
     fn has_wrong_gateway(&self) -> bool
         ensures { result ≡ has_wrong_gateway self.now }
     {
         self.wrong_gateway
-            || (self.gateway.is_several()
+            || (self.gateway.is_conflict()
                 || (self.gateway.is_said() && self.addr_type.one.is_said()))
     }
 }

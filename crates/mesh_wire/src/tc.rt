@@ -7,18 +7,18 @@ ghost use Rattle.mesh_tlv.specs.Fields.{fields};
 ghost use Rattle.mesh_atoms.specs.Writable.{HaveTypeWhole};
 ghost use Rattle.mesh_packet.specs.Fields.{fields_of_message};
 ghost use Rattle.mesh_wire.specs.Answers.{IfBroken, GivesValue, RefusesAt};
-ghost use Rattle.mesh_wire.specs.HelloRows.{number_from};
 ghost use Rattle.mesh_wire.specs.Rules.{Keeps, FirstBroken};
+ghost use Rattle.mesh_wire.specs.Singles.{IsSingleOf, value_from};
 ghost use Rattle.mesh_wire.specs.Tc.{ContentIs, TcIs};
-ghost use Rattle.mesh_wire.specs.TcHeading.{contents_in, ContentsAre, TcHeadingIs};
+ghost use Rattle.mesh_wire.specs.TcHeading.{contents_in, TcHeadingIs};
 ghost use Rattle.mesh_wire.specs.TcRules.{BreaksTc};
 ghost use Rattle.mesh_wire.specs.Times.{distance_of};
 
 use crate::collect::AddressParts;
 use crate::fault::WireFault;
 use crate::hello::originator_of;
-use crate::parts::SingleNumber;
 use crate::rows::{Row, rows_in};
+use crate::singles::Single;
 use crate::times;
 use mesh_atoms::tlv_type::CONT_SEQ_NUM;
 use mesh_atoms::{Addr4, Seq, Tc, TcRow, short_of, tc_rule};
@@ -37,14 +37,6 @@ pub(crate) struct TcHeader {
     pub interval: Option<u64>,
 }
 
-/// The TLVs CONT_SEQ_NUM: none, one, or more.
-#[derive(Clone, Copy)]
-pub(crate) enum SingleContent<'a> {
-    Nothing,
-    Single(Tlv<'a>),
-    More,
-}
-
 // How many hops a message has come when it is heard: one more than its hop count, and 1 where it has none.
 fn distance_of(count: Option<u8>) -> u16
     ensures { result ≡ distance_of count }
@@ -55,23 +47,23 @@ fn distance_of(count: Option<u8>) -> u16
     }
 }
 
-// The TLVs CONT_SEQ_NUM of extension 0 or 1.
-fn contents_of<'a>(tlvs: &[Tlv<'a>]) -> SingleContent<'a>
-    ensures { ContentsAre (contents_in (map fields tlvs.now)) result }
+// The TLVs CONT_SEQ_NUM of extension 0 or 1: none, one, or more.
+fn contents_of<'a>(tlvs: &[Tlv<'a>]) -> Single<Tlv<'a>>
+    ensures { IsSingleOf result fields (contents_in (map fields tlvs.now)) }
 {
     let mut found = None;
     for i in 0..tlvs.len() {
         let tlv = tlvs[i];
         if tlv.kind == CONT_SEQ_NUM && tlv.ext < 2 {
             if found.is_some() {
-                return SingleContent::More;
+                return Single::Conflict;
             }
             found = Some(tlv);
         }
     }
     match found {
-        Some(tlv) => SingleContent::Single(tlv),
-        None => SingleContent::Nothing,
+        Some(tlv) => Single::Value(tlv),
+        None => Single::Absent,
     }
 }
 
@@ -81,7 +73,7 @@ fn content_of(message: &Message) -> Option<(u16, bool)>
     ensures none { IfNone result ((ansn : ℕ) (complete : Bool) → ContentIs (fields_of_message message.now) ansn complete → ⊥) }
 {
     match contents_of(message.tlvs.as_slice()) {
-        SingleContent::Single(tlv) => {
+        Single::Value(tlv) => {
             let octets = times::octets_of(&tlv);
             if octets.len() != 2 {
                 return None;
@@ -128,10 +120,10 @@ pub(crate) fn heading_of(message: &Message) -> Result<TcHeader, u8>
 }
 
 // The octet that is kept 256 times.
-fn octet_from(one: SingleNumber) -> Option<u8>
-    ensures { result ≡ option_map (λ n. n / 256) (number_from one) }
+fn octet_from(one: Single<u16>) -> Option<u8>
+    ensures { result ≡ option_map (λ n. n / 256) (value_from one) }
 {
-    match one.number() {
+    match one.value() {
         Some(number) => Some((number / 256) as u8),
         None => None,
     }

@@ -5,21 +5,15 @@ ghost use Rattle.mesh_tlv.specs.Fields.{fields};
 ghost use Rattle.mesh_packet.specs.Fields.{fields_of_message};
 ghost use Rattle.mesh_wire.specs.Hello.{HasWilling};
 ghost use Rattle.mesh_wire.specs.Parts.{octets_of};
+ghost use Rattle.mesh_wire.specs.Singles.{IsSingleOf};
 ghost use Rattle.mesh_wire.specs.Times.{ValidityIs, IntervalIs};
-ghost use Rattle.mesh_wire.specs.Values.{values_in, ValuesAre};
+ghost use Rattle.mesh_wire.specs.Values.{values_in};
 
+use crate::singles::Single;
 use mesh_atoms::time_at;
 use mesh_atoms::tlv_type::{INTERVAL_TIME, MPR_WILLING, VALIDITY_TIME};
 use mesh_packet::Message;
 use mesh_tlv::Tlv;
-
-/// The values of the TLVs of a type: none, one, or more.
-#[derive(Clone, Copy)]
-pub(crate) enum SingleValue<'a> {
-    Nothing,
-    Single(&'a [u8]),
-    More,
-}
 
 // The octets of a TLV's value.
 pub(crate) fn octets_of<'a>(tlv: &Tlv<'a>) -> &'a [u8]
@@ -31,23 +25,23 @@ pub(crate) fn octets_of<'a>(tlv: &Tlv<'a>) -> &'a [u8]
     }
 }
 
-// The values of the TLVs of that type, without extension.
-fn values_of<'a>(tlvs: &[Tlv<'a>], kind: u8) -> SingleValue<'a>
-    ensures { ValuesAre (values_in kind (map fields tlvs.now)) result }
+// The values of the TLVs of that type, without extension: none, one, or more.
+fn values_of<'a>(tlvs: &[Tlv<'a>], kind: u8) -> Single<&'a [u8]>
+    ensures { IsSingleOf result (λ octets. octets.now) (values_in kind (map fields tlvs.now)) }
 {
     let mut found = None;
     for i in 0..tlvs.len() {
         let tlv = &tlvs[i];
         if tlv.kind == kind && tlv.ext == 0 {
             if found.is_some() {
-                return SingleValue::More;
+                return Single::Conflict;
             }
             found = Some(octets_of(tlv));
         }
     }
     match found {
-        Some(octets) => SingleValue::Single(octets),
-        None => SingleValue::Nothing,
+        Some(octets) => Single::Value(octets),
+        None => Single::Absent,
     }
 }
 
@@ -58,7 +52,7 @@ pub fn only_value<'a>(tlvs: &[Tlv<'a>], kind: u8) -> Option<&'a [u8]>
     ensures none { IfNone result ((octets : List ℕ) → values_in kind (map fields tlvs.now) ≡ octets ∷ [] → ⊥) }
 {
     match values_of(tlvs, kind) {
-        SingleValue::Single(octets) => Some(octets),
+        Single::Value(octets) => Some(octets),
         _ => None,
     }
 }
@@ -70,7 +64,7 @@ pub(crate) fn validity(message: &Message, distance: u16) -> Option<u64>
     ensures bounded { IfSome result (λ ticks. ticks < 2 ^ 35) }
 {
     match values_of(message.tlvs.as_slice(), VALIDITY_TIME) {
-        SingleValue::Single(value) => match time_at(value, distance) {
+        Single::Value(value) => match time_at(value, distance) {
             Some(ticks) => { if ticks > 0 { Some(ticks) } else { None } }
             None => None,
         },
@@ -84,12 +78,12 @@ pub(crate) fn interval(message: &Message, distance: u16) -> Option<Option<u64>>
     ensures none { IfNone result ((ticks : Option ℕ) → IntervalIs (fields_of_message message.now) distance ticks → ⊥) }
 {
     match values_of(message.tlvs.as_slice(), INTERVAL_TIME) {
-        SingleValue::Nothing => Some(None),
-        SingleValue::Single(value) => match time_at(value, distance) {
+        Single::Absent => Some(None),
+        Single::Value(value) => match time_at(value, distance) {
             Some(ticks) => Some(Some(ticks)),
             None => None,
         },
-        SingleValue::More => None,
+        Single::Conflict => None,
     }
 }
 
@@ -99,11 +93,11 @@ pub(crate) fn willing(message: &Message) -> Option<u8>
     ensures none { IfNone result ((octet : ℕ) → HasWilling (fields_of_message message.now) octet → ⊥) }
 {
     match values_of(message.tlvs.as_slice(), MPR_WILLING) {
-        SingleValue::Nothing => Some(119),
-        SingleValue::Single(value) => match value {
+        Single::Absent => Some(119),
+        Single::Value(value) => match value {
             [octet] => Some(*octet),
             _ => None,
         },
-        SingleValue::More => None,
+        Single::Conflict => None,
     }
 }

@@ -1,4 +1,4 @@
-use Rattle.std.proofs.Common.{ℕ, refl, ap}
+use Rattle.std.proofs.Common.{ℕ, ap}
 use Rattle.mesh_packet.specs.Fields.{fields_of_message}
 use Rattle.mesh_atoms.specs.declared.hello.Hello.{Hello}
 use Rattle.mesh_wire.specs.declared.summary.HelloSummary.{HelloSummary}

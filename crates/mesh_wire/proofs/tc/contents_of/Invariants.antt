@@ -2,8 +2,8 @@ use Rattle.std.proofs.Common.{◌≡◌, ◌++◌}
 use Rattle.std.specs.Prelude.{drop, map}
 use Rattle.mesh_tlv.specs.Fields.{fields}
 use Rattle.mesh_wire.specs.TcHeading.{contents_in}
-use Rattle.mesh_wire.proofs.Values.{front_tlv}
+use Rattle.mesh_wire.proofs.Values.{front}
 use Rattle.mesh_wire.proofs.tc.contents_of.Given as goal
 
 abbrev pub invariant-loop-i : goal.invariant-loop-i
-invariant-loop-i l = front_tlv l.found ++ contents_in (map fields (drop l.i l.tlvs)) ≡ contents_in (map fields l.tlvs)
+invariant-loop-i l = front fields l.found ++ contents_in (map fields (drop l.i l.tlvs)) ≡ contents_in (map fields l.tlvs)

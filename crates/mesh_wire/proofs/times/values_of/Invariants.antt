@@ -1,9 +1,10 @@
-use Rattle.std.proofs.Common.{◌≡◌, ◌++◌}
+use Rattle.std.proofs.Common.{◌≡◌, ℕ, List, ◌++◌}
 use Rattle.std.specs.Prelude.{drop, map}
 use Rattle.mesh_tlv.specs.Fields.{fields}
 use Rattle.mesh_wire.specs.Values.{values_in}
 use Rattle.mesh_wire.proofs.Values.{front}
 use Rattle.mesh_wire.proofs.times.values_of.Given as goal
+use denote.Ref.{Bor}
 
 abbrev pub invariant-loop-i : goal.invariant-loop-i
-invariant-loop-i l = front l.found ++ values_in l.fn.kind (map fields (drop l.i l.tlvs)) ≡ values_in l.fn.kind (map fields l.tlvs)
+invariant-loop-i l = front (λ (octets : Bor (List ℕ)). octets.now) l.found ++ values_in l.fn.kind (map fields (drop l.i l.tlvs)) ≡ values_in l.fn.kind (map fields l.tlvs)
