@@ -1,28 +1,20 @@
 -- What a message says before its rows is told, or it isn't there.
-use Rattle.std.proofs.Common.{◌≡◌, ℕ, ◌<◌, ◌%◌, ◌/◌, ◌*◌, ◌+◌, ◌⊎◌, inl, inr, refl, sym, ap, subst, ◌∙◌, arith, Bool, true, false, cond, List, [], ◌∷◌, map, filter, length}
+use Rattle.std.proofs.Common.{◌≡◌, ℕ, ◌<◌, ◌%◌, ◌*◌, ◌+◌, ◌⊎◌, inl, inr, refl, sym, ap, subst, ◌∙◌, arith, Bool, true, false, cond, List, [], ◌∷◌, map, filter, length}
 use Rattle.std.specs.Prelude.{◌==◌, ◌&&◌, Contains, Option, Some, None}
 use Rattle.std.proofs.lemmas.Bool.{cases_Bool, cases_lt, cases_eq}
-use Rattle.mesh_atoms.specs.declared.addr.NetAddr.{NetAddr}
-use Rattle.mesh_atoms.specs.declared.codes.metric.Metric.{Metric}
 use Rattle.mesh_atoms.specs.Codes.Codes.{time_at_distance}
 use Rattle.mesh_packet.specs.Fields.{MessageFields}
 use Rattle.mesh_tlv.specs.Fields.{TlvFields}
 use Rattle.mesh_wire.specs.declared.collect.AddressParts.{AddressParts}
-use Rattle.mesh_wire.specs.declared.singles.Single.{Single}
-use Rattle.mesh_wire.specs.declared.singles.Single.TheVariants.{Absent, Value, Conflict}
 use Rattle.mesh_wire.specs.Hello.{HasWilling}
 use Rattle.mesh_wire.specs.HelloHeading.{IsOther}
-use Rattle.mesh_wire.specs.HelloRows.{MetricFrom}
-use Rattle.mesh_wire.specs.Kinds.{interval_time, validity_time, mpr_willing, link_metric}
+use Rattle.mesh_wire.specs.Kinds.{interval_time, validity_time, mpr_willing}
 use Rattle.mesh_wire.specs.Laws.{HasOctets}
 use Rattle.mesh_wire.specs.Made.{AreMade}
-use Rattle.mesh_wire.specs.Metrics.{MetricKind, flag_of}
 use Rattle.mesh_wire.specs.Parts.{octets_of, values_of}
-use Rattle.mesh_wire.specs.Rows.{HasValue}
 use Rattle.mesh_wire.specs.Tc.{ContentIs, contents_of}
 use Rattle.mesh_wire.specs.Times.{HasTime, ValidityIs, IntervalIs}
 use Rattle.mesh_wire.proofs.Single.{one_time}
-use Rattle.mesh_wire.proofs.Slots.{OneIs, Shows}
 use Rattle.mesh_atoms.proofs.Lists.{contains_head as at_head, contains_tail as in_tail, contains_cases, contains_none as none_in}
 
 -- there is one, or there is none
@@ -133,15 +125,6 @@ content_or m = by (contents_of m) refl
     by (p ∷ q ∷ rest) e = inr (λ x (r, high, low, f, g, h, k). let t : p ∷ (q ∷ rest) ≡ r ∷ [] = sym e ∙ f in cc)
 
 -- ---- rows
-
--- the metric of a code that is kept
-pub metric_of : (m : MessageFields) → HasOctets m → (net : NetAddr) (kind : MetricKind) (one : Single ℕ) → OneIs (Shows (HasValue m net link_metric) (flag_of kind)) one → (metric : Option Metric) × MetricFrom one metric
-metric_of m octets net kind Absent h = (None, refl)
-metric_of m octets net kind Conflict h = (None, refl)
-metric_of m octets net kind (Value n) h =
-    let (high, low, (value, part, is), on, code) = h.0 in
-    let below : low < 256 = octets.parts net (record { kind = link_metric; ext = 0; value = value }) part low (subst (λ (l : List ℕ). Contains l low) is (in_tail high (low ∷ []) low (at_head low []))) in
-    (Some (record { code = n / 16; in_range = omega (arith, below, code) }), refl)
 
 pub made : {Row : Type 0} (From : AddressParts → Row → Type 0) (told : List AddressParts) → ((t : AddressParts) → Contains told t → (r : Row) × From t r) → (rows : List Row) × AreMade From told rows
 made From [] make = ([], tt)

@@ -1,6 +1,7 @@
 -- A TC that has a validity at each distance keeps its rules at each.
 use Rattle.std.proofs.Common.{◌≡◌, ℕ, ◌+◌, ◌<◌, ◌%◌, inl, inr, refl, List, [], ◌∷◌, length, Option, Some, None}
 use Rattle.mesh_atoms.specs.declared.addr.NetAddr.{NetAddr}
+use Rattle.mesh_atoms.specs.declared.codes.metric.Metric.{Metric}
 use Rattle.mesh_atoms.specs.declared.tc.Tc.{Tc}
 use Rattle.mesh_atoms.specs.declared.tc_rule.TheConstants as rule
 use Rattle.mesh_atoms.specs.Codes.Codes.{time_at_distance}
@@ -49,8 +50,8 @@ other_back m limit hops net kind n (octets, says, e) = (octets, says_back m limi
 two_back : (m : MessageFields) (limit hops : ℕ) (net : NetAddr) (kind : ℕ) → HasTwoValues (after_hops m limit hops) net kind → HasTwoValues m net kind
 two_back m limit hops net kind (a, b, p, q, e) = (a, b, says_back m limit hops net kind a p, says_back m limit hops net kind b q, e)
 
-shows_back : (m : MessageFields) (limit hops : ℕ) (net : NetAddr) (kind : MetricKind) (code : ℕ) → ShowsMetric (after_hops m limit hops) net kind code → ShowsMetric m net kind code
-shows_back m limit hops net kind code (high, low, says, e, f) = (high, low, says_back m limit hops net link_metric (high ∷ low ∷ []) says, e, f)
+shows_back : (m : MessageFields) (limit hops : ℕ) (net : NetAddr) (kind : MetricKind) (metric : Metric) → ShowsMetric (after_hops m limit hops) net kind metric → ShowsMetric m net kind metric
+shows_back m limit hops net kind metric (high, low, says, e, f) = (high, low, says_back m limit hops net link_metric (high ∷ low ∷ []) says, e, f)
 
 wrong_back : (m : MessageFields) (limit hops : ℕ) (net : NetAddr) → HasWrongMetric (after_hops m limit hops) net → HasWrongMetric m net
 wrong_back m limit hops net (inl h) = inl (other_back m limit hops net link_metric 2 h)

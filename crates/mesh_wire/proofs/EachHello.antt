@@ -18,21 +18,18 @@ use Rattle.mesh_wire.specs.HelloRows.{local_from, link_from, other_from, HelloRo
 use Rattle.mesh_wire.specs.HelloRules.{BreaksHello, AddressWidth, HopLimit, HopCount, NoValidity, WrongInterval, WrongWilling}
 use Rattle.mesh_wire.specs.Laws.{HasOctets, ReadsOrBreaks}
 use Rattle.mesh_wire.specs.Made.{HasRows}
-use Rattle.mesh_wire.specs.Metrics.{Link_in, Link_out, Near_in, Near_out}
 use Rattle.mesh_wire.specs.RowRules.{hello_rule}
-use Rattle.mesh_wire.specs.Rows.{HasValue}
 use Rattle.mesh_wire.specs.Rules.{Keeps}
 use Rattle.mesh_wire.specs.Singles.{value_from}
-use Rattle.mesh_wire.proofs.Deciding.{other_or, validity_or, interval_or, willing_or, willing_octet, metric_of}
+use Rattle.mesh_wire.proofs.Deciding.{other_or, validity_or, interval_or, willing_or, willing_octet}
 use Rattle.mesh_wire.proofs.HelloHeading.{first_number, width_kept, limit_kept, count_kept, validity_kept, interval_kept, willing_kept}
 use Rattle.mesh_wire.proofs.HelloRead.{rule_found, rows_found}
 use Rattle.mesh_wire.proofs.InOrder.{NoneBelow, Decided, Outcome, first_or_none, of_either, of_rows}
-use Rattle.mesh_wire.proofs.Slots.{RowIs}
 
 -- ---- a row of what is kept
 
-row_by : (m : MessageFields) → HasOctets m → (t : AddressParts) → RowIs (HasValue m t.net) t.parts → (o : Option ℕ) → value_from t.parts.local.one ≡ o → (r : HelloRow) × HelloRowFrom t r
-row_by m octets t h (Some n) e = (
+row_by : (t : AddressParts) (o : Option ℕ) → value_from t.parts.local.one ≡ o → (r : HelloRow) × HelloRowFrom t r
+row_by t (Some n) e = (
   record {
     addr = t.net;
     local = Some (local_from n);
@@ -48,26 +45,22 @@ row_by m octets t h (Some n) e = (
     of_sender = λ some. record { link = refl; other = refl; metrics = refl; mpr = refl };
   },
 )
-row_by m octets t h None e =
-    let a = metric_of m octets t.net Link_in t.parts.link_in h.link_in in
-    let b = metric_of m octets t.net Link_out t.parts.link_out h.link_out in
-    let c = metric_of m octets t.net Near_in t.parts.near_in h.near_in in
-    let d = metric_of m octets t.net Near_out t.parts.near_out h.near_out in (
-      record {
-        addr = t.net;
-        local = None;
-        link = option_map link_from (value_from t.parts.link.one);
-        other = option_map other_from (value_from t.parts.other.one);
-        metrics = record { link_in = a.0; link_out = b.0; near_in = c.0; near_out = d.0 };
-        mpr = record { flooding = t.parts.flooding; routing = t.parts.routing };
-      },
-      record {
-        addr = refl;
-        local = ap (option_map local_from) (sym e);
-        of_other = λ none. record { link = refl; other = refl; link_in = a.1; link_out = b.1; near_in = c.1; near_out = d.1; flooding = refl; routing = refl };
-        of_sender = λ some. absurd (cc);
-      },
-    )
+row_by t None e = (
+  record {
+    addr = t.net;
+    local = None;
+    link = option_map link_from (value_from t.parts.link.one);
+    other = option_map other_from (value_from t.parts.other.one);
+    metrics = record { link_in = value_from t.parts.link_in; link_out = value_from t.parts.link_out; near_in = value_from t.parts.near_in; near_out = value_from t.parts.near_out };
+    mpr = record { flooding = t.parts.flooding; routing = t.parts.routing };
+  },
+  record {
+    addr = refl;
+    local = ap (option_map local_from) (sym e);
+    of_other = λ none. record { link = refl; other = refl; link_in = refl; link_out = refl; near_in = refl; near_out = refl; flooding = refl; routing = refl };
+    of_sender = λ some. absurd (cc);
+  },
+)
 
 originator_of : (o : Option RawAddr) → (a : Option Addr4) × OriginatorIs o a
 originator_of None = (None, tt)
@@ -77,7 +70,7 @@ originator_of (Some address) = (Some (record { 0 = address_in address.octets }),
 
 module _ (m : MessageFields) (octets : HasOctets m) where
   of_heading : (heading : HelloHeader) → HeadingIs m heading → Outcome (HelloIs m) (BreaksHello m)
-  of_heading heading h = of_rows m HelloRowFrom hello_rule (HelloIs m) (BreaksHello m) (λ t is. row_by m octets t is (value_from t.parts.local.one) refl) (rule_found m heading h) value
+  of_heading heading h = of_rows m HelloRowFrom hello_rule (HelloIs m) (BreaksHello m) (λ t is. row_by t (value_from t.parts.local.one) refl) (rule_found m heading h) value
     where
       value : (rows : List HelloRow) → HasRows HelloRowFrom hello_rule (of_blocks m.blocks) rows → (hello : Hello) × HelloIs m hello × Keeps (BreaksHello m)
       value rows has =

@@ -1,7 +1,6 @@
 -- Each message reads as a TC or breaks a first rule of one.
-use Rattle.std.proofs.Common.{◌≡◌, ℕ, ◌<◌, ◌/◌, ◌⊎◌, inl, inr, refl, arith, List}
+use Rattle.std.proofs.Common.{◌≡◌, ℕ, ◌<◌, ◌⊎◌, inl, inr, refl, arith, List}
 use Rattle.std.specs.Prelude.{Option, Some, None}
-use Rattle.std.specs.Option.{option_map}
 use Rattle.std.proofs.lemmas.Bool.{cases_eq}
 use Rattle.mesh_atoms.specs.declared.addr.Addr4.{Addr4}
 use Rattle.mesh_atoms.specs.declared.tc.Tc.{Tc}
@@ -16,27 +15,23 @@ use Rattle.mesh_wire.specs.Entries.{of_blocks}
 use Rattle.mesh_wire.specs.Hello.{OriginatorIs}
 use Rattle.mesh_wire.specs.Laws.{HasOctets, ReadsOrBreaks}
 use Rattle.mesh_wire.specs.Made.{HasRows}
-use Rattle.mesh_wire.specs.Metrics.{Near_out}
 use Rattle.mesh_wire.specs.RowRules.{tc_rule}
-use Rattle.mesh_wire.specs.Rows.{HasValue}
 use Rattle.mesh_wire.specs.Rules.{Keeps}
 use Rattle.mesh_wire.specs.Tc.{TcIs}
 use Rattle.mesh_wire.specs.TcHeading.{TcHeadingIs, TcRowFrom}
 use Rattle.mesh_wire.specs.TcRules.{BreaksTc, AddressWidth, NoOriginator, NoSequence, NoValidity, WrongInterval, Content}
 use Rattle.mesh_wire.specs.Times.{distance_of}
 use Rattle.mesh_wire.specs.Singles.{value_from}
-use Rattle.mesh_wire.proofs.Deciding.{validity_or, interval_or, content_or, metric_of}
+use Rattle.mesh_wire.proofs.Deciding.{validity_or, interval_or, content_or}
 use Rattle.mesh_wire.proofs.InOrder.{NoneBelow, Decided, Outcome, first_or_none, of_either, of_rows}
-use Rattle.mesh_wire.proofs.Slots.{RowIs}
 use Rattle.mesh_wire.proofs.TcHeading.{first_number, width_kept, header_kept, validity_kept, interval_kept, content_kept, an_originator}
 use Rattle.mesh_wire.proofs.TcRead.{rule_found, rows_found}
 
-row_of : (m : MessageFields) → HasOctets m → (t : AddressParts) → RowIs (HasValue m t.net) t.parts → (r : TcRow) × TcRowFrom t r
-row_of m octets t h =
-    let a = metric_of m octets t.net Near_out t.parts.near_out h.near_out in (
-      record { dest = t.net; origin = t.parts.origin; routable = t.parts.routable; gateway = option_map (λ (n : ℕ). n / 256) (value_from t.parts.gateway); metric = a.0 },
-      record { dest = refl; origin = refl; routable = refl; gateway = refl; metric = a.1 },
-    )
+row_of : (t : AddressParts) → (r : TcRow) × TcRowFrom t r
+row_of t = (
+  record { dest = t.net; origin = t.parts.origin; routable = t.parts.routable; gateway = value_from t.parts.gateway; metric = value_from t.parts.near_out },
+  record { dest = refl; origin = refl; routable = refl; gateway = refl; metric = refl },
+)
 
 self_of : RawAddr → Addr4
 self_of address = record { 0 = address_in address.octets }
@@ -52,7 +47,7 @@ there_or (Some a) = inl (a, refl)
 
 module _ (m : MessageFields) (octets : HasOctets m) where
   of_heading : (heading : TcHeader) → TcHeadingIs m heading → Outcome (TcIs m) (BreaksTc m)
-  of_heading heading h = of_rows m TcRowFrom tc_rule (TcIs m) (BreaksTc m) (row_of m octets) (rule_found m heading h) value
+  of_heading heading h = of_rows m TcRowFrom tc_rule (TcIs m) (BreaksTc m) (λ t is. row_of t) (rule_found m heading h) value
     where
       value : (rows : List TcRow) → HasRows TcRowFrom tc_rule (of_blocks m.blocks) rows → (tc : Tc) × TcIs m tc × Keeps (BreaksTc m)
       value rows has = let (keeps, true_rows) = rows_found m heading h rows has in (

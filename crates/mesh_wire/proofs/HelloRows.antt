@@ -1,5 +1,5 @@
 -- Rows that are made of what is kept are the rows of the HELLO.
-use Rattle.std.proofs.Common.{◌≡◌, ℕ, zero, suc, ◌*◌, ◌/◌, ◌<◌, refl, sym, ◌∙◌, ap, subst, arith, Bool, false, List, Contains}
+use Rattle.std.proofs.Common.{◌≡◌, ℕ, zero, suc, ◌<◌, refl, sym, ◌∙◌, ap, subst, arith, Bool, false, List, Contains}
 use Rattle.std.specs.Prelude.{◌||◌, ◌↔◌, Option, Some, None, IsTrue}
 use Rattle.std.specs.Option.{option_map}
 use Rattle.mesh_atoms.specs.declared.addr.NetAddr.{NetAddr}
@@ -11,17 +11,17 @@ use Rattle.mesh_wire.specs.declared.singles.Single.{Single}
 use Rattle.mesh_wire.specs.declared.singles.Single.TheVariants.{Absent, Value, Conflict}
 use Rattle.mesh_wire.specs.declared.parts.Octets.{Octets}
 use Rattle.mesh_wire.specs.Hello.{local_value, link_value, other_value, IsReadHelloRow}
-use Rattle.mesh_wire.specs.HelloRows.{local_from, link_from, other_from, MetricFrom, HelloRowFrom}
-use Rattle.mesh_wire.specs.Kinds.{local_if, link_status, other_neighb, link_metric, mpr}
+use Rattle.mesh_wire.specs.HelloRows.{local_from, link_from, other_from, HelloRowFrom}
+use Rattle.mesh_wire.specs.Kinds.{local_if, link_status, other_neighb, mpr}
 use Rattle.mesh_wire.specs.Made.{AreMade}
-use Rattle.mesh_wire.specs.Metrics.{MetricKind, Link_in, Link_out, Near_in, Near_out, flag_of, ShowsMetric, MetricIs}
+use Rattle.mesh_wire.specs.Metrics.{MetricKind, Link_in, Link_out, Near_in, Near_out, ShowsMetric, MetricIs}
 use Rattle.mesh_wire.specs.Rows.{HoldsAddress, HasValue, OctetIs, SaysFlag, AreRows}
 use Rattle.mesh_wire.specs.Rules.{IsOctet}
 use Rattle.mesh_wire.specs.Singles.{is_conflict, value_from}
-use Rattle.mesh_wire.proofs.HelloRuled.{code_of, of_code, Sound}
+use Rattle.mesh_wire.proofs.HelloRuled.{Sound}
 use Rattle.mesh_wire.proofs.Kept.{AreTold, right_octet, in_range}
 use Rattle.mesh_wire.proofs.Made.{made_from, made_of, ascending_made}
-use Rattle.mesh_wire.proofs.Slots.{OneIs, InRange, OctetsAre, Shows, RowIs}
+use Rattle.mesh_wire.proofs.Slots.{OneIs, InRange, OctetsAre, RowIs}
 use Rattle.std.proofs.lemmas.Bool.{or_parts}
 
 -- ---- one octet
@@ -66,18 +66,10 @@ other_back (suc (suc n)) h = absurd (omega arith)
 
 -- ---- metrics
 
-sixteenth : (n code : ℕ) → n ≡ 16 * code → n / 16 ≡ code
-sixteenth n code e = omega (arith, e)
-
-pub metric_is : (m : MessageFields) (net : NetAddr) (kind : MetricKind) (one : Single ℕ) (metric : Option Metric) → OneIs (Shows (HasValue m net link_metric) (flag_of kind)) one → is_conflict one ≡ false → MetricFrom one metric → MetricIs m net kind metric
-metric_is m net kind Absent None h e f = λ code shows. h (16 * code) (of_code m net kind code shows)
-metric_is m net kind Absent (Some metric) h e f = absurd (cc)
-metric_is m net kind (Value n) None h e f = absurd (cc)
-metric_is m net kind (Value n) (Some metric) h e f =
-    let (code, shows, is) = code_of m net kind n h.0 in
-    let same : metric.code ≡ n / 16 = cc in
-    subst (ShowsMetric m net kind) (sym (same ∙ sixteenth n code is)) shows
-metric_is m net kind Conflict metric h e f = absurd (cc)
+pub metric_is : (m : MessageFields) (net : NetAddr) (kind : MetricKind) (one : Single Metric) (metric : Option Metric) → OneIs (ShowsMetric m net kind) one → is_conflict one ≡ false → metric ≡ value_from one → MetricIs m net kind metric
+metric_is m net kind Absent metric h e is = rw is h
+metric_is m net kind (Value n) metric h e is = rw is h.0
+metric_is m net kind Conflict metric h e is = absurd (cc)
 
 -- ---- one row
 

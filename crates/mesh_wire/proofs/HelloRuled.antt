@@ -1,8 +1,9 @@
 -- The rules on the addresses of a HELLO, by tests of what is kept.
-use Rattle.std.proofs.Common.{◌≡◌, ℕ, ◌+◌, ◌*◌, ◌%◌, ◌≤◌, ◌⊎◌, inl, inr, refl, sym, ◌∙◌, ap, subst, arith, Bool, true, false, cond, List, [], ◌∷◌, Contains, lit≤}
-use Rattle.std.specs.Prelude.{◌||◌, ◌&&◌, ◌≢◌, Option, Some, None, nat_lt}
+use Rattle.std.proofs.Common.{◌≡◌, ℕ, ◌≤◌, ◌⊎◌, inl, inr, refl, sym, ◌∙◌, ap, subst, arith, Bool, true, false, cond, List, [], ◌∷◌, Contains, lit≤}
+use Rattle.std.specs.Prelude.{◌||◌, ◌&&◌, Option, Some, None, nat_lt}
 use Rattle.std.proofs.lemmas.Bool.{cases_Bool, ltb-true, lt-ltb, and_parts as both, or_cases, or_left, or_right, and_from as and_both}
 use Rattle.mesh_atoms.specs.declared.addr.NetAddr.{NetAddr}
+use Rattle.mesh_atoms.specs.declared.codes.metric.Metric.{Metric}
 use Rattle.mesh_packet.specs.Fields.{MessageFields}
 use Rattle.mesh_wire.specs.declared.collect.AddressParts.{AddressParts}
 use Rattle.mesh_wire.specs.declared.singles.Single.{Single}
@@ -10,13 +11,13 @@ use Rattle.mesh_wire.specs.declared.parts.Octets.{Octets}
 use Rattle.mesh_wire.specs.declared.parts.RowParts.{RowParts}
 use Rattle.mesh_wire.specs.RowRules.{is_undefined, has_two, has_status, has_wrong_metric, hello_rule}
 use Rattle.mesh_wire.specs.HelloRules.{BreaksHello, AddressWidth, HopLimit, HopCount, NoValidity, WrongInterval, WrongWilling, Undefined, TwoValues, ShortPrefix, WrongMetric}
-use Rattle.mesh_wire.specs.Kinds.{IsStatusBelow, link_metric}
-use Rattle.mesh_wire.specs.Metrics.{MetricKind, Link_in, Link_out, Near_in, Near_out, flag_of, ShowsMetric, HasWrongMetric}
+use Rattle.mesh_wire.specs.Kinds.{IsStatusBelow}
+use Rattle.mesh_wire.specs.Metrics.{MetricKind, Link_in, Link_out, Near_in, Near_out, ShowsMetric, HasWrongMetric}
 use Rattle.mesh_wire.specs.Rows.{HoldsAddress, HasValue}
 use Rattle.mesh_wire.specs.Singles.{is_conflict, is_said}
 use Rattle.mesh_wire.proofs.Kept.{AreTold, told_of, says_has, right_octet, in_range, differ_conflict, conflict_differ, one_said, said_one}
 use Rattle.mesh_wire.proofs.Ruled.{Decides, Reaches}
-use Rattle.mesh_wire.proofs.Slots.{OneIs, InRange, OctetsAre, Shows, RowIs}
+use Rattle.mesh_wire.proofs.Slots.{OneIs, InRange, OctetsAre, RowIs}
 
 -- ---- the three types together
 
@@ -53,31 +54,17 @@ three_none test r kind bound status e = elim (cases_Bool (test (kept_of status r
   | inr n ↦ n
 ]
 
--- ---- codes
+-- ---- metrics
 
--- what shows 16 times a code shows the code
-pub code_of : (m : MessageFields) (net : NetAddr) (kind : MetricKind) (n : ℕ) → Shows (HasValue m net link_metric) (flag_of kind) n → (code : ℕ) × ShowsMetric m net kind code × (n ≡ 16 * code)
-code_of m net kind n (high, low, said, on, is) = (256 * (high % 16) + low, (high, low, said, on, refl), is)
-
-pub of_code : (m : MessageFields) (net : NetAddr) (kind : MetricKind) (code : ℕ) → ShowsMetric m net kind code → Shows (HasValue m net link_metric) (flag_of kind) (16 * code)
-of_code m net kind code (high, low, said, on, is) = (high, low, said, on, ap (λ (k : ℕ). 16 * k) is)
-
-two_codes : (m : MessageFields) (net : NetAddr) (kind : MetricKind) (one : Single ℕ) → OneIs (Shows (HasValue m net link_metric) (flag_of kind)) one → is_conflict one ≡ true → HasWrongMetric m net
-two_codes m net kind one h e =
-    let (a, b, x, y, d) = conflict_differ (Shows (HasValue m net link_metric) (flag_of kind)) one h e in
-    let (c, s, f) = code_of m net kind a x in
-    let (k, t, g) = code_of m net kind b y in
-    inr (kind, c, k, s, t, λ same. d (f ∙ ap (λ (j : ℕ). 16 * j) same ∙ sym g))
-
-codes_two : (m : MessageFields) (net : NetAddr) (kind : MetricKind) (one : Single ℕ) (a b : ℕ) → OneIs (Shows (HasValue m net link_metric) (flag_of kind)) one → ShowsMetric m net kind a → ShowsMetric m net kind b → a ≢ b → is_conflict one ≡ true
-codes_two m net kind one a b h x y d = differ_conflict (Shows (HasValue m net link_metric) (flag_of kind)) one (16 * a) (16 * b) h (of_code m net kind a x) (of_code m net kind b y) (λ e. d (omega (arith, e)))
+two_metrics : (m : MessageFields) (net : NetAddr) (kind : MetricKind) (one : Single Metric) → OneIs (ShowsMetric m net kind) one → is_conflict one ≡ true → HasWrongMetric m net
+two_metrics m net kind one h e = let (a, b, x, y, d) = conflict_differ (ShowsMetric m net kind) one h e in inr (kind, a, b, x, y, d)
 
 pub wrong_metric : (m : MessageFields) (net : NetAddr) (r : RowParts) → RowIs (HasValue m net) r → has_wrong_metric r ≡ true → HasWrongMetric m net
 wrong_metric m net r h e = elim (or_cases r.wrong_metric ((is_conflict r.link_in || is_conflict r.link_out) || (is_conflict r.near_in || is_conflict r.near_out)) e) [
   | inl w ↦ inl (h.wrong_metric.0 w)
   | inr some ↦ elim (or_cases (is_conflict r.link_in || is_conflict r.link_out) (is_conflict r.near_in || is_conflict r.near_out) some) [
-    | inl l ↦ elim (or_cases (is_conflict r.link_in) (is_conflict r.link_out) l) [ inl x ↦ two_codes m net Link_in r.link_in h.link_in x | inr x ↦ two_codes m net Link_out r.link_out h.link_out x ]
-    | inr l ↦ elim (or_cases (is_conflict r.near_in) (is_conflict r.near_out) l) [ inl x ↦ two_codes m net Near_in r.near_in h.near_in x | inr x ↦ two_codes m net Near_out r.near_out h.near_out x ]
+    | inl l ↦ elim (or_cases (is_conflict r.link_in) (is_conflict r.link_out) l) [ inl x ↦ two_metrics m net Link_in r.link_in h.link_in x | inr x ↦ two_metrics m net Link_out r.link_out h.link_out x ]
+    | inr l ↦ elim (or_cases (is_conflict r.near_in) (is_conflict r.near_out) l) [ inl x ↦ two_metrics m net Near_in r.near_in h.near_in x | inr x ↦ two_metrics m net Near_out r.near_out h.near_out x ]
   ]
 ]
 
@@ -96,10 +83,10 @@ module _ (r : RowParts) where
 
 pub metric_wrong : (m : MessageFields) (net : NetAddr) (r : RowParts) → RowIs (HasValue m net) r → HasWrongMetric m net → has_wrong_metric r ≡ true
 metric_wrong m net r h (inl w) = or_left r.wrong_metric (links r || nears r) (h.wrong_metric.1 w)
-metric_wrong m net r h (inr (Link_in, a, b, x, y, d)) = of_link r (or_left (is_conflict r.link_in) (is_conflict r.link_out) (codes_two m net Link_in r.link_in a b h.link_in x y d))
-metric_wrong m net r h (inr (Link_out, a, b, x, y, d)) = of_link r (or_right (is_conflict r.link_in) (is_conflict r.link_out) (codes_two m net Link_out r.link_out a b h.link_out x y d))
-metric_wrong m net r h (inr (Near_in, a, b, x, y, d)) = of_near r (or_left (is_conflict r.near_in) (is_conflict r.near_out) (codes_two m net Near_in r.near_in a b h.near_in x y d))
-metric_wrong m net r h (inr (Near_out, a, b, x, y, d)) = of_near r (or_right (is_conflict r.near_in) (is_conflict r.near_out) (codes_two m net Near_out r.near_out a b h.near_out x y d))
+metric_wrong m net r h (inr (Link_in, a, b, x, y, d)) = of_link r (or_left (is_conflict r.link_in) (is_conflict r.link_out) (differ_conflict (ShowsMetric m net Link_in) r.link_in a b h.link_in x y d))
+metric_wrong m net r h (inr (Link_out, a, b, x, y, d)) = of_link r (or_right (is_conflict r.link_in) (is_conflict r.link_out) (differ_conflict (ShowsMetric m net Link_out) r.link_out a b h.link_out x y d))
+metric_wrong m net r h (inr (Near_in, a, b, x, y, d)) = of_near r (or_left (is_conflict r.near_in) (is_conflict r.near_out) (differ_conflict (ShowsMetric m net Near_in) r.near_in a b h.near_in x y d))
+metric_wrong m net r h (inr (Near_out, a, b, x, y, d)) = of_near r (or_right (is_conflict r.near_in) (is_conflict r.near_out) (differ_conflict (ShowsMetric m net Near_out) r.near_out a b h.near_out x y d))
 
 pub wrong_metric_has : (m : MessageFields) (net : NetAddr) → HasWrongMetric m net → HoldsAddress m net
 wrong_metric_has m net (inl (x, said, other)) = says_has m net 7 x said

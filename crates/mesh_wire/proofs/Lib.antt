@@ -6,14 +6,12 @@ pub mod Ascending  -- replay
 pub mod Behind  -- replay
 pub mod Collecting  -- replay
 pub mod EachDistance  -- probe
-pub mod HelloRuled  -- probe
 pub mod Hops  -- machine, probe, replay
 pub mod Laid  -- machine
 pub mod OneHello  -- replay, report
 pub mod OneTc  -- replay, report
 pub mod RowLines  -- replay
 pub mod Single  -- report
-pub mod Slots  -- probe
 pub mod Standing  -- machine, probe, replay, trace
 -- Lemmas of this crate alone.
 mod Addresses
@@ -33,6 +31,7 @@ mod Headings
 mod HelloHeading
 mod HelloRead
 mod HelloRows
+mod HelloRuled
 mod HelloWritten
 mod InOrder
 mod Kept
@@ -43,6 +42,7 @@ mod Ranks
 mod RowsSay
 mod Ruled
 mod RunLaws
+mod Slots
 mod Spellings
 mod TcHeading
 mod TcRead

@@ -6,6 +6,7 @@ use Rattle.std.proofs.Math.Nat.{mul-div_right}
 use Rattle.mesh_atoms.specs.declared.hello.Metrics.{Metrics}
 use Rattle.mesh_atoms.specs.declared.codes.metric.Metric.{Metric}
 use Rattle.mesh_atoms.specs.Reading.{has}
+use Rattle.mesh_atoms.proofs.Rows.{same_metric}
 use Rattle.mesh_packet.specs.Fields.{MessageFields}
 use Rattle.mesh_packet.proofs.FlagSums.{tells_128, tells_64, tells_32, tells_16}
 use Rattle.mesh_wire.specs.declared.lines.AddressTlvKind.{AddressTlvKind}
@@ -13,7 +14,7 @@ use Rattle.mesh_wire.specs.declared.lines.AddressTlvKind.TheVariants.{Local, Lin
 use Rattle.mesh_wire.specs.declared.lines.AddressRecord.{AddressRecord}
 use Rattle.mesh_wire.specs.Kinds.{link_metric}
 use Rattle.mesh_wire.specs.Lines.{kind_of, is_wide, high, value_of, flags_number}
-use Rattle.mesh_wire.specs.Metrics.{MetricKind, Link_in, Link_out, Near_in, Near_out, flag_of, ShowsMetric, MetricIs}
+use Rattle.mesh_wire.specs.Metrics.{MetricKind, Link_in, Link_out, Near_in, Near_out, flag_of, metric_in, ShowsMetric, MetricIs}
 use Rattle.mesh_wire.specs.Rows.{HasValue, OctetIs, SaysFlag}
 use Rattle.mesh_wire.specs.Runs.{AreBlocks}
 use Rattle.mesh_wire.proofs.Laid.{said, says}
@@ -162,11 +163,11 @@ own_flag Near_out = refl
 pub has_flag : (k : MetricKind) (m : Metric) → has ((256 * flag_of k + m.code) / 256) (flag_of k) ≡ true
 has_flag k m = metric_flag k k m ∙ own_flag k
 
-code_again : (k : MetricKind) (m : Metric) → m.code ≡ 256 * ((256 * flag_of k + m.code) / 256 % 16) + (256 * flag_of k + m.code) % 256
-code_again Link_in m = let less = m.in_range in omega arith
-code_again Link_out m = let less = m.in_range in omega arith
-code_again Near_in m = let less = m.in_range in omega arith
-code_again Near_out m = let less = m.in_range in omega arith
+metric_again : (k : MetricKind) (m : Metric) → m ≡ metric_in ((256 * flag_of k + m.code) / 256) ((256 * flag_of k + m.code) % 256)
+metric_again Link_in m = let less = m.in_range in same_metric m _ (omega arith)
+metric_again Link_out m = let less = m.in_range in same_metric m _ (omega arith)
+metric_again Near_in m = let less = m.in_range in same_metric m _ (omega arith)
+metric_again Near_out m = let less = m.in_range in same_metric m _ (omega arith)
 
 same_two : (a b x y : ℕ) → Some (a ∷ (b ∷ [])) ≡ Some (x ∷ (y ∷ [])) → (a ≡ x) × (b ≡ y)
 same_two a b x y e = (cc, cc)
@@ -213,34 +214,31 @@ module _ (m : MessageFields) (lines : List AddressRecord) (are : AreBlocks lines
   flags_are c narrow true true e = ((λ t. inr (says m lines are line c (3 ∷ []) among e), λ s. refl), (λ t. inr (says m lines are line c (3 ∷ []) among e), λ s. refl))
 
   -- a metric that is said is the line's
-  from_metric : (k j : MetricKind) (o : Option Metric) (x y code : ℕ) → metric_of k line.metrics ≡ o → option_map (metric_octets k) o ≡ Some (x ∷ (y ∷ [])) → has x (flag_of j) ≡ true → code ≡ 256 * (x % 16) + y →
-      (metric : Metric) × (metric_of j line.metrics ≡ Some metric) × (metric.code ≡ code)
-  from_metric k j None x y code of e flag is = cc
-  from_metric k j (Some metric) x y code of e flag is =
+  from_metric : (k j : MetricKind) (o : Option Metric) (x y : ℕ) → metric_of k line.metrics ≡ o → option_map (metric_octets k) o ≡ Some (x ∷ (y ∷ [])) → has x (flag_of j) ≡ true → metric_of j line.metrics ≡ Some (metric_in x y)
+  from_metric k j None x y of e flag = cc
+  from_metric k j (Some metric) x y of e flag =
       let (first, second) = same_two ((256 * flag_of k + metric.code) / 256) ((256 * flag_of k + metric.code) % 256) x y e in
       let there : has ((256 * flag_of k + metric.code) / 256) (flag_of j) ≡ true = ap (λ (n : ℕ). has n (flag_of j)) first ∙ flag in
-      let same : k ≡ j = same_kind k j (sym (metric_flag k j metric) ∙ there) in (
-        metric,
-        subst (λ (i : MetricKind). metric_of i line.metrics ≡ Some metric) same of,
-        code_again k metric ∙ ap (λ (n : ℕ). 256 * (n % 16) + (256 * flag_of k + metric.code) % 256) first ∙ ap (λ (n : ℕ). 256 * (x % 16) + n) second ∙ sym is,
-      )
+      let same : k ≡ j = same_kind k j (sym (metric_flag k j metric) ∙ there) in
+      subst (λ (i : MetricKind). metric_of i line.metrics ≡ Some metric) same of
+      ∙ ap Some (metric_again k metric ∙ ap (λ (n : ℕ). metric_in n ((256 * flag_of k + metric.code) % 256)) first ∙ ap (metric_in x) second)
 
-  pub shown : (j : MetricKind) (code : ℕ) → ShowsMetric m line.net j code → (metric : Metric) × (metric_of j line.metrics ≡ Some metric) × (metric.code ≡ code)
-  shown j code (x, y, s, flag, is) =
+  pub shown : (j : MetricKind) (metric : Metric) → ShowsMetric m line.net j metric → metric_of j line.metrics ≡ Some metric
+  shown j metric (x, y, s, flag, is) =
       let (c, kind, v) = line_says link_metric (x ∷ (y ∷ [])) s in
       let (k, same) = metric_column c kind in
       let value : value_of (column_of k) line ≡ Some (x ∷ (y ∷ [])) = subst (λ (d : AddressTlvKind). value_of d line ≡ Some (x ∷ (y ∷ []))) same v in
-      from_metric k j (metric_of k line.metrics) x y code refl (sym (metric_value k line) ∙ value) flag is
+      from_metric k j (metric_of k line.metrics) x y refl (sym (metric_value k line) ∙ value) flag ∙ ap Some (sym is)
 
   metric_from : (k : MetricKind) (o : Option Metric) → metric_of k line.metrics ≡ o → MetricIs m line.net k o
-  metric_from k None e = λ code s. (let f = (shown k code s).1 in cc)
+  metric_from k None e = λ metric s. (let f = shown k metric s in cc)
   metric_from k (Some metric) e =
       let value : value_of (column_of k) line ≡ Some (metric_octets k metric) = metric_value k line ∙ ap (option_map (metric_octets k)) e in (
         (256 * flag_of k + metric.code) / 256,
         (256 * flag_of k + metric.code) % 256,
         subst (λ (kind : ℕ). HasValue m line.net kind (metric_octets k metric)) (column_kind k) (says m lines are line (column_of k) (metric_octets k metric) among value),
         has_flag k metric,
-        code_again k metric,
+        metric_again k metric,
       )
 
   pub metric_is : (k : MetricKind) → MetricIs m line.net k (metric_of k line.metrics)

@@ -66,26 +66,20 @@ module _ {Row : Type 0} (line_of : Row → AddressRecord) (rows : List Row) (m :
       let (row, there, of, v) = row_of c narrow net kind k x s in
       other (same_some v (said_of row there c narrow kind k y (at_row row net of kind y t)))
 
-  code_same : (x y : Metric) (o : Option Metric) → o ≡ Some x → o ≡ Some y → x.code ≡ y.code
-  code_same x y o e f = let same : x ≡ y = cc in ap (λ (n : Metric). n.code) same
+  -- one metric of a kind
+  one_metric : (row : Row) → Contains rows row → (k : MetricKind) (a b : Metric) → ShowsMetric m (line_of row).net k a → ShowsMetric m (line_of row).net k b → a ≡ b
+  one_metric row there k a b s t = same_some (shown m (map line_of rows) are unique (line_of row) (among row there) k a s) (shown m (map line_of rows) are unique (line_of row) (among row there) k b t)
 
-  -- one code of a kind of metric
-  one_code : (row : Row) → Contains rows row → (k : MetricKind) (a b : ℕ) → ShowsMetric m (line_of row).net k a → ShowsMetric m (line_of row).net k b → a ≡ b
-  one_code row there k a b s t =
-      let (x, is_x, a_is) = shown m (map line_of rows) are unique (line_of row) (among row there) k a s in
-      let (y, is_y, b_is) = shown m (map line_of rows) are unique (line_of row) (among row there) k b t in
-      sym a_is ∙ code_same x y _ is_x is_y ∙ b_is
-
-  -- metrics are of two octets, with one code of each kind on an address
+  -- metrics are of two octets, one of each kind on an address
   pub right_metric : (net : NetAddr) → HasWrongMetric m net → ⊥
   right_metric net (inl (octets, s, other)) =
       let (row, there, of) = row_there net link_metric octets s in
       let (x, y, is) = two_octets m (map line_of rows) are unique (line_of row) (among row there) octets (at_row row net of link_metric octets s) in
       other (ap length is)
   right_metric net (inr (k, a, b, s, t, other)) =
-      let (high, low, is, flag, code) = s in
+      let (high, low, is, flag, shown_is) = s in
       let (row, there, of) = row_there net link_metric (high ∷ (low ∷ [])) is in
-      other (one_code row there k a b (subst (λ (p : NetAddr). ShowsMetric m p k a) (sym of) s) (subst (λ (p : NetAddr). ShowsMetric m p k b) (sym of) t))
+      other (one_metric row there k a b (subst (λ (p : NetAddr). ShowsMetric m p k a) (sym of) s) (subst (λ (p : NetAddr). ShowsMetric m p k b) (sym of) t))
 
   -- ---- what is said of a row
 

@@ -52,11 +52,11 @@ one_octet message net kind (Some a) (Some b) not_two h k = elim (cases_eq a b) [
 
 pub one_metric : (message : MessageFields) (net : NetAddr) (kind : MetricKind) (a b : Option Metric) → (HasTwoMetrics message net → ⊥) → MetricIs message net kind a → MetricIs message net kind b → a ≡ b
 one_metric message net kind None None not_two h k = refl
-one_metric message net kind None (Some b) not_two h k = absurd (h b.code k)
-one_metric message net kind (Some a) None not_two h k = absurd (k a.code h)
+one_metric message net kind None (Some b) not_two h k = absurd (h b k)
+one_metric message net kind (Some a) None not_two h k = absurd (k a h)
 one_metric message net kind (Some a) (Some b) not_two h k = elim (cases_eq a.code b.code) [
   | inl e ↦ ap Some (same_metric a b e)
-  | inr other ↦ absurd (not_two (kind, a.code, b.code, h, k, other))
+  | inr other ↦ absurd (not_two (kind, a, b, h, k, λ e. other (ap (λ (m : Metric). m.code) e)))
 ]
 
 -- an enumeration is told by its values

@@ -1,14 +1,17 @@
 -- What is kept of values, and that one value more is kept too.
-use Rattle.std.proofs.Common.{◌≡◌, ℕ, ◌+◌, ◌*◌, ◌%◌, ◌<◌, ◌≤◌, ◌⊎◌, inl, inr, refl, sym, ◌∙◌, ap, subst, arith, Bool, true, false, List, length, [], ◌∷◌}
+use Rattle.std.proofs.Common.{◌≡◌, ℕ, ◌<◌, ◌≤◌, ◌⊎◌, inl, inr, refl, sym, ◌∙◌, ap, subst, arith, Bool, true, false, List, length, [], ◌∷◌}
 use Rattle.std.specs.Prelude.{◌==◌, ◌&&◌, ◌||◌, ◌↔◌, ◌≢◌, not, nat_eq, nat_le, nat_lt, IsTrue}
 use Rattle.std.proofs.lemmas.Bool.{cases_Bool, eq-eqb, ne_eqb, eqb-true, eqb-false, ltb-true, leb-true, lt-ltb, le-leb, or_cases, and_from as and_both, or_left, or_right, and_parts as both}
+use Rattle.mesh_atoms.specs.declared.codes.metric.Metric.{Metric}
 use Rattle.mesh_atoms.specs.Reading.{has}
+use Rattle.mesh_atoms.proofs.Rows.{same_metric}
 use Rattle.mesh_wire.specs.declared.singles.Single.{Single}
 use Rattle.mesh_wire.specs.declared.singles.Single.TheVariants.{Absent, Value, Conflict}
 use Rattle.mesh_wire.specs.declared.parts.Octets.{Octets}
 use Rattle.mesh_wire.specs.declared.parts.RowParts.{RowParts}
 use Rattle.mesh_wire.specs.Rules.{IsOctet}
-use Rattle.mesh_wire.specs.KeptParts.{code_also, is_octet_in, is_flag_set, octets_also, octet_also, has_other_length, no_parts, take_part}
+use Rattle.mesh_wire.specs.KeptParts.{has_same_code, metric_also, is_flag_set, octets_also, octet_also, has_other_length, no_parts, take_part}
+use Rattle.mesh_wire.specs.Metrics.{metric_in}
 use Rattle.mesh_wire.specs.Singles.{also}
 
 -- ---- several values
@@ -92,60 +95,61 @@ octets_more S U low bound o (n ∷ []) split keep said h = elim (cases_Bool (nat
       (λ i. let f : n ≡ i.0 = same_octet n i.0 i.1 in let t : (nat_le low n && nat_lt n bound) ≡ true = and_both _ _ (le-leb low n (omega (arith, i.2))) (lt-ltb n bound (omega (arith, i.3))) in cc) h)
 ]
 
--- ---- codes of metrics
+-- ---- metrics
 
--- a metric of two octets with the flag shows 16 times that code
-abbrev pub Shows : (List ℕ → Type 0) → ℕ → ℕ → Type 0
-Shows S flag code = (high : ℕ) × (low : ℕ) × S (high ∷ low ∷ []) × (has high flag ≡ true) × (code ≡ 16 * (256 * (high % 16) + low))
+-- a value of two octets with the flag shows its metric
+abbrev pub Shows : (List ℕ → Type 0) → ℕ → Metric → Type 0
+Shows S flag metric = (high : ℕ) × (low : ℕ) × S (high ∷ low ∷ []) × (has high flag ≡ true) × (metric ≡ metric_in high low)
 
-codes_same : (S U : List ℕ → Type 0) (flag : ℕ) (one : Single ℕ) → ((x : List ℕ) → U x → S x) → ((x : List ℕ) → S x → U x) → OneIs (Shows S flag) one → OneIs (Shows U flag) one
-codes_same S U flag one back keep h = one_same (Shows S flag) (Shows U flag) one
+metrics_same : (S U : List ℕ → Type 0) (flag : ℕ) (one : Single Metric) → ((x : List ℕ) → U x → S x) → ((x : List ℕ) → S x → U x) → OneIs (Shows S flag) one → OneIs (Shows U flag) one
+metrics_same S U flag one back keep h = one_same (Shows S flag) (Shows U flag) one
     (λ m (high, low, u, on, is). (high, low, back (high ∷ low ∷ []) u, on, is)) (λ m (high, low, s, on, is). (high, low, keep (high ∷ low ∷ []) s, on, is)) h
 
--- a value that shows no code of that kind
-codes_none : (S U : List ℕ → Type 0) (flag : ℕ) (one : Single ℕ) (new : List ℕ) → ((x : List ℕ) → U x → S x ⊎ (x ≡ new)) → ((x : List ℕ) → S x → U x) →
+-- a value that shows no metric of that kind
+metrics_none : (S U : List ℕ → Type 0) (flag : ℕ) (one : Single Metric) (new : List ℕ) → ((x : List ℕ) → U x → S x ⊎ (x ≡ new)) → ((x : List ℕ) → S x → U x) →
     ((high low : ℕ) → high ∷ low ∷ [] ≡ new → has high flag ≡ true → ⊥) → OneIs (Shows S flag) one → OneIs (Shows U flag) one
-codes_none S U flag one new split keep never h = one_same (Shows S flag) (Shows U flag) one
+metrics_none S U flag one new split keep never h = one_same (Shows S flag) (Shows U flag) one
     (λ m (high, low, u, on, is). elim (split (high ∷ low ∷ []) u) [ inl s ↦ (high, low, s, on, is) | inr e ↦ absurd (never high low e on) ])
     (λ m (high, low, s, on, is). (high, low, keep (high ∷ low ∷ []) s, on, is)) h
 
 same_two : (a b c d : ℕ) → ◌≡◌ {A = List ℕ} (a ∷ b ∷ []) (c ∷ d ∷ []) → (a ≡ c) × (b ≡ d)
 same_two a b c d e = let x : a ≡ c = cc in let y : b ≡ d = cc in (x, y)
 
-codes_more : (S U : List ℕ → Type 0) (flag : ℕ) (one : Single ℕ) (new : List ℕ) → ((x : List ℕ) → U x → S x ⊎ (x ≡ new)) → ((x : List ℕ) → S x → U x) → U new →
-    OneIs (Shows S flag) one → OneIs (Shows U flag) (code_also true flag new one)
-codes_more S U flag one [] split keep said h = codes_none S U flag one [] split keep (λ a b e on. cc) h
-codes_more S U flag one (x ∷ []) split keep said h = codes_none S U flag one (x ∷ []) split keep (λ a b e on. cc) h
-codes_more S U flag one (x ∷ y ∷ z ∷ rest) split keep said h = codes_none S U flag one (x ∷ y ∷ z ∷ rest) split keep (λ a b e on. cc) h
-codes_more S U flag one (high ∷ low ∷ []) split keep said h = elim (cases_Bool (has high flag)) [
-  | inl e ↦ rw e (one_more nat_eq numbers (Shows S flag) (Shows U flag) one (16 * (256 * (high % 16) + low))
+codes : Tells has_same_code
+codes a b = (λ e. same_metric a b (eqb-true a.code b.code e), λ e same. eqb-false a.code b.code e (ap (λ (m : Metric). m.code) same))
+
+metrics_more : (S U : List ℕ → Type 0) (flag : ℕ) (one : Single Metric) (new : List ℕ) → ((x : List ℕ) → U x → S x ⊎ (x ≡ new)) → ((x : List ℕ) → S x → U x) → U new →
+    OneIs (Shows S flag) one → OneIs (Shows U flag) (metric_also true flag new one)
+metrics_more S U flag one [] split keep said h = metrics_none S U flag one [] split keep (λ a b e on. cc) h
+metrics_more S U flag one (x ∷ []) split keep said h = metrics_none S U flag one (x ∷ []) split keep (λ a b e on. cc) h
+metrics_more S U flag one (x ∷ y ∷ z ∷ rest) split keep said h = metrics_none S U flag one (x ∷ y ∷ z ∷ rest) split keep (λ a b e on. cc) h
+metrics_more S U flag one (high ∷ low ∷ []) split keep said h = elim (cases_Bool (has high flag)) [
+  | inl e ↦ rw e (one_more has_same_code codes (Shows S flag) (Shows U flag) one (metric_in high low)
       (λ m (a, b, u, on, is). elim (split (a ∷ b ∷ []) u) [
         | inl s ↦ inl (a, b, s, on, is)
-        | inr f ↦ let p = same_two a b high low f in inr (is ∙ ap (λ (k : ℕ). 16 * (256 * (k % 16) + b)) p.0 ∙ ap (λ (k : ℕ). 16 * (256 * (high % 16) + k)) p.1)
+        | inr f ↦ let p = same_two a b high low f in inr (is ∙ ap (λ (k : ℕ). metric_in k b) p.0 ∙ ap (metric_in high) p.1)
       ])
       (λ m (a, b, s, on, is). (a, b, keep (a ∷ b ∷ []) s, on, is)) (high, low, said, e, refl) h)
-  | inr e ↦ rw e (codes_none S U flag one (high ∷ low ∷ []) split keep (λ a b f on. let p = same_two a b high low f in let t : has high flag ≡ true = ap (λ (k : ℕ). has k flag) (sym p.0) ∙ on in cc) h)
+  | inr e ↦ rw e (metrics_none S U flag one (high ∷ low ∷ []) split keep (λ a b f on. let p = same_two a b high low f in let t : has high flag ≡ true = ap (λ (k : ℕ). has k flag) (sym p.0) ∙ on in cc) h)
 ]
 
 -- ---- single octets
 
--- a value of one octet, 256 times
+-- a value of one octet
 abbrev pub Octet : (List ℕ → Type 0) → ℕ → Type 0
-Octet S n = (octet : ℕ) × S (octet ∷ []) × (n ≡ 256 * octet)
+Octet S n = S (n ∷ [])
 
 octet_same : (S U : List ℕ → Type 0) (one : Single ℕ) → ((x : List ℕ) → U x → S x) → ((x : List ℕ) → S x → U x) → OneIs (Octet S) one → OneIs (Octet U) one
-octet_same S U one back keep h = one_same (Octet S) (Octet U) one (λ m (o, u, is). (o, back (o ∷ []) u, is)) (λ m (o, s, is). (o, keep (o ∷ []) s, is)) h
+octet_same S U one back keep h = one_same (Octet S) (Octet U) one (λ n u. back (n ∷ []) u) (λ n s. keep (n ∷ []) s) h
 
-octet_none : (S U : List ℕ → Type 0) (one : Single ℕ) (new : List ℕ) → ((x : List ℕ) → U x → S x ⊎ (x ≡ new)) → ((x : List ℕ) → S x → U x) → ((o : ℕ) → o ∷ [] ≡ new → ⊥) → OneIs (Octet S) one → OneIs (Octet U) one
-octet_none S U one new split keep never h = one_same (Octet S) (Octet U) one
-    (λ m (o, u, is). elim (split (o ∷ []) u) [ inl s ↦ (o, s, is) | inr e ↦ absurd (never o e) ]) (λ m (o, s, is). (o, keep (o ∷ []) s, is)) h
+octet_none : (S U : List ℕ → Type 0) (one : Single ℕ) (new : List ℕ) → ((x : List ℕ) → U x → S x ⊎ (x ≡ new)) → ((x : List ℕ) → S x → U x) → ((n : ℕ) → n ∷ [] ≡ new → ⊥) → OneIs (Octet S) one → OneIs (Octet U) one
+octet_none S U one new split keep never h = one_same (Octet S) (Octet U) one (λ n u. elim (split (n ∷ []) u) [ inl s ↦ s | inr e ↦ absurd (never n e) ]) (λ n s. keep (n ∷ []) s) h
 
 octet_more : (S U : List ℕ → Type 0) (one : Single ℕ) (new : List ℕ) → ((x : List ℕ) → U x → S x ⊎ (x ≡ new)) → ((x : List ℕ) → S x → U x) → U new → OneIs (Octet S) one → OneIs (Octet U) (octet_also true new one)
-octet_more S U one [] split keep said h = octet_none S U one [] split keep (λ o e. cc) h
-octet_more S U one (a ∷ b ∷ rest) split keep said h = octet_none S U one (a ∷ b ∷ rest) split keep (λ o e. cc) h
-octet_more S U one (n ∷ []) split keep said h = one_more nat_eq numbers (Octet S) (Octet U) one (256 * n)
-    (λ m (o, u, is). elim (split (o ∷ []) u) [ inl s ↦ inl (o, s, is) | inr e ↦ inr (is ∙ ap (λ (k : ℕ). 256 * k) (same_octet o n e)) ])
-    (λ m (o, s, is). (o, keep (o ∷ []) s, is)) (n, said, refl) h
+octet_more S U one [] split keep said h = octet_none S U one [] split keep (λ n e. cc) h
+octet_more S U one (a ∷ b ∷ rest) split keep said h = octet_none S U one (a ∷ b ∷ rest) split keep (λ n e. cc) h
+octet_more S U one (n ∷ []) split keep said h = one_more nat_eq numbers (Octet S) (Octet U) one n
+    (λ m u. elim (split (m ∷ []) u) [ inl s ↦ inl s | inr e ↦ inr (same_octet m n e) ]) (λ m s. keep (m ∷ []) s) said h
 
 -- ---- by types
 
@@ -171,13 +175,13 @@ module _ (S U : ℕ → List ℕ → Type 0) (kind : ℕ) (new : List ℕ) (more
     | inr e ↦ rw e (octets_same (S K) (U K) low bound o (apart (eqb-false kind K e)) (more.keep K) h)
   ]
 
-  pub codes_at : (flag : ℕ) (one : Single ℕ) → OneIs (Shows (S K) flag) one → OneIs (Shows (U K) flag) (code_also (kind == K) flag new one)
-  codes_at flag one h = elim (cases_Bool (kind == K)) [
-    | inl e ↦ let f = eqb-true kind K e in rw e (codes_more (S K) (U K) flag one new (here f) (more.keep K) (new_here f) h)
-    | inr e ↦ rw e (off new (codes_same (S K) (U K) flag one (apart (eqb-false kind K e)) (more.keep K) h))
+  pub metrics_at : (flag : ℕ) (one : Single Metric) → OneIs (Shows (S K) flag) one → OneIs (Shows (U K) flag) (metric_also (kind == K) flag new one)
+  metrics_at flag one h = elim (cases_Bool (kind == K)) [
+    | inl e ↦ let f = eqb-true kind K e in rw e (metrics_more (S K) (U K) flag one new (here f) (more.keep K) (new_here f) h)
+    | inr e ↦ rw e (off new (metrics_same (S K) (U K) flag one (apart (eqb-false kind K e)) (more.keep K) h))
   ]
     where
-      off : (octets : List ℕ) → OneIs (Shows (U K) flag) one → OneIs (Shows (U K) flag) (code_also false flag octets one)
+      off : (octets : List ℕ) → OneIs (Shows (U K) flag) one → OneIs (Shows (U K) flag) (metric_also false flag octets one)
       off [] g = g
       off (x ∷ []) g = g
       off (x ∷ y ∷ []) g = g
@@ -220,23 +224,14 @@ module _ (S U : ℕ → List ℕ → Type 0) (kind : ℕ) (new : List ℕ) (more
 abbrev pub IsFlag : ℕ → List ℕ → Type 0
 IsFlag flag x = (x ≡ flag ∷ []) ⊎ (x ≡ 3 ∷ [])
 
-octet_is : (n : ℕ) (x : List ℕ) → is_octet_in n (n + 1) x ≡ true → x ≡ n ∷ []
-octet_is n [] e = absurd (cc)
-octet_is n (a ∷ b ∷ rest) e = absurd (cc)
-octet_is n (a ∷ []) e =
-    let p = both (nat_le n a) (nat_lt a (n + 1)) e in
-    let same : a ≡ n = omega (arith, leb-true n a p.0, ltb-true a (n + 1) p.1) in
-    ap (λ (k : ℕ). k ∷ []) same
-
-is_octet : (n : ℕ) → is_octet_in n (n + 1) (n ∷ []) ≡ true
-is_octet n = and_both (nat_le n n) (nat_lt n (n + 1)) (le-leb n n (omega arith)) (lt-ltb n (n + 1) (omega arith))
-
 flag_said : (flag : ℕ) (x : List ℕ) → is_flag_set flag x ≡ true → IsFlag flag x
-flag_said flag x e = elim (or_cases (is_octet_in flag (flag + 1) x) (is_octet_in 3 4 x) e) [ inl t ↦ inl (octet_is flag x t) | inr t ↦ inr (octet_is 3 x t) ]
+flag_said flag [] e = absurd (cc)
+flag_said flag (a ∷ b ∷ rest) e = absurd (cc)
+flag_said flag (n ∷ []) e = elim (or_cases (n == flag) (n == 3) e) [ inl t ↦ inl (rw (eqb-true n flag t) refl) | inr t ↦ inr (rw (eqb-true n 3 t) refl) ]
 
 said_flag : (flag : ℕ) (x : List ℕ) → IsFlag flag x → is_flag_set flag x ≡ true
-said_flag flag x (inl e) = or_left (is_octet_in flag (flag + 1) x) (is_octet_in 3 4 x) (rw e (is_octet flag))
-said_flag flag x (inr e) = or_right (is_octet_in flag (flag + 1) x) (is_octet_in 3 4 x) (rw e refl)
+said_flag flag x (inl e) = rw e (or_left (flag == flag) (flag == 3) (eq-eqb flag flag refl))
+said_flag flag x (inr e) = rw e (or_right (3 == flag) (3 == 3) refl)
 
 module _ (S U : ℕ → List ℕ → Type 0) (kind : ℕ) (new : List ℕ) (more : IsMore S U kind new) (K : ℕ) where
   pub flag_at : (flag : ℕ) (b : Bool) → (IsTrue b ↔ (S K (flag ∷ []) ⊎ S K (3 ∷ []))) → IsTrue (b || (kind == K && is_flag_set flag new)) ↔ (U K (flag ∷ []) ⊎ U K (3 ∷ []))
@@ -277,10 +272,10 @@ row_more S U kind new r more h = record {
   wrong_gateway = short_at S U kind new more 10 1 r.wrong_gateway h.wrong_gateway;
   gateway = octet_at S U kind new more 10 r.gateway h.gateway;
   wrong_metric = short_at S U kind new more 7 2 r.wrong_metric h.wrong_metric;
-  link_in = codes_at S U kind new more 7 128 r.link_in h.link_in;
-  link_out = codes_at S U kind new more 7 64 r.link_out h.link_out;
-  near_in = codes_at S U kind new more 7 32 r.near_in h.near_in;
-  near_out = codes_at S U kind new more 7 16 r.near_out h.near_out;
+  link_in = metrics_at S U kind new more 7 128 r.link_in h.link_in;
+  link_out = metrics_at S U kind new more 7 64 r.link_out h.link_out;
+  near_in = metrics_at S U kind new more 7 32 r.near_in h.near_in;
+  near_out = metrics_at S U kind new more 7 16 r.near_out h.near_out;
   flooding = flag_at S U kind new more 8 1 r.flooding h.flooding;
   routing = flag_at S U kind new more 8 2 r.routing h.routing;
   origin = flag_at S U kind new more 9 1 r.origin h.origin;
@@ -305,10 +300,10 @@ module _ (S U : ℕ → List ℕ → Type 0) (back : (k : ℕ) (x : List ℕ) �
     wrong_gateway = (λ e. let w = h.wrong_gateway.0 e in (w.0, keep 10 w.0 w.1, w.2), λ w. h.wrong_gateway.1 (w.0, back 10 w.0 w.1, w.2));
     gateway = octet_same (S 10) (U 10) r.gateway (back 10) (keep 10) h.gateway;
     wrong_metric = (λ e. let w = h.wrong_metric.0 e in (w.0, keep 7 w.0 w.1, w.2), λ w. h.wrong_metric.1 (w.0, back 7 w.0 w.1, w.2));
-    link_in = codes_same (S 7) (U 7) 128 r.link_in (back 7) (keep 7) h.link_in;
-    link_out = codes_same (S 7) (U 7) 64 r.link_out (back 7) (keep 7) h.link_out;
-    near_in = codes_same (S 7) (U 7) 32 r.near_in (back 7) (keep 7) h.near_in;
-    near_out = codes_same (S 7) (U 7) 16 r.near_out (back 7) (keep 7) h.near_out;
+    link_in = metrics_same (S 7) (U 7) 128 r.link_in (back 7) (keep 7) h.link_in;
+    link_out = metrics_same (S 7) (U 7) 64 r.link_out (back 7) (keep 7) h.link_out;
+    near_in = metrics_same (S 7) (U 7) 32 r.near_in (back 7) (keep 7) h.near_in;
+    near_out = metrics_same (S 7) (U 7) 16 r.near_out (back 7) (keep 7) h.near_out;
     flooding = either 8 1 r.flooding h.flooding;
     routing = either 8 2 r.routing h.routing;
     origin = either 9 1 r.origin h.origin;
@@ -319,7 +314,7 @@ module _ (S U : ℕ → List ℕ → Type 0) (back : (k : ℕ) (x : List ℕ) �
 pub row_none : (S : ℕ → List ℕ → Type 0) → ((k : ℕ) (x : List ℕ) → S k x → ⊥) → RowIs S no_parts
 row_none S never =
     let octets : (k low bound : ℕ) → OctetsAre (S k) low bound (record { wrong = false; one = Absent }) = λ k low bound. record { wrong = (λ e. absurd (cc), λ w. absurd (never k w.0 w.1)); one = λ n t. never k (n ∷ []) t.0 } in
-    let codes : (flag : ℕ) (n : ℕ) → Shows (S 7) flag n → ⊥ = λ flag n (high, low, s, on, is). never 7 (high ∷ low ∷ []) s in
+    let shows : (flag : ℕ) (metric : Metric) → Shows (S 7) flag metric → ⊥ = λ flag metric (high, low, s, on, is). never 7 (high ∷ low ∷ []) s in
     let flag : (k f : ℕ) → IsTrue false ↔ (S k (f ∷ []) ⊎ S k (3 ∷ [])) = λ k f. (λ e. absurd (cc), λ u. elim u [ inl v ↦ absurd (never k (f ∷ []) v) | inr v ↦ absurd (never k (3 ∷ []) v) ]) in
     record {
       local = octets 2 0 2;
@@ -327,12 +322,12 @@ row_none S never =
       other = octets 4 0 2;
       addr_type = octets 9 1 4;
       wrong_gateway = (λ e. absurd (cc), λ w. absurd (never 10 w.0 w.1));
-      gateway = λ n (octet, s, is). never 10 (octet ∷ []) s;
+      gateway = λ n s. never 10 (n ∷ []) s;
       wrong_metric = (λ e. absurd (cc), λ w. absurd (never 7 w.0 w.1));
-      link_in = codes 128;
-      link_out = codes 64;
-      near_in = codes 32;
-      near_out = codes 16;
+      link_in = shows 128;
+      link_out = shows 64;
+      near_in = shows 32;
+      near_out = shows 16;
       flooding = flag 8 1;
       routing = flag 8 2;
       origin = flag 9 1;

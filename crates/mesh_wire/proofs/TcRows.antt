@@ -1,7 +1,6 @@
 -- Rows that are made of what is kept are the rows of the TC.
-use Rattle.std.proofs.Common.{◌≡◌, ℕ, ◌*◌, ◌/◌, inl, inr, refl, sym, ◌∙◌, subst, arith, Bool, true, false, List, [], ◌∷◌, length, Contains}
+use Rattle.std.proofs.Common.{◌≡◌, ℕ, inl, inr, sym, ◌∙◌, subst, Bool, true, false, List, length, Contains}
 use Rattle.std.specs.Prelude.{◌↔◌, IsTrue, ◌≢◌}
-use Rattle.std.specs.Option.{option_map}
 use Rattle.std.proofs.lemmas.Bool.{cases_eq}
 use Rattle.mesh_atoms.specs.declared.addr.NetAddr.{NetAddr}
 use Rattle.mesh_atoms.specs.declared.tc.TcRow.{TcRow}
@@ -24,14 +23,9 @@ use Rattle.mesh_wire.proofs.Slots.{OneIs, Octet, RowIs}
 
 -- ---- one row
 
-of_256 : (n octet : ℕ) → n ≡ 256 * octet → n / 256 ≡ octet
-of_256 n octet e = omega (arith, e)
-
-gateway_of : (m : MessageFields) (net : NetAddr) (one : Single ℕ) → OneIs (Octet (HasValue m net gateway)) one → ((x : List ℕ) → HasValue m net gateway x → length x ≡ 1) → is_conflict one ≡ false → OctetIs m net gateway (option_map (λ (n : ℕ). n / 256) (value_from one))
-gateway_of m net Absent h right e = λ x said. (let (n, is) = single_of x (right x said) in h (256 * n) (n, subst (HasValue m net gateway) is said, refl))
-gateway_of m net (Value n) h right e =
-    let (octet, said, is) = h.0 in
-    subst (λ (k : ℕ). HasValue m net gateway (k ∷ [])) (sym (of_256 n octet is)) said
+gateway_of : (m : MessageFields) (net : NetAddr) (one : Single ℕ) → OneIs (Octet (HasValue m net gateway)) one → ((x : List ℕ) → HasValue m net gateway x → length x ≡ 1) → is_conflict one ≡ false → OctetIs m net gateway (value_from one)
+gateway_of m net Absent h right e = λ x said. (let (n, is) = single_of x (right x said) in h n (subst (HasValue m net gateway) is said))
+gateway_of m net (Value n) h right e = h.0
 gateway_of m net Conflict h right e = absurd (cc)
 
 -- where no value is of another length, each is of that one

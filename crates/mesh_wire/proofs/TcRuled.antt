@@ -1,5 +1,5 @@
 -- The rules on the addresses of a TC, by tests of what is kept.
-use Rattle.std.proofs.Common.{◌≡◌, ℕ, ◌*◌, ◌<◌, ◌≤◌, ◌⊎◌, inl, inr, refl, sym, ◌∙◌, ap, subst, arith, Bool, true, false, cond, List, [], ◌∷◌, Contains, lit≤}
+use Rattle.std.proofs.Common.{◌≡◌, ℕ, ◌<◌, ◌≤◌, ◌⊎◌, inl, inr, refl, sym, ◌∙◌, ap, subst, arith, Bool, true, false, cond, List, [], ◌∷◌, Contains, lit≤}
 use Rattle.std.specs.Prelude.{◌||◌, ◌&&◌, Option, Some, None, nat_lt}
 use Rattle.std.proofs.lemmas.Bool.{cases_Bool, ltb-true, lt-ltb, and_parts as both, or_parts, or_cases, or_left, or_right, and_from as and_both}
 use Rattle.mesh_atoms.specs.declared.addr.NetAddr.{NetAddr}
@@ -73,10 +73,10 @@ gateway_broken : (m : MessageFields) (net : NetAddr) (r : RowParts) → RowIs (H
 gateway_broken m net r h e = elim (or_cases r.wrong_gateway (is_conflict r.gateway || (is_said r.gateway && is_said r.addr_type.one)) e) [
   | inl w ↦ GatewayOctet net (h.wrong_gateway.0 w)
   | inr rest ↦ elim (or_cases (is_conflict r.gateway) (is_said r.gateway && is_said r.addr_type.one) rest) [
-    | inl two ↦ let (a, b, (o, x, is_o), (p, y, is_p), d) = conflict_differ (Octet (HasValue m net gateway)) r.gateway h.gateway two in TwoGateways net (o ∷ [], p ∷ [], x, y, λ same. d (is_o ∙ ap (λ (k : ℕ). 256 * k) (head_of o p same) ∙ sym is_p))
+    | inl two ↦ let (o, p, x, y, d) = conflict_differ (Octet (HasValue m net gateway)) r.gateway h.gateway two in TwoGateways net (o ∷ [], p ∷ [], x, y, λ same. d (head_of o p same))
     | inr beside ↦
         let p = both (is_said r.gateway) (is_said r.addr_type.one) beside in
-        let (a, (o, x, is)) = said_one (Octet (HasValue m net gateway)) r.gateway h.gateway p.0 in
+        let (o, x) = said_one (Octet (HasValue m net gateway)) r.gateway h.gateway p.0 in
         let (b, y) = said_one (InRange (HasValue m net nbr_addr_type) 1 4) r.addr_type.one h.addr_type.one p.1 in
         Beside net (o ∷ [], x) (b ∷ [], y.0)
   ]
@@ -88,9 +88,6 @@ gateway_said m net r h x said = elim (cases_Bool r.wrong_gateway) [
   | inl w ↦ inl w
   | inr n ↦ inr (n, single_of x (right_length (HasValue m net gateway) 1 r.wrong_gateway h.wrong_gateway n x said))
 ]
-
-octet_kept : (m : MessageFields) (net : NetAddr) (x : List ℕ) (n : ℕ) → HasValue m net gateway x → x ≡ n ∷ [] → Octet (HasValue m net gateway) (256 * n)
-octet_kept m net x n said is = (n, subst (HasValue m net gateway) is said, refl)
 
 module _ (m : MessageFields) (net : NetAddr) (r : RowParts) (h : RowIs (HasValue m net) r) where
   abbrev beside : Bool
@@ -105,8 +102,8 @@ module _ (m : MessageFields) (net : NetAddr) (r : RowParts) (h : RowIs (HasValue
     | inr (f, (n, is_n)) ↦
         let (k, is_k) = single_of y (right_length (HasValue m net gateway) 1 r.wrong_gateway h.wrong_gateway f y said_y) in
         or_right r.wrong_gateway (is_conflict r.gateway || beside) (or_left (is_conflict r.gateway) beside
-        (differ_conflict (Octet (HasValue m net gateway)) r.gateway (256 * n) (256 * k) h.gateway (octet_kept m net x n said_x is_n) (octet_kept m net y k said_y is_k)
-        (λ e. d (is_n ∙ ap (λ (j : ℕ). j ∷ []) (let s : n ≡ k = omega (arith, e) in s) ∙ sym is_k))))
+        (differ_conflict (Octet (HasValue m net gateway)) r.gateway n k h.gateway (subst (HasValue m net gateway) is_n said_x) (subst (HasValue m net gateway) is_k said_y)
+        (λ e. d (is_n ∙ ap (λ (j : ℕ). j ∷ []) e ∙ sym is_k))))
   ]
 
   beside_type : r.addr_type.wrong ≡ false → HasType m net gateway → HasType m net nbr_addr_type → has_wrong_gateway r ≡ true
@@ -115,7 +112,7 @@ module _ (m : MessageFields) (net : NetAddr) (r : RowParts) (h : RowIs (HasValue
     | inr (f, (n, is)) ↦
         let i = right_octet (HasValue m net nbr_addr_type) 1 4 r.addr_type h.addr_type right y typed in
         or_right r.wrong_gateway (is_conflict r.gateway || beside) (or_right (is_conflict r.gateway) beside
-        (and_both (is_said r.gateway) (is_said r.addr_type.one) (one_said (Octet (HasValue m net gateway)) r.gateway (256 * n) h.gateway (octet_kept m net x n said is))
+        (and_both (is_said r.gateway) (is_said r.addr_type.one) (one_said (Octet (HasValue m net gateway)) r.gateway n h.gateway (subst (HasValue m net gateway) is said))
         (one_said (InRange (HasValue m net nbr_addr_type) 1 4) r.addr_type.one i.0 h.addr_type.one (in_range (HasValue m net nbr_addr_type) 1 4 y typed i))))
   ]
 

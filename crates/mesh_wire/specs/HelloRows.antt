@@ -1,8 +1,7 @@
 -- How the row of a HELLO is made of what is kept of its address.
 use Rattle.std.proofs.Common.{zero, suc}
-use Rattle.std.specs.Prelude.{◌≡◌, ℕ, ◌/◌, Option, None, IsSome}
+use Rattle.std.specs.Prelude.{◌≡◌, ℕ, None, IsSome}
 use Rattle.std.specs.Option.{option_map}
-use Rattle.mesh_atoms.specs.declared.codes.metric.Metric.{Metric}
 use Rattle.mesh_atoms.specs.declared.hello.LocalIf.{LocalIf}
 use Rattle.mesh_atoms.specs.declared.hello.LocalIf.TheVariants.{This, Other}
 use Rattle.mesh_atoms.specs.declared.hello.LinkStatus.{LinkStatus}
@@ -12,7 +11,6 @@ use Rattle.mesh_atoms.specs.declared.hello.OtherStatus.TheVariants as other
 use Rattle.mesh_atoms.specs.declared.hello.HelloRow.{HelloRow}
 use Rattle.mesh_atoms.specs.Writable.{IsAlone}
 use Rattle.mesh_wire.specs.declared.collect.AddressParts.{AddressParts}
-use Rattle.mesh_wire.specs.declared.singles.Single.{Single}
 use Rattle.mesh_wire.specs.Singles.{value_from}
 
 -- LOCAL_IF of a value
@@ -31,18 +29,14 @@ abbrev pub other_from : ℕ → OtherStatus
 other_from zero = other.Lost
 other_from (suc n) = other.Symmetric
 
--- the metric whose code is kept 16 times
-abbrev pub MetricFrom : Single ℕ → Option Metric → Type 0
-MetricFrom one metric = option_map (λ (m : Metric). m.code) metric ≡ option_map (λ (n : ℕ). n / 16) (value_from one)
-
 -- status, metrics and relays as they are kept
 pub record TellsKept (told : AddressParts) (row : HelloRow) : Type 0 where
   pub link : row.link ≡ option_map link_from (value_from told.parts.link.one)
   pub other : row.other ≡ option_map other_from (value_from told.parts.other.one)
-  pub link_in : MetricFrom told.parts.link_in row.metrics.link_in
-  pub link_out : MetricFrom told.parts.link_out row.metrics.link_out
-  pub near_in : MetricFrom told.parts.near_in row.metrics.near_in
-  pub near_out : MetricFrom told.parts.near_out row.metrics.near_out
+  pub link_in : row.metrics.link_in ≡ value_from told.parts.link_in
+  pub link_out : row.metrics.link_out ≡ value_from told.parts.link_out
+  pub near_in : row.metrics.near_in ≡ value_from told.parts.near_in
+  pub near_out : row.metrics.near_out ≡ value_from told.parts.near_out
   pub flooding : row.mpr.flooding ≡ told.parts.flooding
   pub routing : row.mpr.routing ≡ told.parts.routing
 

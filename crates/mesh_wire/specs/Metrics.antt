@@ -1,4 +1,6 @@
 -- The metrics that a message shows of an address (RFC 7181, section 13.3.2).
+use Rattle.std.proofs.Common.{lit<}
+use Rattle.std.proofs.lemmas.Nat.{mod_below}
 use Rattle.std.specs.Prelude.{◌≡◌, ℕ, ◌+◌, ◌*◌, ◌%◌, ◌⊎◌, ◌≢◌, [], ◌∷◌, Option, Some, None, true}
 use Rattle.mesh_atoms.specs.declared.addr.NetAddr.{NetAddr}
 use Rattle.mesh_atoms.specs.declared.codes.metric.Metric.{Metric}
@@ -21,21 +23,25 @@ flag_of Link_out = 64
 flag_of Near_in = 32
 flag_of Near_out = 16
 
--- a LINK_METRIC shows the address with that code: of two octets, four flags for its kinds and 12 bits
-abbrev pub ShowsMetric : MessageFields → NetAddr → MetricKind → ℕ → Type 0
-ShowsMetric message net kind code =
-    (high : ℕ) × (low : ℕ) × HasValue message net link_metric (high ∷ low ∷ []) × (has high (flag_of kind) ≡ true) × (code ≡ 256 * (high % 16) + low)
+-- the metric whose code is the lower 12 bits of two octets
+abbrev pub metric_in : ℕ → ℕ → Metric
+metric_in high low = record { code = (256 * high + low) % 4096; in_range = mod_below (256 * high + low) 4096 (lit< tt) }
+
+-- a LINK_METRIC shows that metric of the address: of two octets, four flags for its kinds and 12 bits
+abbrev pub ShowsMetric : MessageFields → NetAddr → MetricKind → Metric → Type 0
+ShowsMetric message net kind metric =
+    (high : ℕ) × (low : ℕ) × HasValue message net link_metric (high ∷ low ∷ []) × (has high (flag_of kind) ≡ true) × (metric ≡ metric_in high low)
 
 -- the metric of that kind that is shown of the address, or that none is
 abbrev pub MetricIs : MessageFields → NetAddr → MetricKind → Option Metric → Type 0
-MetricIs message net kind (Some metric) = ShowsMetric message net kind metric.code
-MetricIs message net kind None = (code : ℕ) → ShowsMetric message net kind code → ⊥
+MetricIs message net kind (Some metric) = ShowsMetric message net kind metric
+MetricIs message net kind None = (metric : Metric) → ShowsMetric message net kind metric → ⊥
 
--- two different codes of one kind
+-- two different metrics of one kind
 abbrev pub HasTwoMetrics : MessageFields → NetAddr → Type 0
 HasTwoMetrics message net =
-    (kind : MetricKind) × (a : ℕ) × (b : ℕ) × ShowsMetric message net kind a × ShowsMetric message net kind b × (a ≢ b)
+    (kind : MetricKind) × (a : Metric) × (b : Metric) × ShowsMetric message net kind a × ShowsMetric message net kind b × (a ≢ b)
 
--- a LINK_METRIC that isn't of two octets, or two codes
+-- a LINK_METRIC that isn't of two octets, or two metrics of one kind
 abbrev pub HasWrongMetric : MessageFields → NetAddr → Type 0
 HasWrongMetric message net = HasOtherLength message net link_metric 2 ⊎ HasTwoMetrics message net

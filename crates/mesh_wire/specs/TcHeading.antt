@@ -1,13 +1,11 @@
 -- What a TC says before its rows, and how a row is made of what is kept of its address.
-use Rattle.std.specs.Prelude.{◌≡◌, ℕ, ◌/◌, List, filter, Some, ◌==◌, ◌&&◌, nat_lt}
-use Rattle.std.specs.Option.{option_map}
+use Rattle.std.specs.Prelude.{◌≡◌, List, filter, Some, ◌==◌, ◌&&◌, nat_lt}
 use Rattle.mesh_atoms.specs.declared.tc.TcRow.{TcRow}
 use Rattle.mesh_tlv.specs.Fields.{TlvFields}
 use Rattle.mesh_packet.specs.Fields.{MessageFields}
 use Rattle.mesh_wire.specs.declared.collect.AddressParts.{AddressParts}
 use Rattle.mesh_wire.specs.declared.tc.TcHeader.{TcHeader}
 use Rattle.mesh_wire.specs.Hello.{OriginatorIs}
-use Rattle.mesh_wire.specs.HelloRows.{MetricFrom}
 use Rattle.mesh_wire.specs.Kinds.{cont_seq_num}
 use Rattle.mesh_wire.specs.Singles.{value_from}
 use Rattle.mesh_wire.specs.Tc.{ContentIs}
@@ -31,5 +29,5 @@ pub record TcRowFrom (told : AddressParts) (row : TcRow) : Type 0 where
   pub dest : row.dest ≡ told.net
   pub origin : row.origin ≡ told.parts.origin
   pub routable : row.routable ≡ told.parts.routable
-  pub gateway : row.gateway ≡ option_map (λ (n : ℕ). n / 256) (value_from told.parts.gateway)
-  pub metric : MetricFrom told.parts.near_out row.metric
+  pub gateway : row.gateway ≡ value_from told.parts.gateway
+  pub metric : row.metric ≡ value_from told.parts.near_out

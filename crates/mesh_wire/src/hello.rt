@@ -73,7 +73,7 @@ pub(crate) fn heading_of(message: &Message) -> Result<HelloHeader, u8>
     })
 }
 
-fn local_from(one: Single<u16>) -> Option<LocalIf>
+fn local_from(one: Single<u8>) -> Option<LocalIf>
     ensures { result ≡ option_map local_from (value_from one) }
 {
     match one.value() {
@@ -83,7 +83,7 @@ fn local_from(one: Single<u16>) -> Option<LocalIf>
     }
 }
 
-fn link_from(one: Single<u16>) -> Option<LinkStatus>
+fn link_from(one: Single<u8>) -> Option<LinkStatus>
     ensures { result ≡ option_map link_from (value_from one) }
 {
     match one.value() {
@@ -94,7 +94,7 @@ fn link_from(one: Single<u16>) -> Option<LinkStatus>
     }
 }
 
-fn other_from(one: Single<u16>) -> Option<OtherStatus>
+fn other_from(one: Single<u8>) -> Option<OtherStatus>
     ensures { result ≡ option_map other_from (value_from one) }
 {
     match one.value() {
@@ -139,10 +139,10 @@ impl Row for HelloRow {
             link: link_from(told.parts.link.one),
             other: other_from(told.parts.other.one),
             metrics: Metrics {
-                link_in: told.parts.link_in.metric(),
-                link_out: told.parts.link_out.metric(),
-                near_in: told.parts.near_in.metric(),
-                near_out: told.parts.near_out.metric(),
+                link_in: told.parts.link_in.value(),
+                link_out: told.parts.link_out.value(),
+                near_in: told.parts.near_in.value(),
+                near_out: told.parts.near_out.value(),
             },
             mpr: Mpr {
                 flooding: told.parts.flooding,

@@ -1,9 +1,10 @@
 //! What is kept of all that the TLVs of a message say of one address (RFC 6130, section 10, and RFC 7181, section 13.3).
 ghost use Rattle.std.specs.Prelude.{◌≡◌, true, ◌<◌, ◌||◌};
-ghost use Rattle.mesh_wire.specs.KeptParts.{is_octet_in, octets_also, octet_also, code_also, has_other_length, is_flag_set, take_part, no_parts};
+ghost use Rattle.mesh_wire.specs.KeptParts.{octets_also, octet_also, metric_also, has_other_length, is_flag_set, take_part, no_parts};
+ghost use Rattle.mesh_wire.specs.Metrics.{metric_in};
 
 use crate::singles::Single;
-use mesh_atoms::short_of;
+use mesh_atoms::Metric;
 use mesh_atoms::tlv_type::{
     GATEWAY, LINK_METRIC, LINK_STATUS, LOCAL_IF, MPR, NBR_ADDR_TYPE, OTHER_NEIGHB,
 };
@@ -12,7 +13,7 @@ use mesh_atoms::tlv_type::{
 #[derive(Clone, Copy)]
 pub(crate) struct Octets {
     pub wrong: bool,
-    pub one: Single<u16>,
+    pub one: Single<u8>,
 }
 
 /// What the TLVs say of one address.
@@ -23,38 +24,37 @@ pub(crate) struct RowParts {
     pub other: Octets,
     pub addr_type: Octets,
     pub wrong_gateway: bool,
-    pub gateway: Single<u16>,
+    pub gateway: Single<u8>,
     pub wrong_metric: bool,
-    pub link_in: Single<u16>,
-    pub link_out: Single<u16>,
-    pub near_in: Single<u16>,
-    pub near_out: Single<u16>,
+    pub link_in: Single<Metric>,
+    pub link_out: Single<Metric>,
+    pub near_in: Single<Metric>,
+    pub near_out: Single<Metric>,
     pub flooding: bool,
     pub routing: bool,
     pub origin: bool,
     pub routable: bool,
 }
 
-impl Single<u16> {
-    // One octet more. It is kept as 256 times the octet, so that its type keeps that to 8 bits.
-    fn take_octet(&mut self, octets: &[u8])
-        ensures { self.new ≡ octet_also true octets.now self.old }
-    {
-        match octets {
-            [octet] => *self = self.also(256 * u16::from(*octet)),
-            _ => {}
-        }
+// The metric whose code is the lower 12 bits of two octets.
+fn metric_in(high: u8, low: u8) -> Metric
+    ensures { result ≡ metric_in high low }
+{
+    Metric {
+        code: (256 * u16::from(high) + u16::from(low)) % 4096,
     }
+}
 
-    // One metric more, where its flags name that kind. It is kept as 16 times its code, so that its type keeps the code to 12 bits.
-    fn take_code(&mut self, flag: u8, octets: &[u8])
+impl Single<Metric> {
+    // One metric more, where its flags name that kind.
+    fn take_flagged(&mut self, flag: u8, octets: &[u8])
         requires { flag < 256 }
-        ensures { self.new ≡ code_also true flag octets.now self.old }
+        ensures { self.new ≡ metric_also true flag octets.now self.old }
     {
         match octets {
-            [high, _] => {
+            [high, low] => {
                 if *high & flag != 0 {
-                    *self = self.also(16 * (short_of(octets) % 4096));
+                    *self = self.also(metric_in(*high, *low));
                 }
             }
             _ => {}
@@ -62,22 +62,26 @@ impl Single<u16> {
     }
 }
 
-// Whether a value is one octet in the range.
-fn is_octet_in(octets: &[u8], low: u16, bound: u16) -> bool
-    ensures { result ≡ is_octet_in low bound octets.now }
-{
-    match octets {
-        [octet] => low <= u16::from(*octet) && u16::from(*octet) < bound,
-        _ => false,
+impl Single<u8> {
+    // One octet more.
+    fn take_octet(&mut self, octets: &[u8])
+        ensures { self.new ≡ octet_also true octets.now self.old }
+    {
+        match octets {
+            [octet] => *self = self.also(*octet),
+            _ => {}
+        }
     }
 }
 
 // Whether a value sets the flag, by itself or beside the other one.
-fn is_flag_set(octets: &[u8], flag: u16) -> bool
-    requires { flag < 256 }
+fn is_flag_set(octets: &[u8], flag: u8) -> bool
     ensures { result ≡ is_flag_set flag octets.now }
 {
-    is_octet_in(octets, flag, flag + 1) || is_octet_in(octets, 3, 4)
+    match octets {
+        [octet] => *octet == flag || *octet == 3,
+        _ => false,
+    }
 }
 
 // Whether a value is not of so many octets.
@@ -98,13 +102,13 @@ fn set_if(flag: &mut bool, is_so: bool)
 
 impl Octets {
     // One value more.
-    fn take(&mut self, low: u16, bound: u16, octets: &[u8])
+    fn take(&mut self, low: u8, bound: u8, octets: &[u8])
         ensures { self.new ≡ octets_also true low bound octets.now self.old }
     {
         match octets {
             [octet] => {
-                if low <= u16::from(*octet) && u16::from(*octet) < bound {
-                    self.one = self.one.also(u16::from(*octet));
+                if low <= *octet && *octet < bound {
+                    self.one = self.one.also(*octet);
                 } else {
                     self.wrong = true;
                 }
@@ -147,10 +151,10 @@ impl RowParts {
         ensures { self.new ≡ take_part LINK_METRIC octets.now self.old }
     {
         set_if(&mut self.wrong_metric, has_other_length(octets, 2));
-        self.link_in.take_code(128, octets);
-        self.link_out.take_code(64, octets);
-        self.near_in.take_code(32, octets);
-        self.near_out.take_code(16, octets);
+        self.link_in.take_flagged(128, octets);
+        self.link_out.take_flagged(64, octets);
+        self.near_in.take_flagged(32, octets);
+        self.near_out.take_flagged(16, octets);
     }
 
     // One value more of the type of addresses of routers.

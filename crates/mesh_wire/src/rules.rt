@@ -1,24 +1,10 @@
 //! The rules on the addresses of a message, by what is kept of each (RFC 6130, section 12.1, and RFC 7181, section 16.3.1).
 ghost use Rattle.std.specs.Prelude.{◌≡◌};
 ghost use Rattle.mesh_wire.specs.RowRules.{is_undefined, has_two, has_status, has_wrong_type, has_wrong_gateway, has_wrong_metric, hello_rule, tc_rule};
-ghost use Rattle.mesh_wire.specs.HelloRows.{MetricFrom};
 
 use crate::collect::AddressParts;
 use crate::parts::RowParts;
-use crate::singles::Single;
-use mesh_atoms::{Metric, hello_rule, tc_rule};
-
-impl Single<u16> {
-    // The metric whose code is kept 16 times.
-    pub(crate) fn metric(self) -> Option<Metric>
-        ensures { MetricFrom self result }
-    {
-        match self {
-            Single::Value(number) => Metric::of_code(number / 16),
-            _ => None,
-        }
-    }
-}
+use mesh_atoms::{hello_rule, tc_rule};
 
 impl RowParts {
     fn is_undefined(&self) -> bool

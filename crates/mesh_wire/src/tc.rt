@@ -1,6 +1,5 @@
 //! TC messages read as typed values (RFC 7181, sections 13 and 16).
-ghost use Rattle.std.specs.Prelude.{◌≡◌, ◌/◌, ◌<◌, ◌^◌, ℕ, Bool, Option, map, IfSome, IfNone, IfOk, IfErr, Some, None};
-ghost use Rattle.std.specs.Option.{option_map};
+ghost use Rattle.std.specs.Prelude.{◌≡◌, ◌<◌, ◌^◌, ℕ, Bool, Option, map, IfSome, IfNone, IfOk, IfErr, Some, None};
 ghost use Rattle.mesh_atoms.specs.declared.addr.NetAddr.{NetAddr};
 ghost use Rattle.mesh_atoms.specs.declared.tc.Tc.{Tc};
 ghost use Rattle.mesh_tlv.specs.Fields.{fields};
@@ -8,7 +7,7 @@ ghost use Rattle.mesh_atoms.specs.Writable.{HaveTypeWhole};
 ghost use Rattle.mesh_packet.specs.Fields.{fields_of_message};
 ghost use Rattle.mesh_wire.specs.Answers.{IfBroken, GivesValue, RefusesAt};
 ghost use Rattle.mesh_wire.specs.Rules.{Keeps, FirstBroken};
-ghost use Rattle.mesh_wire.specs.Singles.{IsSingleOf, value_from};
+ghost use Rattle.mesh_wire.specs.Singles.{IsSingleOf};
 ghost use Rattle.mesh_wire.specs.Tc.{ContentIs, TcIs};
 ghost use Rattle.mesh_wire.specs.TcHeading.{contents_in, TcHeadingIs};
 ghost use Rattle.mesh_wire.specs.TcRules.{BreaksTc};
@@ -119,16 +118,6 @@ pub(crate) fn heading_of(message: &Message) -> Result<TcHeader, u8>
     })
 }
 
-// The octet that is kept 256 times.
-fn octet_from(one: Single<u16>) -> Option<u8>
-    ensures { result ≡ option_map (λ n. n / 256) (value_from one) }
-{
-    match one.value() {
-        Some(number) => Some((number / 256) as u8),
-        None => None,
-    }
-}
-
 impl Row for TcRow {
     ghost use Rattle.mesh_wire.specs.RowRules.{tc_rule};
     ghost use Rattle.mesh_wire.specs.TcHeading.{TcRowFrom};
@@ -143,8 +132,8 @@ impl Row for TcRow {
             dest: told.net,
             origin: told.parts.origin,
             routable: told.parts.routable,
-            gateway: octet_from(told.parts.gateway),
-            metric: told.parts.near_out.metric(),
+            gateway: told.parts.gateway.value(),
+            metric: told.parts.near_out.value(),
         }
     }
 

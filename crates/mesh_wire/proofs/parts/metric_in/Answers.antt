@@ -1,0 +1,6 @@
+use Rattle.std.proofs.Common.{rules}
+use Rattle.mesh_atoms.proofs.Rows.{same_metric}
+use Rattle.mesh_wire.proofs.parts.metric_in.Goals as goal
+
+pub returns : goal.returns
+returns c = same_metric _ _ (search rules)
