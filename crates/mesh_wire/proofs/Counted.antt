@@ -1,25 +1,15 @@
 -- Rows that are only counted.
-use Rattle.std.proofs.Common.{◌≡◌, ℕ, suc, List, [], ◌∷◌, length, refl, sym, ap, ◌∙◌}
-use Rattle.std.specs.Prelude.{Option}
+use Rattle.std.proofs.Common.{◌≡◌, suc, List, [], ◌∷◌, length, refl, sym, ap, ◌∙◌}
 use Rattle.mesh_wire.specs.declared.collect.AddressParts.{AddressParts}
 use Rattle.mesh_wire.specs.Answers.{Sums}
-use Rattle.mesh_wire.specs.Entries.{Entry}
-use Rattle.mesh_wire.specs.Made.{AreMade, HasRows, HasCount}
+use Rattle.mesh_wire.specs.Made.{AreMade}
 
-as_many : {Row : Type 0} (From : AddressParts → Row → Type 0) (told : List AddressParts) (rows : List Row) → AreMade From told rows → length told ≡ length rows
+-- as many rows are made as are kept
+pub as_many : {Row : Type 0} (From : AddressParts → Row → Type 0) (told : List AddressParts) (rows : List Row) → AreMade From told rows → length told ≡ length rows
 as_many From [] [] h = refl
 as_many From (t ∷ told) (r ∷ rows) h = ap suc (as_many From told rows h.1)
 as_many From [] (r ∷ rows) h = absurd h
 as_many From (t ∷ told) [] h = absurd h
-
--- the rows that were counted
-pub counted : {Row : Type 0} (From : AddressParts → Row → Type 0) (rule : AddressParts → Option ℕ) (entries : List Entry) (count : ℕ) → HasCount From rule entries count →
-    (rows : List Row) × HasRows From rule entries rows × (count ≡ length rows)
-counted From rule entries count h = (
-  h.made.0,
-  record { told = h.told; collected = h.collected; clean = h.clean; made = h.made.1 },
-  h.count_is ∙ as_many From h.told h.made.0 h.made.1,
-)
 
 -- values that are one have one summary
 pub one_sum : {X S : Type 0} (summary_of : X → S) (Is : X → Type 0) → ((x y : X) → Is x → Is y → x ≡ y) → (s t : S) → Sums summary_of Is s → Sums summary_of Is t → s ≡ t

@@ -126,9 +126,9 @@ content_or m = by (contents_of m) refl
 
 -- ---- rows
 
-pub made : {Row : Type 0} (From : AddressParts → Row → Type 0) (told : List AddressParts) → ((t : AddressParts) → Contains told t → (r : Row) × From t r) → (rows : List Row) × AreMade From told rows
+pub made : {Row : Type 0} (From : AddressParts → Row → Type 0) (told : List AddressParts) → ((t : AddressParts) → (r : Row) × From t r) → (rows : List Row) × AreMade From told rows
 made From [] make = ([], tt)
 made From (t ∷ told) make =
-    let (r, is) = make t (at_head t told) in
-    let (rows, are) = made From told (λ u h. make u (in_tail t told u h)) in
+    let (r, is) = make t in
+    let (rows, are) = made From told make in
     (r ∷ rows, (is, are))

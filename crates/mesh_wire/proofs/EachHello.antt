@@ -70,7 +70,7 @@ originator_of (Some address) = (Some (record { 0 = address_in address.octets }),
 
 module _ (m : MessageFields) (octets : HasOctets m) where
   of_heading : (heading : HelloHeader) → HeadingIs m heading → Outcome (HelloIs m) (BreaksHello m)
-  of_heading heading h = of_rows m HelloRowFrom hello_rule (HelloIs m) (BreaksHello m) (λ t is. row_by t (value_from t.parts.local.one) refl) (rule_found m heading h) value
+  of_heading heading h = of_rows m HelloRowFrom hello_rule (HelloIs m) (BreaksHello m) (λ t. row_by t (value_from t.parts.local.one) refl) (rule_found m heading h) value
     where
       value : (rows : List HelloRow) → HasRows HelloRowFrom hello_rule (of_blocks m.blocks) rows → (hello : Hello) × HelloIs m hello × Keeps (BreaksHello m)
       value rows has =

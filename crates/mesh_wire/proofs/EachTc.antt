@@ -47,7 +47,7 @@ there_or (Some a) = inl (a, refl)
 
 module _ (m : MessageFields) (octets : HasOctets m) where
   of_heading : (heading : TcHeader) → TcHeadingIs m heading → Outcome (TcIs m) (BreaksTc m)
-  of_heading heading h = of_rows m TcRowFrom tc_rule (TcIs m) (BreaksTc m) (λ t is. row_of t) (rule_found m heading h) value
+  of_heading heading h = of_rows m TcRowFrom tc_rule (TcIs m) (BreaksTc m) row_of (rule_found m heading h) value
     where
       value : (rows : List TcRow) → HasRows TcRowFrom tc_rule (of_blocks m.blocks) rows → (tc : Tc) × TcIs m tc × Keeps (BreaksTc m)
       value rows has = let (keeps, true_rows) = rows_found m heading h rows has in (

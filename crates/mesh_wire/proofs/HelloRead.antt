@@ -40,11 +40,6 @@ module _ (m : MessageFields) (heading : HelloHeader) (h : HeadingIs m heading) w
       let (keeps, none) = none_broken m (BreaksHello m) hello_rule 26 (hello_decides m) (up_of m heading h) HelloRowFrom rows f in
       (keeps, rows_are m f.told (are_told m f.told f.collected) rows (λ t has. sound_of t (none t has)) f.made)
 
--- the same of a result
-pub if_broken : (P Q : ℕ → Option NetAddr → Type 0) (fault : WireFault) → ((n : ℕ) (a : Option NetAddr) → P n a → Q n a) → IfBroken P fault → IfBroken Q fault
-if_broken P Q (faults.Memory e) to h = tt
-if_broken P Q (faults.Broken n a) to h = to n a h
-
 -- ---- the other directions
 
 pub gives_of : {X : Type 0} (Is : X → Type 0) (Breaks : ℕ → Option NetAddr → Type 0) (r : Result X WireFault) → ((a b : X) → Is a → Is b → a ≡ b) → IfOk r Is → IfErr r (IfBroken (FirstBroken Breaks)) → Keeps Breaks → (x : X) → Is x → GivesValue x r

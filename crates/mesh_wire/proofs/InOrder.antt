@@ -8,13 +8,11 @@ use Rattle.mesh_wire.specs.declared.collect.AddressParts.{AddressParts}
 use Rattle.mesh_wire.specs.Entries.{of_blocks}
 use Rattle.mesh_wire.specs.Made.{HasRows, HasBroken}
 use Rattle.mesh_wire.specs.RowRules.{first_rule}
-use Rattle.mesh_wire.specs.Rows.{HasValue}
 use Rattle.mesh_wire.specs.Rules.{FirstBroken, Keeps}
 use Rattle.mesh_wire.proofs.Deciding.{made}
 use Rattle.mesh_wire.proofs.Gathering.{gathered}
 use Rattle.mesh_wire.proofs.Kept.{AreTold, are_told}
 use Rattle.mesh_wire.proofs.Ruled.{Decides, rule_first, rule_none}
-use Rattle.mesh_wire.proofs.Slots.{RowIs}
 
 -- no rule of a lower number is broken
 abbrev pub NoneBelow : (ℕ → Option NetAddr → Type 0) → ℕ → Type 0
@@ -58,7 +56,7 @@ Outcome {Value} Is Breaks = ((value : Value) × Is value × Keeps Breaks) ⊎ ((
 
 -- the same of rows, where a value is made of rows that break no rule
 module _ {Row Value : Type 0} (m : MessageFields) (From : AddressParts → Row → Type 0) (rule : AddressParts → Option ℕ) (Is : Value → Type 0) (Breaks : ℕ → Option NetAddr → Type 0)
-    (row : (t : AddressParts) → RowIs (HasValue m t.net) t.parts → (r : Row) × From t r)
+    (row : (t : AddressParts) → (r : Row) × From t r)
     (broken : (number : ℕ) (addr : Option NetAddr) → HasBroken rule (of_blocks m.blocks) number addr → FirstBroken Breaks number addr)
     (value : (rows : List Row) → HasRows From rule (of_blocks m.blocks) rows → (v : Value) × Is v × Keeps Breaks) where
   abbrev told : List AddressParts
@@ -67,8 +65,7 @@ module _ {Row Value : Type 0} (m : MessageFields) (From : AddressParts → Row �
   by : (o : Option (ℕ × NetAddr)) → first_rule rule None told ≡ o → Outcome Is Breaks
   by (Some (number, net)) e = inr (number, Some net, broken number (Some net) (record { told = told; collected = (gathered (of_blocks m.blocks)).1; net = net; found = e; at = refl }))
   by None e =
-      let are = are_told m told (gathered (of_blocks m.blocks)).1 in
-      let (rows, of) = made From told (λ t has. row t (are.each t has).1) in
+      let (rows, of) = made From told row in
       inl (value rows (record { told = told; collected = (gathered (of_blocks m.blocks)).1; clean = e; made = of }))
 
   pub of_rows : Outcome Is Breaks

@@ -1,5 +1,5 @@
 -- Rows that are made of what is kept of addresses, one by one.
-use Rattle.std.specs.Prelude.{◌≡◌, ℕ, List, [], ◌∷◌, length, Option, Some, None}
+use Rattle.std.specs.Prelude.{◌≡◌, ℕ, List, [], ◌∷◌, Option, Some, None}
 use Rattle.mesh_atoms.specs.declared.addr.NetAddr.{NetAddr}
 use Rattle.mesh_wire.specs.declared.collect.AddressParts.{AddressParts}
 use Rattle.mesh_wire.specs.Collects.{AreCollected}
@@ -24,15 +24,6 @@ pub record HasRows {Row : Type 0} (From : AddressParts → Row → Type 0) (rule
   pub collected : AreCollected entries told
   pub clean : first_rule rule None told ≡ None
   pub made : AreMade From told rows
-
--- so many rows can be made of what is kept of a message, which breaks no rule
-pub record HasCount {Row : Type 0} (From : AddressParts → Row → Type 0) (rule : AddressParts → Option ℕ) (entries : List Entry)
-    (count : ℕ) : Type 0 where
-  pub told : List AddressParts
-  pub collected : AreCollected entries told
-  pub clean : first_rule rule None told ≡ None
-  pub made : CanBeMade From told
-  pub count_is : count ≡ length told
 
 -- what is kept of a message breaks the rule of that number first, at that address
 pub record HasBroken (rule : AddressParts → Option ℕ) (entries : List Entry) (number : ℕ) (addr : Option NetAddr) : Type 0 where

@@ -1,5 +1,5 @@
 //! HELLO messages read as typed values (RFC 6130, section 10, and RFC 7181, section 15).
-ghost use Rattle.std.specs.Prelude.{◌≡◌, ◌↔◌, ◌<◌, ◌^◌, ℕ, Option, map, IsTrue, IfOk, IfErr, Some, None};
+ghost use Rattle.std.specs.Prelude.{◌≡◌, ◌↔◌, ◌<◌, ◌/◌, ◌%◌, ◌^◌, ℕ, Option, map, IsTrue, IfOk, IfErr, Some, None};
 ghost use Rattle.std.specs.Option.{option_map};
 ghost use Rattle.mesh_atoms.specs.declared.addr.NetAddr.{NetAddr};
 ghost use Rattle.mesh_atoms.specs.declared.hello.Hello.{Hello};
@@ -42,8 +42,8 @@ fn is_other(value: Option<u8>, wanted: u8) -> bool
     }
 }
 
-/// What the message says before its rows, or the first rule on it that is broken.
-pub(crate) fn heading_of(message: &Message) -> Result<HelloHeader, u8>
+// What the message says before its rows, or the first rule on it that is broken.
+fn heading_of(message: &Message) -> Result<HelloHeader, u8>
     ensures heading { IfOk result (HeadingIs (fields_of_message message.now)) }
     ensures bounded { IfOk result (λ heading. heading.validity < 2 ^ 35) }
     ensures broken { IfErr result (λ number. FirstBroken (BreaksHello (fields_of_message message.now)) number None) }
@@ -105,12 +105,26 @@ fn other_from(one: Single<u8>) -> Option<OtherStatus>
 }
 
 impl Row for HelloRow {
+    ghost use Rattle.std.specs.Prelude.{◌<◌, ◌^◌};
+    ghost use Rattle.mesh_wire.specs.Hello.{IsReadHelloRow};
+    ghost use Rattle.mesh_wire.specs.HelloHeading.{HeadingIs};
     ghost use Rattle.mesh_wire.specs.HelloRows.{HelloRowFrom};
+    ghost use Rattle.mesh_wire.specs.HelloRules.{BreaksHello};
     ghost use Rattle.mesh_wire.specs.RowRules.{hello_rule};
+
+    type Heading = HelloHeader;
 
     ghost is_from = { HelloRowFrom };
 
     ghost rule = { hello_rule };
+
+    ghost addr_of = { λ row. row.addr };
+
+    ghost is_read = { IsReadHelloRow };
+
+    ghost is_heading = { λ m heading. HeadingIs m heading × (heading.validity < 2 ^ 35) };
+
+    ghost breaks = { BreaksHello };
 
     // The row of what is kept of an address.
     fn of_told(told: &AddressParts) -> HelloRow {
@@ -154,6 +168,10 @@ impl Row for HelloRow {
     fn rule_of(told: &AddressParts) -> Option<u8> {
         told.hello_rule()
     }
+
+    fn heading_of(message: &Message) -> Result<HelloHeader, u8> {
+        heading_of(message)
+    }
 }
 
 /// The originator of a message's header by its first four octets, of a message of any type; `None` where it has none. The
@@ -167,6 +185,17 @@ pub fn originator_of(message: &Message) -> Option<Addr4>
     }
 }
 
+/// How willing a sender is, by the octet of MPR_WILLING.
+pub(crate) fn willing_of(octet: u8) -> Willing
+    ensures flooding { result.flooding ≡ octet / 16 }
+    ensures routing { result.routing ≡ octet % 16 }
+{
+    Willing {
+        flooding: octet / 16,
+        routing: octet % 16,
+    }
+}
+
 // The HELLO, or the first rule that is broken.
 fn read_hello(alloc: Global, message: &Message) -> Result<Hello, WireFault>
     ensures reads { IfOk result (HelloIs (fields_of_message message.now)) }
@@ -174,26 +203,12 @@ fn read_hello(alloc: Global, message: &Message) -> Result<Hello, WireFault>
     ensures bounded { IfOk result (λ hello. hello.validity < 2 ^ 35) }
     ensures broken { IfErr result (IfBroken (FirstBroken (BreaksHello (fields_of_message message.now)))) }
 {
-    let heading = match heading_of(message) {
-        Ok(heading) => heading,
-        Err(number) => {
-            return Err(WireFault::Broken { number, addr: None });
-        }
-    };
-    let rows = match rows_in(alloc, message) {
-        Ok(rows) => rows,
-        Err(fault) => {
-            return Err(fault);
-        }
-    };
+    let (heading, rows) = rows_in::<HelloRow>(alloc, message)?;
     Ok(Hello {
         originator: originator_of(message),
         validity: heading.validity,
         interval: heading.interval,
-        willing: Willing {
-            flooding: heading.willing / 16,
-            routing: heading.willing % 16,
-        },
+        willing: willing_of(heading.willing),
         rows,
     })
 }

@@ -1,5 +1,5 @@
 //! HELLO and TC messages read but for their rows, which are only counted (RFC 6130, section 10, and RFC 7181, section 13).
-ghost use Rattle.std.specs.Prelude.{◌≡◌, ◌/◌, ◌%◌, ℕ, Option, map, IfOk, IfErr, Some, None};
+ghost use Rattle.std.specs.Prelude.{◌≡◌, ℕ, Option, map, IfOk, IfErr, Some, None};
 ghost use Rattle.mesh_atoms.specs.declared.addr.NetAddr.{NetAddr};
 ghost use Rattle.mesh_atoms.specs.declared.hello.Hello.{Hello};
 ghost use Rattle.mesh_atoms.specs.declared.tc.Tc.{Tc};
@@ -13,9 +13,8 @@ ghost use Rattle.mesh_wire.specs.Tc.{TcIs};
 ghost use Rattle.mesh_wire.specs.TcRules.{BreaksTc};
 
 use crate::fault::WireFault;
-use crate::hello::originator_of;
+use crate::hello::{originator_of, willing_of};
 use crate::rows::row_count;
-use crate::{hello, tc};
 use mesh_atoms::{Addr4, HelloRow, TcRow, Willing};
 use mesh_packet::Message;
 use std::alloc::Global;
@@ -42,35 +41,13 @@ pub struct TcSummary {
     pub row_count: usize,
 }
 
-// How willing a sender is, by the octet of MPR_WILLING.
-fn willing_of(octet: u8) -> Willing
-    ensures flooding { result.flooding ≡ octet / 16 }
-    ensures routing { result.routing ≡ octet % 16 }
-{
-    Willing {
-        flooding: octet / 16,
-        routing: octet % 16,
-    }
-}
-
 // The summary of a HELLO, or the first rule that is broken.
 fn read_hello_summary(alloc: Global, message: &Message) -> Result<HelloSummary, WireFault>
     ensures reads { IfOk result (Sums hello_summary_of (HelloIs (fields_of_message message.now))) }
     ensures keeps { IfOk result (λ summary. Keeps (BreaksHello (fields_of_message message.now))) }
     ensures broken { IfErr result (IfBroken (FirstBroken (BreaksHello (fields_of_message message.now)))) }
 {
-    let heading = match hello::heading_of(message) {
-        Ok(heading) => heading,
-        Err(number) => {
-            return Err(WireFault::Broken { number, addr: None });
-        }
-    };
-    let row_count = match row_count::<HelloRow>(alloc, message) {
-        Ok(count) => count,
-        Err(fault) => {
-            return Err(fault);
-        }
-    };
+    let (heading, row_count) = row_count::<HelloRow>(alloc, message)?;
     Ok(HelloSummary {
         originator: originator_of(message),
         validity: heading.validity,
@@ -107,18 +84,7 @@ fn read_tc_summary(alloc: Global, message: &Message) -> Result<TcSummary, WireFa
     ensures keeps { IfOk result (λ summary. Keeps (BreaksTc (fields_of_message message.now))) }
     ensures broken { IfErr result (IfBroken (FirstBroken (BreaksTc (fields_of_message message.now)))) }
 {
-    let heading = match tc::heading_of(message) {
-        Ok(heading) => heading,
-        Err(number) => {
-            return Err(WireFault::Broken { number, addr: None });
-        }
-    };
-    let row_count = match row_count::<TcRow>(alloc, message) {
-        Ok(count) => count,
-        Err(fault) => {
-            return Err(fault);
-        }
-    };
+    let (heading, row_count) = row_count::<TcRow>(alloc, message)?;
     Ok(TcSummary {
         originator: heading.originator,
         sequence: heading.sequence,

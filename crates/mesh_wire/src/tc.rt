@@ -83,8 +83,8 @@ fn content_of(message: &Message) -> Option<(u16, bool)>
     }
 }
 
-/// What the message says before its rows, or the first rule on it that is broken.
-pub(crate) fn heading_of(message: &Message) -> Result<TcHeader, u8>
+// What the message says before its rows, or the first rule on it that is broken.
+fn heading_of(message: &Message) -> Result<TcHeader, u8>
     ensures heading { IfOk result (TcHeadingIs (fields_of_message message.now)) }
     ensures bounded { IfOk result (λ heading. heading.validity < 2 ^ 35) }
     ensures broken { IfErr result (λ number. FirstBroken (BreaksTc (fields_of_message message.now)) number None) }
@@ -119,12 +119,25 @@ pub(crate) fn heading_of(message: &Message) -> Result<TcHeader, u8>
 }
 
 impl Row for TcRow {
+    ghost use Rattle.std.specs.Prelude.{◌<◌, ◌^◌};
     ghost use Rattle.mesh_wire.specs.RowRules.{tc_rule};
-    ghost use Rattle.mesh_wire.specs.TcHeading.{TcRowFrom};
+    ghost use Rattle.mesh_wire.specs.Tc.{IsReadTcRow};
+    ghost use Rattle.mesh_wire.specs.TcHeading.{TcHeadingIs, TcRowFrom};
+    ghost use Rattle.mesh_wire.specs.TcRules.{BreaksTc};
+
+    type Heading = TcHeader;
 
     ghost is_from = { TcRowFrom };
 
     ghost rule = { tc_rule };
+
+    ghost addr_of = { λ row. row.dest };
+
+    ghost is_read = { IsReadTcRow };
+
+    ghost is_heading = { λ m heading. TcHeadingIs m heading × (heading.validity < 2 ^ 35) };
+
+    ghost breaks = { BreaksTc };
 
     // The row of what is kept of an address.
     fn of_told(told: &AddressParts) -> TcRow {
@@ -140,6 +153,10 @@ impl Row for TcRow {
     fn rule_of(told: &AddressParts) -> Option<u8> {
         told.tc_rule()
     }
+
+    fn heading_of(message: &Message) -> Result<TcHeader, u8> {
+        heading_of(message)
+    }
 }
 
 // The TC, or the first rule that is broken.
@@ -149,18 +166,7 @@ fn read_tc(alloc: Global, message: &Message) -> Result<Tc, WireFault>
     ensures bounded { IfOk result (λ tc. tc.validity < 2 ^ 35) }
     ensures broken { IfErr result (IfBroken (FirstBroken (BreaksTc (fields_of_message message.now)))) }
 {
-    let heading = match heading_of(message) {
-        Ok(heading) => heading,
-        Err(number) => {
-            return Err(WireFault::Broken { number, addr: None });
-        }
-    };
-    let rows = match rows_in(alloc, message) {
-        Ok(rows) => rows,
-        Err(fault) => {
-            return Err(fault);
-        }
-    };
+    let (heading, rows) = rows_in::<TcRow>(alloc, message)?;
     Ok(Tc {
         originator: heading.originator,
         sequence: heading.sequence,
