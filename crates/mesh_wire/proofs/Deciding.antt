@@ -78,15 +78,15 @@ willing_or m = by (values_of mpr_willing m) refl
     by (v ∷ w ∷ rest) e = inr (never v (w ∷ rest) e (λ n f. cc))
 
 -- a value is that of a TLV
-value_from : (kind : ℕ) (tlvs : List TlvFields) (v : List ℕ) → Contains (map (λ (p : TlvFields). octets_of p.value) (filter (λ (p : TlvFields). p.kind == kind && p.ext == 0) tlvs)) v →
+tlv_saying : (kind : ℕ) (tlvs : List TlvFields) (v : List ℕ) → Contains (map (λ (p : TlvFields). octets_of p.value) (filter (λ (p : TlvFields). p.kind == kind && p.ext == 0) tlvs)) v →
     (tlv : TlvFields) × Contains tlvs tlv × (octets_of tlv.value ≡ v)
-value_from kind [] v h = absurd (none_in v h)
-value_from kind (t ∷ tlvs) v h = elim (cases_Bool (t.kind == kind && t.ext == 0)) [
+tlv_saying kind [] v h = absurd (none_in v h)
+tlv_saying kind (t ∷ tlvs) v h = elim (cases_Bool (t.kind == kind && t.ext == 0)) [
   | inl y ↦ elim (contains_cases (octets_of t.value) (values tlvs) v (subst (λ (b : Bool). Contains (cond b (octets_of t.value ∷ values tlvs) (values tlvs)) v) y (spread h))) [
     | inl e ↦ (t, at_head t tlvs, e)
-    | inr later ↦ let (u, there, is) = value_from kind tlvs v later in (u, in_tail t tlvs u there, is)
+    | inr later ↦ let (u, there, is) = tlv_saying kind tlvs v later in (u, in_tail t tlvs u there, is)
   ]
-  | inr n ↦ let (u, there, is) = value_from kind tlvs v (subst (λ (b : Bool). Contains (cond b (octets_of t.value ∷ values tlvs) (values tlvs)) v) n (spread h)) in (u, in_tail t tlvs u there, is)
+  | inr n ↦ let (u, there, is) = tlv_saying kind tlvs v (subst (λ (b : Bool). Contains (cond b (octets_of t.value ∷ values tlvs) (values tlvs)) v) n (spread h)) in (u, in_tail t tlvs u there, is)
 ]
   where
     values : List TlvFields → List (List ℕ)
@@ -102,7 +102,7 @@ value_from kind (t ∷ tlvs) v h = elim (cases_Bool (t.kind == kind && t.ext == 
 pub willing_octet : (m : MessageFields) → HasOctets m → (n : ℕ) → HasWilling m n → n < 256
 willing_octet m octets n (inl (e, is)) = omega (arith, is)
 willing_octet m octets n (inr e) =
-    let (tlv, there, is) = value_from mpr_willing m.tlvs (n ∷ []) (subst (λ (l : List (List ℕ)). Contains l (n ∷ [])) (sym e) (at_head (n ∷ []) [])) in
+    let (tlv, there, is) = tlv_saying mpr_willing m.tlvs (n ∷ []) (subst (λ (l : List (List ℕ)). Contains l (n ∷ [])) (sym e) (at_head (n ∷ []) [])) in
     octets.tlvs tlv there n (subst (λ (l : List ℕ). Contains l n) (sym is) (at_head n []))
 
 -- ---- content

@@ -1,5 +1,5 @@
 -- What is written of a HELLO reads as it, breaks no rule, and has nothing that is ignored.
-use Rattle.std.proofs.Common.{◌≡◌, ℕ, ◌+◌, ◌*◌, ◌/◌, ◌%◌, ◌<◌, ◌≤◌, ◌⊎◌, inl, inr, List, [], ◌∷◌, length, take, map, refl, sym, ap, subst, ◌∙◌, arith, length-take}
+use Rattle.std.proofs.Common.{◌≡◌, ℕ, ◌+◌, ◌/◌, ◌%◌, ◌<◌, ◌≤◌, ◌⊎◌, inl, inr, List, [], ◌∷◌, length, take, map, refl, sym, ap, subst, ◌∙◌, arith, length-take}
 use Rattle.std.specs.Prelude.{slice_range, drop, Contains, AllPairs, Option, Some, None, IsSome, Bool, true, false, cond}
 use Rattle.std.specs.Option.{option_map, is_some}
 use Rattle.std.proofs.lemmas.List.{length-map}
@@ -31,7 +31,7 @@ use Rattle.mesh_wire.specs.Drafts.{octet_of, whole, HasHelloValues, heading_of, 
 use Rattle.mesh_wire.specs.Hello.{local_value, link_value, other_value, OriginatorIs, TellsOther, IsReadHelloRow, HelloIs}
 use Rattle.mesh_wire.specs.HelloRules.{BreaksHello, AddressWidth, HopLimit, HopCount, NoValidity, WrongInterval, WrongWilling, Undefined, TwoValues, ShortPrefix, WrongMetric}
 use Rattle.mesh_wire.specs.Kinds.{validity_time, local_if, link_metric, mpr_willing, IsStatusBelow}
-use Rattle.mesh_wire.specs.Lines.{kind_of, number, value_of, hello_line, high, flags_number}
+use Rattle.mesh_wire.specs.Lines.{kind_of, octet_pair, value_of, hello_line, narrow, flags_number}
 use Rattle.mesh_wire.specs.Metrics.{MetricKind, Link_in, Link_out, Near_in, Near_out, flag_of}
 use Rattle.mesh_wire.specs.Parts.{octets_of, values_of}
 use Rattle.mesh_wire.specs.Rows.{HasType, HasPart, HasValue, HasTwoValues, AreRows}
@@ -54,17 +54,17 @@ pub bit_most : (b : Bool) → cond b 1 0 ≤ 1
 bit_most true = omega arith
 bit_most false = omega arith
 
-pub none_there : (c : AddressTlvKind) (l : AddressRecord) → number c l ≡ None → ◌≡◌ {A = ℕ} (cond (has_part c l) 1 0) 0
-none_there c l e = ap (λ (o : Option ℕ). cond (is_some o) 1 0) e
+pub none_there : (c : AddressTlvKind) (l : AddressRecord) → octet_pair c l ≡ None → ◌≡◌ {A = ℕ} (cond (has_part c l) 1 0) 0
+none_there c l e = ap (λ (o : Option (ℕ × ℕ)). cond (is_some o) 1 0) e
 
 few_of : (row : HelloRow) (local : Option LocalIf) → row.local ≡ local → (IsSome row.local → IsAlone row) → HasFewParts (hello_line row)
 few_of row None e sender =
     let l = hello_line row in
-    omega (arith, none_there Local l (ap (λ (o : Option LocalIf). high (option_map local_value o)) e), bit_most (has_part Link l), bit_most (has_part Other l), bit_most (has_part Mpr l), bit_most (has_part LinkIn l), bit_most (has_part LinkOut l), bit_most (has_part NearIn l), bit_most (has_part NearOut l))
+    omega (arith, none_there Local l (ap (λ (o : Option LocalIf). narrow (option_map local_value o)) e), bit_most (has_part Link l), bit_most (has_part Other l), bit_most (has_part Mpr l), bit_most (has_part LinkIn l), bit_most (has_part LinkOut l), bit_most (has_part NearIn l), bit_most (has_part NearOut l))
 few_of row (Some x) e sender =
     let l = hello_line row in
     let t = sender (subst IsSome (sym e) refl) in
-    omega (arith, bit_most (has_part Local l), none_there Link l (ap (λ (o : Option LinkStatus). high (option_map link_value o)) t.link), none_there Other l (ap (λ (o : Option OtherStatus). high (option_map other_value o)) t.other), bit_most (has_part Mpr l), bit_most (has_part LinkIn l), bit_most (has_part LinkOut l), bit_most (has_part NearIn l), bit_most (has_part NearOut l))
+    omega (arith, bit_most (has_part Local l), none_there Link l (ap (λ (o : Option LinkStatus). narrow (option_map link_value o)) t.link), none_there Other l (ap (λ (o : Option OtherStatus). narrow (option_map other_value o)) t.other), bit_most (has_part Mpr l), bit_most (has_part LinkIn l), bit_most (has_part LinkOut l), bit_most (has_part NearIn l), bit_most (has_part NearOut l))
 
 -- ---- originator
 
@@ -99,7 +99,7 @@ flags_octet true true octets e = (3, cc, omega arith, omega arith)
 
 pub metric_flagged : (k : MetricKind) (o : Option Metric) (octets : List ℕ) → option_map (metric_octets k) o ≡ Some octets → HasFlag k octets
 metric_flagged k None octets e = cc
-metric_flagged k (Some x) octets e = ((256 * flag_of k + x.code) / 256, (256 * flag_of k + x.code) % 256, cc, has_flag k x)
+metric_flagged k (Some x) octets e = (flag_of k + x.code / 256, x.code % 256, cc, has_flag k x)
 
 metric_read : (row : HelloRow) (k : MetricKind) (kind : ℕ) (octets : List ℕ) → kind ≡ link_metric → value_of (column_of k) (hello_line row) ≡ Some octets → IsReadOfOther kind octets
 metric_read row k kind octets e v = inr (inr (inr (e, (k, metric_flagged k (metric_of k row.metrics) octets (sym (metric_value k (hello_line row)) ∙ v)))))

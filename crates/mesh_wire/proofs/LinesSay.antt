@@ -1,8 +1,8 @@
 -- What a message says of an address, by the fields of its line.
-use Rattle.std.proofs.Common.{◌≡◌, ℕ, ◌+◌, ◌*◌, ◌/◌, ◌%◌, ◌<◌, ◌⊎◌, inl, inr, List, [], ◌∷◌, refl, sym, ap, subst, ◌∙◌, arith, lit<}
+use Rattle.std.proofs.Common.{◌≡◌, ℕ, ◌+◌, ◌/◌, ◌%◌, ◌<◌, ◌⊎◌, inl, inr, List, [], ◌∷◌, refl, sym, ap, subst, ◌∙◌, arith}
 use Rattle.std.specs.Prelude.{◌↔◌, ◌==◌, Contains, Option, Some, None, Bool, true, false, IsTrue, if◌then◌else◌}
 use Rattle.std.specs.Option.{option_map}
-use Rattle.std.proofs.Math.Nat.{mul-div_right}
+use Rattle.std.proofs.lemmas.Bool.{eq-eqb}
 use Rattle.mesh_atoms.specs.declared.hello.Metrics.{Metrics}
 use Rattle.mesh_atoms.specs.declared.codes.metric.Metric.{Metric}
 use Rattle.mesh_atoms.specs.Reading.{has}
@@ -13,7 +13,7 @@ use Rattle.mesh_wire.specs.declared.lines.AddressTlvKind.{AddressTlvKind}
 use Rattle.mesh_wire.specs.declared.lines.AddressTlvKind.TheVariants.{Local, Link, Other, Mpr, AddrType, Gateway, LinkIn, LinkOut, NearIn, NearOut}
 use Rattle.mesh_wire.specs.declared.lines.AddressRecord.{AddressRecord}
 use Rattle.mesh_wire.specs.Kinds.{link_metric}
-use Rattle.mesh_wire.specs.Lines.{kind_of, is_wide, high, value_of, flags_number}
+use Rattle.mesh_wire.specs.Lines.{kind_of, is_wide, narrow, flagged, value_of, flags_number}
 use Rattle.mesh_wire.specs.Metrics.{MetricKind, Link_in, Link_out, Near_in, Near_out, flag_of, metric_in, ShowsMetric, MetricIs}
 use Rattle.mesh_wire.specs.Rows.{HasValue, OctetIs, SaysFlag}
 use Rattle.mesh_wire.specs.Runs.{AreBlocks}
@@ -60,9 +60,9 @@ only c d narrow same = elim (wide_told d) [
 ]
 
 -- the value of an octet
-pub octet_value : (o : Option ℕ) → option_map (λ (n : ℕ). n / 256 ∷ []) (high o) ≡ option_map (λ (n : ℕ). n ∷ []) o
+pub octet_value : (o : Option ℕ) → option_map (λ (p : ℕ × ℕ). p.0 ∷ []) (narrow o) ≡ option_map (λ (n : ℕ). n ∷ []) o
 octet_value None = refl
-octet_value (Some n) = ap (λ (k : ℕ). Some (k ∷ [])) (mul-div_right n {m = 256} (lit< tt))
+octet_value (Some n) = refl
 
 -- ---- metrics
 
@@ -99,17 +99,17 @@ metric_column NearOut e = (Near_out, refl)
 
 -- the octets of a metric
 abbrev pub metric_octets : MetricKind → Metric → List ℕ
-metric_octets k m = (256 * flag_of k + m.code) / 256 ∷ ((256 * flag_of k + m.code) % 256 ∷ [])
+metric_octets k m = (flag_of k + m.code / 256) ∷ (m.code % 256 ∷ [])
+
+flagged_value : (k : MetricKind) (o : Option Metric) → option_map (λ (p : ℕ × ℕ). p.0 ∷ (p.1 ∷ [])) (flagged (flag_of k) o) ≡ option_map (metric_octets k) o
+flagged_value k None = refl
+flagged_value k (Some m) = refl
 
 pub metric_value : (k : MetricKind) (l : AddressRecord) → value_of (column_of k) l ≡ option_map (metric_octets k) (metric_of k l.metrics)
-metric_value Link_in l = twice Link_in l.metrics.link_in
-  where
-    twice : (k : MetricKind) (o : Option Metric) → option_map (λ (n : ℕ). n / 256 ∷ (n % 256 ∷ [])) (option_map (λ (m : Metric). 256 * flag_of k + m.code) o) ≡ option_map (metric_octets k) o
-    twice k None = refl
-    twice k (Some m) = refl
-metric_value Link_out l = elim l.metrics.link_out as (λ (o : Option Metric). option_map (λ (n : ℕ). n / 256 ∷ (n % 256 ∷ [])) (option_map (λ (m : Metric). 256 * 64 + m.code) o) ≡ option_map (metric_octets Link_out) o) [ None ↦ refl | Some m ↦ refl ]
-metric_value Near_in l = elim l.metrics.near_in as (λ (o : Option Metric). option_map (λ (n : ℕ). n / 256 ∷ (n % 256 ∷ [])) (option_map (λ (m : Metric). 256 * 32 + m.code) o) ≡ option_map (metric_octets Near_in) o) [ None ↦ refl | Some m ↦ refl ]
-metric_value Near_out l = elim l.metrics.near_out as (λ (o : Option Metric). option_map (λ (n : ℕ). n / 256 ∷ (n % 256 ∷ [])) (option_map (λ (m : Metric). 256 * 16 + m.code) o) ≡ option_map (metric_octets Near_out) o) [ None ↦ refl | Some m ↦ refl ]
+metric_value Link_in l = flagged_value Link_in l.metrics.link_in
+metric_value Link_out l = flagged_value Link_out l.metrics.link_out
+metric_value Near_in l = flagged_value Near_in l.metrics.near_in
+metric_value Near_out l = flagged_value Near_out l.metrics.near_out
 
 flags_told : (k j : MetricKind) (n : ℕ) → n < 16 → has (flag_of k + n) (flag_of j) ≡ (flag_of k == flag_of j)
 flags_told Link_in Link_in n lt = tells_128 true false false false n lt
@@ -147,23 +147,14 @@ same_kind Near_out Link_out e = cc
 same_kind Near_out Near_in e = cc
 same_kind Near_out Near_out e = refl
 
-high_is : (f code : ℕ) → (256 * f + code) / 256 ≡ f + code / 256
-high_is f code = omega arith
+-- the first octet has the flag of the kind, and no other
+metric_flag : (k j : MetricKind) (m : Metric) → has (flag_of k + m.code / 256) (flag_of j) ≡ (flag_of k == flag_of j)
+metric_flag k j m = let less = m.in_range in flags_told k j (m.code / 256) (omega arith)
 
--- the high octet has the flag of the kind, and no other
-metric_flag : (k j : MetricKind) (m : Metric) → has ((256 * flag_of k + m.code) / 256) (flag_of j) ≡ (flag_of k == flag_of j)
-metric_flag k j m = let less = m.in_range in ap (λ (n : ℕ). has n (flag_of j)) (high_is (flag_of k) m.code) ∙ flags_told k j (m.code / 256) (omega arith)
+pub has_flag : (k : MetricKind) (m : Metric) → has (flag_of k + m.code / 256) (flag_of k) ≡ true
+has_flag k m = metric_flag k k m ∙ eq-eqb (flag_of k) (flag_of k) refl
 
-own_flag : (k : MetricKind) → (flag_of k == flag_of k) ≡ true
-own_flag Link_in = refl
-own_flag Link_out = refl
-own_flag Near_in = refl
-own_flag Near_out = refl
-
-pub has_flag : (k : MetricKind) (m : Metric) → has ((256 * flag_of k + m.code) / 256) (flag_of k) ≡ true
-has_flag k m = metric_flag k k m ∙ own_flag k
-
-metric_again : (k : MetricKind) (m : Metric) → m ≡ metric_in ((256 * flag_of k + m.code) / 256) ((256 * flag_of k + m.code) % 256)
+metric_again : (k : MetricKind) (m : Metric) → m ≡ metric_in (flag_of k + m.code / 256) (m.code % 256)
 metric_again Link_in m = let less = m.in_range in same_metric m _ (omega arith)
 metric_again Link_out m = let less = m.in_range in same_metric m _ (omega arith)
 metric_again Near_in m = let less = m.in_range in same_metric m _ (omega arith)
@@ -217,11 +208,11 @@ module _ (m : MessageFields) (lines : List AddressRecord) (are : AreBlocks lines
   from_metric : (k j : MetricKind) (o : Option Metric) (x y : ℕ) → metric_of k line.metrics ≡ o → option_map (metric_octets k) o ≡ Some (x ∷ (y ∷ [])) → has x (flag_of j) ≡ true → metric_of j line.metrics ≡ Some (metric_in x y)
   from_metric k j None x y of e flag = cc
   from_metric k j (Some metric) x y of e flag =
-      let (first, second) = same_two ((256 * flag_of k + metric.code) / 256) ((256 * flag_of k + metric.code) % 256) x y e in
-      let there : has ((256 * flag_of k + metric.code) / 256) (flag_of j) ≡ true = ap (λ (n : ℕ). has n (flag_of j)) first ∙ flag in
+      let (first, second) = same_two (flag_of k + metric.code / 256) (metric.code % 256) x y e in
+      let there : has (flag_of k + metric.code / 256) (flag_of j) ≡ true = ap (λ (n : ℕ). has n (flag_of j)) first ∙ flag in
       let same : k ≡ j = same_kind k j (sym (metric_flag k j metric) ∙ there) in
       subst (λ (i : MetricKind). metric_of i line.metrics ≡ Some metric) same of
-      ∙ ap Some (metric_again k metric ∙ ap (λ (n : ℕ). metric_in n ((256 * flag_of k + metric.code) % 256)) first ∙ ap (metric_in x) second)
+      ∙ ap Some (metric_again k metric ∙ ap (λ (n : ℕ). metric_in n (metric.code % 256)) first ∙ ap (metric_in x) second)
 
   pub shown : (j : MetricKind) (metric : Metric) → ShowsMetric m line.net j metric → metric_of j line.metrics ≡ Some metric
   shown j metric (x, y, s, flag, is) =
@@ -234,8 +225,8 @@ module _ (m : MessageFields) (lines : List AddressRecord) (are : AreBlocks lines
   metric_from k None e = λ metric s. (let f = shown k metric s in cc)
   metric_from k (Some metric) e =
       let value : value_of (column_of k) line ≡ Some (metric_octets k metric) = metric_value k line ∙ ap (option_map (metric_octets k)) e in (
-        (256 * flag_of k + metric.code) / 256,
-        (256 * flag_of k + metric.code) % 256,
+        flag_of k + metric.code / 256,
+        metric.code % 256,
         subst (λ (kind : ℕ). HasValue m line.net kind (metric_octets k metric)) (column_kind k) (says m lines are line (column_of k) (metric_octets k metric) among value),
         has_flag k metric,
         metric_again k metric,
@@ -254,4 +245,4 @@ module _ (m : MessageFields) (lines : List AddressRecord) (are : AreBlocks lines
     where
       from : (k : MetricKind) (o : Option Metric) → option_map (metric_octets k) o ≡ Some octets → (x : ℕ) × (y : ℕ) × (octets ≡ x ∷ (y ∷ []))
       from k None e = cc
-      from k (Some metric) e = ((256 * flag_of k + metric.code) / 256, (256 * flag_of k + metric.code) % 256, cc)
+      from k (Some metric) e = (flag_of k + metric.code / 256, metric.code % 256, cc)

@@ -12,9 +12,9 @@ use Rattle.mesh_tlv.specs.Least.{octet_if, covers_all, is_several, least_short, 
 use Rattle.mesh_tlv.specs.Grammar.{HasEqualParts}
 use Rattle.mesh_wire.specs.declared.lines.AddressTlvKind.{AddressTlvKind}
 use Rattle.mesh_wire.specs.declared.lines.AddressRecord.{AddressRecord}
-use Rattle.mesh_wire.specs.Lines.{is_wide, width_of, number, octets_of, value_of, laid, column_text}
+use Rattle.mesh_wire.specs.Lines.{is_wide, width_of, octet_pair, octets_of, value_of, laid, column_text}
 use Rattle.mesh_wire.specs.Parts.{share_of, value_at}
-use Rattle.mesh_wire.specs.Runs.{has_part, leading, present, have_number, first_number, run_of, Adds, IsColumnTlv, LaysFirst, Lays, LaysAll, IsBlock, AreBlocks}
+use Rattle.mesh_wire.specs.Runs.{has_part, leading, present, is_same_pair, have_pair, first_pair, run_of, Adds, IsColumnTlv, LaysFirst, Lays, LaysAll, IsBlock, AreBlocks}
 use Rattle.mesh_packet.specs.declared.packet.Block.{Block}
 use Rattle.mesh_packet.specs.Fields.{BlockFields, fields_of_block}
 use Rattle.std.proofs.lemmas.List.Elements.{Contains-push, Contains-append_left, Contains-push_cases}
@@ -114,18 +114,20 @@ present_run c lines first =
 
 -- ---- the TLV of a run
 
-same_option : (a b : Option ℕ) → option_eq nat_eq a b ≡ true → a ≡ b
+same_option : (a b : Option (ℕ × ℕ)) → option_eq is_same_pair a b ≡ true → a ≡ b
 same_option None None e = refl
 same_option None (Some b) e = cc
 same_option (Some a) None e = cc
-same_option (Some a) (Some b) e = ap Some (eqb-true a b e)
+same_option (Some a) (Some b) e =
+    let parts = both (nat_eq a.0 b.0) (nat_eq a.1 b.1) e in
+    ap (λ (n : ℕ). Some (n, a.1)) (eqb-true a.0 b.0 parts.0) ∙ ap (λ (n : ℕ). Some (b.0, n)) (eqb-true a.1 b.1 parts.1)
 
-all_there : (c : AddressTlvKind) (n : Option ℕ) (lines : List AddressRecord) → have_number c n lines ≡ true → (k : ℕ) (line : AddressRecord) → slice_get lines k ≡ Some line → number c line ≡ n
+all_there : (c : AddressTlvKind) (n : Option (ℕ × ℕ)) (lines : List AddressRecord) → have_pair c n lines ≡ true → (k : ℕ) (line : AddressRecord) → slice_get lines k ≡ Some line → octet_pair c line ≡ n
 all_there c n [] e k line at = cc
 all_there c n (l ∷ lines) e zero line at =
     let same : l ≡ line = cc in
-    subst (λ (x : AddressRecord). number c x ≡ n) same (same_option (number c l) n (both (option_eq nat_eq (number c l) n) (have_number c n lines) e).0)
-all_there c n (l ∷ lines) e (suc k) line at = all_there c n lines (both (option_eq nat_eq (number c l) n) (have_number c n lines) e).1 k line at
+    subst (λ (x : AddressRecord). octet_pair c x ≡ n) same (same_option (octet_pair c l) n (both (option_eq is_same_pair (octet_pair c l) n) (have_pair c n lines) e).0)
+all_there c n (l ∷ lines) e (suc k) line at = all_there c n lines (both (option_eq is_same_pair (octet_pair c l) n) (have_pair c n lines) e).1 k line at
 
 -- lines that all have the part, of a block from a place on
 pub record Stands (c : AddressTlvKind) (lines : List AddressRecord) (first : ℕ) (run : List AddressRecord) : Type 0 where
@@ -143,13 +145,13 @@ fit_case : (a : Bool) (one each : List ℕ) (first last : ℕ) → length each %
 fit_case true one each first last h = tt
 fit_case false one each first last h = h
 
-laid_number : (c : AddressTlvKind) (line : AddressRecord) (n : ℕ) → number c line ≡ Some n → laid c line ≡ octets_of c n
-laid_number c line n e = ap (λ (o : Option ℕ). octets_of c (unwrap_or o 0)) e
+laid_pair : (c : AddressTlvKind) (line : AddressRecord) (n : ℕ × ℕ) → octet_pair c line ≡ Some n → laid c line ≡ octets_of c n
+laid_pair c line n e = ap (λ (o : Option (ℕ × ℕ)). octets_of c (unwrap_or o (0, 0))) e
 
-one_value : (c : AddressTlvKind) (run : List AddressRecord) (k : ℕ) (line : AddressRecord) (n : ℕ) → have_number c (first_number c run) run ≡ true → slice_get run k ≡ Some line → number c line ≡ Some n → column_text c (take 1 run) ≡ octets_of c n
+one_value : (c : AddressTlvKind) (run : List AddressRecord) (k : ℕ) (line : AddressRecord) (n : ℕ × ℕ) → have_pair c (first_pair c run) run ≡ true → slice_get run k ≡ Some line → octet_pair c line ≡ Some n → column_text c (take 1 run) ≡ octets_of c n
 one_value c [] k line n same at is = cc
 one_value c (l ∷ run) k line n same at is =
-    append-nil (laid c l) ∙ laid_number c l n (sym (all_there c (number c l) (l ∷ run) same k line at) ∙ is)
+    append-nil (laid c l) ∙ laid_pair c l n (sym (all_there c (octet_pair c l) (l ∷ run) same k line at) ∙ is)
 
 pub is_run : (c : AddressTlvKind) (lines : List AddressRecord) (first : ℕ) (run : List AddressRecord) → Stands c lines first run → IsColumnTlv c lines (run_of c first run)
 is_run c lines first run s = record {
@@ -159,7 +161,7 @@ is_run c lines first run s = record {
   says = says;
 } where
   same : Bool
-  same = have_number c (first_number c run) run
+  same = have_pair c (first_pair c run) run
 
   last : ℕ
   last = first + (length run - 1)
@@ -176,8 +178,8 @@ is_run c lines first run s = record {
       let lt : k < length run = omega (arith, s.some) in
       let (line, at) = there run k lt in
       let back : first + k ≡ place = omega arith in
-      let (n, is) = some_of (number c line) (s.has k line at) in
-      let each : share_of (last + 1 - first) k (column_text c run) ≡ octets_of c n = rw count (share_is c run (length run) k line refl lt at ∙ laid_number c line n is) in (
+      let (n, is) = some_of (octet_pair c line) (s.has k line at) in
+      let each : share_of (last + 1 - first) k (column_text c run) ≡ octets_of c n = rw count (share_is c run (length run) k line refl lt at ∙ laid_pair c line n is) in (
         line,
         octets_of c n,
         ap (slice_get lines) (sym back) ∙ s.at k lt ∙ at,
@@ -221,8 +223,8 @@ text_short c lines = elim (cases_Bool (is_wide c)) [
 pub run_short : (c : AddressTlvKind) (first : ℕ) (run : List AddressRecord) (count : ℕ) → 0 < length run → length run ≤ 255 → length (least_addr_tlv count (run_of c first run)) ≤ 7 * length run
 run_short c first run count some few =
     let tlv = run_of c first run in
-    let text = cond (have_number c (first_number c run) run) (column_text c (take 1 run)) (column_text c run) in
-    let long : length text ≤ 2 * length run = elim (have_number c (first_number c run) run) as (λ (b : Bool). length (cond b (column_text c (take 1 run)) (column_text c run)) ≤ 2 * length run) [
+    let text = cond (have_pair c (first_pair c run) run) (column_text c (take 1 run)) (column_text c run) in
+    let long : length text ≤ 2 * length run = elim (have_pair c (first_pair c run) run) as (λ (b : Bool). length (cond b (column_text c (take 1 run)) (column_text c run)) ≤ 2 * length run) [
       | true ↦ omega (arith, text_short c (take 1 run), length-take 1 run)
       | false ↦ text_short c run
     ] in
@@ -238,9 +240,9 @@ lays_none c lines = record {
 }
 
 none_said : (c : AddressTlvKind) (line : AddressRecord) (octets : List ℕ) → has_part c line ≡ false → value_of c line ≡ Some octets → ⊥
-none_said c line octets e is = none (number c line) e is
+none_said c line octets e is = none (octet_pair c line) e is
   where
-    none : (o : Option ℕ) → is_some o ≡ false → option_map (octets_of c) o ≡ Some octets → ⊥
+    none : (o : Option (ℕ × ℕ)) → is_some o ≡ false → option_map (octets_of c) o ≡ Some octets → ⊥
     none None e is = cc
     none (Some n) e is = cc
 

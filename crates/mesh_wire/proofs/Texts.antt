@@ -1,13 +1,13 @@
 -- Texts that are laid one after the other, and those of a part of a list.
 use Rattle.std.proofs.Common.{◌≡◌, ℕ, zero, suc, ◌+◌, ◌-◌, ◌≤◌, List, [], ◌∷◌, ◌++◌, length, take, drop, refl, sym, ap, ◌∙◌, arith, append_assoc, length-append}
-use Rattle.std.specs.Prelude.{◌*◌, ◌/◌, ◌%◌, slice_range, Bool, true, false, cond, unwrap_or}
+use Rattle.std.specs.Prelude.{◌*◌, slice_range, Bool, true, false, cond, unwrap_or}
 use Rattle.std.specs.List.{flat_map}
 use Rattle.std.proofs.lemmas.List.{take-append-drop}
 use Rattle.std.proofs.lemmas.Grind.{flat_map-append}
 use Rattle.std.proofs.Math.Seq.{take-append_seam, drop-append_seam}
 use Rattle.mesh_wire.specs.declared.lines.AddressTlvKind.{AddressTlvKind}
 use Rattle.mesh_wire.specs.declared.lines.AddressRecord.{AddressRecord}
-use Rattle.mesh_wire.specs.Lines.{is_wide, width_of, number, laid, column_text}
+use Rattle.mesh_wire.specs.Lines.{is_wide, width_of, octet_pair, laid, column_text}
 
 -- ---- lists
 
@@ -73,7 +73,7 @@ one_or_two true x y = refl
 one_or_two false x y = refl
 
 pub laid_long : (c : AddressTlvKind) (l : AddressRecord) → length (laid c l) ≡ width_of c
-laid_long c l = one_or_two (is_wide c) (unwrap_or (number c l) 0 / 256) (unwrap_or (number c l) 0 % 256)
+laid_long c l = one_or_two (is_wide c) (unwrap_or (octet_pair c l) (0, 0)).0 (unwrap_or (octet_pair c l) (0, 0)).1
 
 pub column_wide : (c : AddressTlvKind) (lines : List AddressRecord) → is_wide c ≡ true → length (column_text c lines) ≡ 2 * length lines
 column_wide c [] e = refl

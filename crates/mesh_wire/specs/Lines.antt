@@ -1,5 +1,5 @@
 -- What is written of each address, by what its TLVs may say.
-use Rattle.std.specs.Prelude.{ℕ, ◌+◌, ◌*◌, ◌/◌, ◌%◌, List, [], ◌∷◌, Option, Some, None, Bool, true, false, if◌then◌else◌, unwrap_or}
+use Rattle.std.specs.Prelude.{ℕ, ◌+◌, ◌/◌, ◌%◌, List, [], ◌∷◌, Option, Some, None, Bool, true, false, if◌then◌else◌, unwrap_or}
 use Rattle.std.specs.Option.{option_map}
 use Rattle.std.specs.List.{flat_map}
 use Rattle.mesh_atoms.specs.declared.hello.HelloRow.{HelloRow}
@@ -41,34 +41,34 @@ is_wide NearOut = true
 abbrev pub width_of : AddressTlvKind → ℕ
 width_of c = if is_wide c then 2 else 1
 
--- a number whose high octet is this one
-abbrev pub high : Option ℕ → Option ℕ
-high octet = option_map (λ (n : ℕ). 256 * n) octet
+-- one octet, with 0 behind it
+abbrev pub narrow : Option ℕ → Option (ℕ × ℕ)
+narrow octet = option_map (λ (n : ℕ). (n, 0)) octet
 
--- a metric with the flag of its kind in the high octet
-abbrev pub flagged : ℕ → Option Metric → Option ℕ
-flagged flag metric = option_map (λ (m : Metric). 256 * flag + m.code) metric
+-- a metric with the flag of its kind in the first octet
+abbrev pub flagged : ℕ → Option Metric → Option (ℕ × ℕ)
+flagged flag metric = option_map (λ (m : Metric). (flag + m.code / 256, m.code % 256)) metric
 
--- what is said of an address, as a number of 16 bits whose high octet is the first of the value
-abbrev pub number : AddressTlvKind → AddressRecord → Option ℕ
-number Local l = high l.local
-number Link l = high l.link
-number Other l = high l.other
-number Mpr l = high l.mpr
-number AddrType l = high l.addr_type
-number Gateway l = high l.gateway
-number LinkIn l = flagged 128 l.metrics.link_in
-number LinkOut l = flagged 64 l.metrics.link_out
-number NearIn l = flagged 32 l.metrics.near_in
-number NearOut l = flagged 16 l.metrics.near_out
+-- what is said of an address, as two octets, of which a value has the first or both
+abbrev pub octet_pair : AddressTlvKind → AddressRecord → Option (ℕ × ℕ)
+octet_pair Local l = narrow l.local
+octet_pair Link l = narrow l.link
+octet_pair Other l = narrow l.other
+octet_pair Mpr l = narrow l.mpr
+octet_pair AddrType l = narrow l.addr_type
+octet_pair Gateway l = narrow l.gateway
+octet_pair LinkIn l = flagged 128 l.metrics.link_in
+octet_pair LinkOut l = flagged 64 l.metrics.link_out
+octet_pair NearIn l = flagged 32 l.metrics.near_in
+octet_pair NearOut l = flagged 16 l.metrics.near_out
 
--- the value of a number
-abbrev pub octets_of : AddressTlvKind → ℕ → List ℕ
-octets_of c n = n / 256 ∷ (if is_wide c then n % 256 ∷ [] else [])
+-- the value of two octets
+abbrev pub octets_of : AddressTlvKind → ℕ × ℕ → List ℕ
+octets_of c pair = pair.0 ∷ (if is_wide c then pair.1 ∷ [] else [])
 
 -- the value that is said of an address
 abbrev pub value_of : AddressTlvKind → AddressRecord → Option (List ℕ)
-value_of c l = option_map (octets_of c) (number c l)
+value_of c l = option_map (octets_of c) (octet_pair c l)
 
 -- two flags, 1 and 2, in one octet; none where neither is set
 abbrev pub flags_number : Bool → Bool → Option ℕ
@@ -109,7 +109,7 @@ columns = Local ∷ (Link ∷ (Other ∷ (Mpr ∷ (AddrType ∷ (Gateway ∷ (Li
 
 -- the octets that are laid for an address: its value, or zeros of that length
 abbrev pub laid : AddressTlvKind → AddressRecord → List ℕ
-laid c l = octets_of c (unwrap_or (number c l) 0)
+laid c l = octets_of c (unwrap_or (octet_pair c l) (0, 0))
 
 -- the octets that are laid for addresses, one after the other
 abbrev pub column_text : AddressTlvKind → List AddressRecord → List ℕ

@@ -9,7 +9,7 @@ use Rattle.mesh_tlv.specs.Fields.{AddrTlvFields}
 use Rattle.mesh_tlv.specs.Least.{IsFit, least_addr_tlv}
 use Rattle.mesh_wire.specs.declared.lines.AddressTlvKind.{AddressTlvKind}
 use Rattle.mesh_wire.specs.declared.lines.AddressRecord.{AddressRecord}
-use Rattle.mesh_wire.specs.Lines.{kind_of, number, value_of, columns, column_text}
+use Rattle.mesh_wire.specs.Lines.{kind_of, octet_pair, value_of, columns, column_text}
 use Rattle.mesh_wire.specs.Parts.{value_at}
 
 -- the octets of an IPv4 address, with zeros after them
@@ -23,7 +23,7 @@ raw_of net = record { octets = host_octets net.addr.0; prefix = net.prefix }
 
 -- whether the part is said of the address
 abbrev pub has_part : AddressTlvKind → AddressRecord → Bool
-has_part c l = is_some (number c l)
+has_part c l = is_some (octet_pair c l)
 
 -- how many lines at the front have the part
 abbrev pub leading : AddressTlvKind → List AddressRecord → ℕ
@@ -35,15 +35,19 @@ abbrev pub present : AddressTlvKind → List AddressRecord → ℕ
 present c [] = 0
 present c (l ∷ lines) = (if has_part c l then 1 else 0) + present c lines
 
--- whether all lines have that number
-abbrev pub have_number : AddressTlvKind → Option ℕ → List AddressRecord → Bool
-have_number c n [] = true
-have_number c n (l ∷ lines) = option_eq nat_eq (number c l) n && have_number c n lines
+-- whether pairs of octets are the same
+abbrev pub is_same_pair : ℕ × ℕ → ℕ × ℕ → Bool
+is_same_pair a b = nat_eq a.0 b.0 && nat_eq a.1 b.1
 
--- the number of the first line
-abbrev pub first_number : AddressTlvKind → List AddressRecord → Option ℕ
-first_number c [] = None
-first_number c (l ∷ lines) = number c l
+-- whether all lines have that pair
+abbrev pub have_pair : AddressTlvKind → Option (ℕ × ℕ) → List AddressRecord → Bool
+have_pair c pair [] = true
+have_pair c pair (l ∷ lines) = option_eq is_same_pair (octet_pair c l) pair && have_pair c pair lines
+
+-- the pair of the first line
+abbrev pub first_pair : AddressTlvKind → List AddressRecord → Option (ℕ × ℕ)
+first_pair c [] = None
+first_pair c (l ∷ lines) = octet_pair c l
 
 -- the TLV of a run of lines, from a place of the block on: one value where all are the same, else one for each
 abbrev pub run_of : AddressTlvKind → ℕ → List AddressRecord → AddrTlvFields
@@ -52,8 +56,8 @@ run_of c first lines = record {
   ext = 0;
   first = first;
   last = first + (length lines - 1);
-  multi = not (have_number c (first_number c lines) lines);
-  value = Some (if have_number c (first_number c lines) lines then column_text c (take 1 lines) else column_text c lines);
+  multi = not (have_pair c (first_pair c lines) lines);
+  value = Some (if have_pair c (first_pair c lines) lines then column_text c (take 1 lines) else column_text c lines);
 }
 
 -- more of this kind were put behind the old ones

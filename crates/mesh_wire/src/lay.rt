@@ -3,7 +3,7 @@ ghost use Rattle.std.specs.Prelude.{◌≡◌, ◌+◌, ◌*◌, ◌++◌, OnOk}
 ghost use Rattle.mesh_wire.specs.Lines.{octets_of, columns, column_text, columns_text};
 
 use crate::lines::{AddressRecord, AddressTlvKind};
-use mesh_atoms::{Bytes, octets_of_short};
+use mesh_atoms::Bytes;
 use std::alloc::AllocError;
 
 /// All columns, in the order in which they are laid and written.
@@ -20,14 +20,13 @@ pub(crate) const COLUMNS: [AddressTlvKind; 10] = [
     AddressTlvKind::NearOut,
 ];
 
-// Appends the value of a number.
-fn put_value(column: AddressTlvKind, number: u16, out: &mut Bytes) -> Result<(), AllocError>
-    ensures { OnOk result (out.new ≡ out.old ++ octets_of column number) }
+// Appends the value of two octets.
+fn put_value(column: AddressTlvKind, pair: (u8, u8), out: &mut Bytes) -> Result<(), AllocError>
+    ensures { OnOk result (out.new ≡ out.old ++ octets_of column pair) }
 {
-    let [high, low] = octets_of_short(number);
-    out.push(high)?;
+    out.push(pair.0)?;
     if column.is_wide() {
-        out.push(low)?;
+        out.push(pair.1)?;
     }
     Ok(())
 }
@@ -41,7 +40,7 @@ fn lay_column(
     ensures { OnOk result (out.new ≡ out.old ++ column_text column lines.now) }
 {
     for line in lines {
-        put_value(column, line.number(column).unwrap_or(0), out)?;
+        put_value(column, line.octet_pair(column).unwrap_or((0, 0)), out)?;
     }
     Ok(())
 }

@@ -1,8 +1,8 @@
 //! What is written of each address of a message, whichever message it is (RFC 6130, section 10, and RFC 7181, section 13.3).
-ghost use Rattle.std.specs.Prelude.{◌≡◌, ◌+◌, ◌*◌, ◌<◌, ◌≤◌, IfOk, map};
+ghost use Rattle.std.specs.Prelude.{◌≡◌, ◌≤◌, IfOk, map};
 ghost use Rattle.std.specs.Option.{option_map};
 ghost use Rattle.mesh_wire.specs.Hello.{local_value, link_value, other_value};
-ghost use Rattle.mesh_wire.specs.Lines.{kind_of, is_wide, width_of, number, flags_number, hello_line, tc_line};
+ghost use Rattle.mesh_wire.specs.Lines.{kind_of, is_wide, width_of, narrow, flagged, octet_pair, flags_number, hello_line, tc_line};
 
 use mesh_atoms::{
     HelloRow, LinkStatus, LocalIf, Metric, Metrics, NetAddr, OtherStatus, Seq, TcRow,
@@ -70,39 +70,39 @@ impl AddressTlvKind {
     }
 }
 
-// An octet as the high one of 16 bits.
-fn high(octet: Option<u8>) -> Option<u16>
-    ensures { result ≡ option_map (λ n. 256 * n) octet }
+// One octet, with 0 behind it.
+fn narrow(octet: Option<u8>) -> Option<(u8, u8)>
+    ensures { result ≡ narrow octet }
 {
     match octet {
-        Some(octet) => Some(256 * u16::from(octet)),
+        Some(octet) => Some((octet, 0)),
         None => None,
     }
 }
 
-// A metric with the flag of its kind in the high octet.
-fn flagged(flag: u16, metric: Option<Metric>) -> Option<u16>
+// A metric with the flag of its kind in the first octet.
+fn flagged(flag: u8, metric: Option<Metric>) -> Option<(u8, u8)>
     requires { flag ≤ 128 }
-    ensures { result ≡ option_map (λ m. 256 * flag + m.code) metric }
+    ensures { result ≡ flagged flag metric }
 {
     match metric {
-        Some(metric) => Some(256 * flag + metric.code),
+        Some(metric) => Some((flag + (metric.code / 256) as u8, (metric.code % 256) as u8)),
         None => None,
     }
 }
 
 impl AddressRecord {
-    /// What is said of the address, as a number whose high octet is the first of the value.
-    pub(crate) fn number(&self, column: AddressTlvKind) -> Option<u16>
-        ensures { result ≡ number column self.now }
+    /// What is said of the address, as two octets, of which a value has the first or both.
+    pub(crate) fn octet_pair(&self, column: AddressTlvKind) -> Option<(u8, u8)>
+        ensures { result ≡ octet_pair column self.now }
     {
         match column {
-            AddressTlvKind::Local => high(self.local),
-            AddressTlvKind::Link => high(self.link),
-            AddressTlvKind::Other => high(self.other),
-            AddressTlvKind::Mpr => high(self.mpr),
-            AddressTlvKind::AddrType => high(self.addr_type),
-            AddressTlvKind::Gateway => high(self.gateway),
+            AddressTlvKind::Local => narrow(self.local),
+            AddressTlvKind::Link => narrow(self.link),
+            AddressTlvKind::Other => narrow(self.other),
+            AddressTlvKind::Mpr => narrow(self.mpr),
+            AddressTlvKind::AddrType => narrow(self.addr_type),
+            AddressTlvKind::Gateway => narrow(self.gateway),
             AddressTlvKind::LinkIn => flagged(128, self.metrics.link_in),
             AddressTlvKind::LinkOut => flagged(64, self.metrics.link_out),
             AddressTlvKind::NearIn => flagged(32, self.metrics.near_in),

@@ -3,7 +3,7 @@ ghost use Rattle.std.specs.Prelude.{◌≡◌, ◌+◌, ◌++◌, ◌*◌, ◌<�
 ghost use Rattle.mesh_tlv.specs.Fields.{addr_fields};
 ghost use Rattle.mesh_packet.specs.Fields.{fields_of_block};
 ghost use Rattle.mesh_wire.specs.Lines.{columns, column_text, columns_text};
-ghost use Rattle.mesh_wire.specs.Runs.{host_octets, raw_of, leading, have_number, run_of, Adds, Lays, LaysAll, IsBlock, AreBlocks};
+ghost use Rattle.mesh_wire.specs.Runs.{host_octets, raw_of, leading, have_pair, run_of, Adds, Lays, LaysAll, IsBlock, AreBlocks};
 
 use crate::lay::COLUMNS;
 use crate::lines::{AddressRecord, AddressTlvKind};
@@ -46,7 +46,7 @@ fn leading(column: AddressTlvKind, lines: &[AddressRecord]) -> usize
     match lines {
         [] => 0,
         [line, rest @ ..] => {
-            if line.number(column).is_some() {
+            if line.octet_pair(column).is_some() {
                 1 + leading(column, rest)
             } else {
                 0
@@ -55,13 +55,13 @@ fn leading(column: AddressTlvKind, lines: &[AddressRecord]) -> usize
     }
 }
 
-// Whether all lines have that number.
-fn have_number(column: AddressTlvKind, number: Option<u16>, lines: &[AddressRecord]) -> bool
-    ensures { result ≡ have_number column number lines.now }
+// Whether all lines have that pair.
+fn have_pair(column: AddressTlvKind, pair: Option<(u8, u8)>, lines: &[AddressRecord]) -> bool
+    ensures { result ≡ have_pair column pair lines.now }
 {
     match lines {
         [] => true,
-        [line, rest @ ..] => line.number(column) == number && have_number(column, number, rest),
+        [line, rest @ ..] => line.octet_pair(column) == pair && have_pair(column, pair, rest),
     }
 }
 
@@ -105,7 +105,7 @@ fn run_of<'a>(
     requires text { text.now ≡ column_text column lines.now }
     ensures { addr_fields result ≡ run_of column first lines.now }
 {
-    let same = have_number(column, lines[0].number(column), lines);
+    let same = have_pair(column, lines[0].octet_pair(column), lines);
     AddrTlv {
         kind: column.kind(),
         ext: 0,
