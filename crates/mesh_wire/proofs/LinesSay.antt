@@ -2,7 +2,7 @@
 use Rattle.std.proofs.Common.{◌≡◌, ℕ, ◌+◌, ◌/◌, ◌%◌, ◌<◌, ◌⊎◌, inl, inr, List, [], ◌∷◌, refl, sym, ap, subst, ◌∙◌, arith}
 use Rattle.std.specs.Prelude.{◌↔◌, ◌==◌, Contains, Option, Some, None, Bool, true, false, IsTrue, if◌then◌else◌}
 use Rattle.std.specs.Option.{option_map}
-use Rattle.std.proofs.lemmas.Bool.{eq-eqb}
+use Rattle.std.proofs.lemmas.Bool.{eq-eqb, eqb-true}
 use Rattle.mesh_atoms.specs.declared.hello.Metrics.{Metrics}
 use Rattle.mesh_atoms.specs.declared.codes.metric.Metric.{Metric}
 use Rattle.mesh_atoms.specs.Reading.{has}
@@ -37,27 +37,10 @@ narrow_told LinkOut e = cc
 narrow_told NearIn e = cc
 narrow_told NearOut e = cc
 
-wide_told : (c : AddressTlvKind) → (is_wide c ≡ false) ⊎ (is_wide (of_kind (kind_of c)) ≡ true)
-unfolding of_kind
-wide_told Local = inl refl
-wide_told Link = inl refl
-wide_told Other = inl refl
-wide_told Mpr = inl refl
-wide_told AddrType = inl refl
-wide_told Gateway = inl refl
-wide_told LinkIn = inr refl
-wide_told LinkOut = inr refl
-wide_told NearIn = inr refl
-wide_told NearOut = inr refl
-
 only : (c d : AddressTlvKind) → is_wide c ≡ false → kind_of c ≡ kind_of d → d ≡ c
-only c d narrow same = elim (wide_told d) [
-  | inl other ↦ sym (narrow_told d other) ∙ ap of_kind (sym same) ∙ narrow_told c narrow
-  | inr wide ↦
-      let e : of_kind (kind_of d) ≡ c = ap of_kind (sym same) ∙ narrow_told c narrow in
-      let f : is_wide c ≡ true = sym (ap is_wide e) ∙ wide in
-      cc
-]
+only c d narrow_c same =
+    let narrow_d : is_wide d ≡ false = ap (λ (kind : ℕ). kind == link_metric) (sym same) ∙ narrow_c in
+    sym (narrow_told d narrow_d) ∙ ap of_kind (sym same) ∙ narrow_told c narrow_c
 
 -- the value of an octet
 pub octet_value : (o : Option ℕ) → option_map (λ (p : ℕ × ℕ). p.0 ∷ []) (narrow o) ≡ option_map (λ (n : ℕ). n ∷ []) o
@@ -129,23 +112,18 @@ flags_told Near_out Link_out n lt = tells_64 false false false true n lt
 flags_told Near_out Near_in n lt = tells_32 false false false true n lt
 flags_told Near_out Near_out n lt = tells_16 false false false true n lt
 
+of_flag : ℕ → MetricKind
+of_flag n = if n == 128 then Link_in else if n == 64 then Link_out else if n == 32 then Near_in else Near_out
+
+flag_back : (k : MetricKind) → of_flag (flag_of k) ≡ k
+unfolding of_flag
+flag_back Link_in = refl
+flag_back Link_out = refl
+flag_back Near_in = refl
+flag_back Near_out = refl
+
 same_kind : (k j : MetricKind) → (flag_of k == flag_of j) ≡ true → k ≡ j
-same_kind Link_in Link_in e = refl
-same_kind Link_in Link_out e = cc
-same_kind Link_in Near_in e = cc
-same_kind Link_in Near_out e = cc
-same_kind Link_out Link_in e = cc
-same_kind Link_out Link_out e = refl
-same_kind Link_out Near_in e = cc
-same_kind Link_out Near_out e = cc
-same_kind Near_in Link_in e = cc
-same_kind Near_in Link_out e = cc
-same_kind Near_in Near_in e = refl
-same_kind Near_in Near_out e = cc
-same_kind Near_out Link_in e = cc
-same_kind Near_out Link_out e = cc
-same_kind Near_out Near_in e = cc
-same_kind Near_out Near_out e = refl
+same_kind k j e = sym (flag_back k) ∙ ap of_flag (eqb-true (flag_of k) (flag_of j) e) ∙ flag_back j
 
 -- the first octet has the flag of the kind, and no other
 metric_flag : (k j : MetricKind) (m : Metric) → has (flag_of k + m.code / 256) (flag_of j) ≡ (flag_of k == flag_of j)

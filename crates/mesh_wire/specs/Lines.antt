@@ -1,5 +1,5 @@
 -- What is written of each address, by what its TLVs may say.
-use Rattle.std.specs.Prelude.{ℕ, ◌+◌, ◌/◌, ◌%◌, List, [], ◌∷◌, Option, Some, None, Bool, true, false, if◌then◌else◌, unwrap_or}
+use Rattle.std.specs.Prelude.{ℕ, ◌+◌, ◌/◌, ◌%◌, List, [], ◌∷◌, Option, Some, None, Bool, true, false, ◌==◌, if◌then◌else◌, unwrap_or}
 use Rattle.std.specs.Option.{option_map}
 use Rattle.std.specs.List.{flat_map}
 use Rattle.mesh_atoms.specs.declared.hello.HelloRow.{HelloRow}
@@ -24,18 +24,9 @@ kind_of LinkOut = link_metric
 kind_of NearIn = link_metric
 kind_of NearOut = link_metric
 
--- whether a value has two octets, and not one
+-- whether a value has two octets, as that of a metric, and not one
 abbrev pub is_wide : AddressTlvKind → Bool
-is_wide Local = false
-is_wide Link = false
-is_wide Other = false
-is_wide Mpr = false
-is_wide AddrType = false
-is_wide Gateway = false
-is_wide LinkIn = true
-is_wide LinkOut = true
-is_wide NearIn = true
-is_wide NearOut = true
+is_wide c = kind_of c == link_metric
 
 -- how many octets a value has
 abbrev pub width_of : AddressTlvKind → ℕ

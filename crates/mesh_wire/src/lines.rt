@@ -4,6 +4,9 @@ ghost use Rattle.std.specs.Option.{option_map};
 ghost use Rattle.mesh_wire.specs.Hello.{local_value, link_value, other_value};
 ghost use Rattle.mesh_wire.specs.Lines.{kind_of, is_wide, width_of, narrow, flagged, octet_pair, flags_number, hello_line, tc_line};
 
+use mesh_atoms::tlv_type::{
+    GATEWAY, LINK_METRIC, LINK_STATUS, LOCAL_IF, MPR, NBR_ADDR_TYPE, OTHER_NEIGHB,
+};
 use mesh_atoms::{
     HelloRow, LinkStatus, LocalIf, Metric, Metrics, NetAddr, OtherStatus, Seq, TcRow,
 };
@@ -43,30 +46,24 @@ impl AddressTlvKind {
         ensures { result ≡ kind_of self }
     {
         match self {
-            AddressTlvKind::Local => 2,
-            AddressTlvKind::Link => 3,
-            AddressTlvKind::Other => 4,
-            AddressTlvKind::Mpr => 8,
-            AddressTlvKind::AddrType => 9,
-            AddressTlvKind::Gateway => 10,
+            AddressTlvKind::Local => LOCAL_IF,
+            AddressTlvKind::Link => LINK_STATUS,
+            AddressTlvKind::Other => OTHER_NEIGHB,
+            AddressTlvKind::Mpr => MPR,
+            AddressTlvKind::AddrType => NBR_ADDR_TYPE,
+            AddressTlvKind::Gateway => GATEWAY,
             AddressTlvKind::LinkIn
             | AddressTlvKind::LinkOut
             | AddressTlvKind::NearIn
-            | AddressTlvKind::NearOut => 7,
+            | AddressTlvKind::NearOut => LINK_METRIC,
         }
     }
 
-    /// Whether its values have two octets, and not one.
+    /// Whether its values have two octets, as those of metrics, and not one.
     pub(crate) fn is_wide(self) -> bool
         ensures { result ≡ is_wide self }
     {
-        matches!(
-            self,
-            AddressTlvKind::LinkIn
-                | AddressTlvKind::LinkOut
-                | AddressTlvKind::NearIn
-                | AddressTlvKind::NearOut
-        )
+        self.kind() == LINK_METRIC
     }
 }
 
