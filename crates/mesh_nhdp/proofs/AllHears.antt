@@ -1,8 +1,7 @@
 -- The tuples of the interface that a HELLO came over.
 use Rattle.std.proofs.Common.{◌≡◌, ℕ, ◌+◌, ◌<◌, ◌≤◌, ◌≢◌, inl, inr, sym, ◌∙◌, ap, subst, arith, List, [], length, get_or, get_or-set_same, get_or-set_other}
-use Rattle.std.specs.Prelude.{Option, false, nat_lt, slice_set}
-use Rattle.std.proofs.lemmas.Bool.{cases_lt, lt-ltb, false≢true}
-use Rattle.std.proofs.lemmas.List.{get_or_past}
+use Rattle.std.specs.Prelude.{Option, slice_set}
+use Rattle.std.proofs.lemmas.Bool.{cases_lt}
 use Rattle.mesh_atoms.specs.declared.tuples.LinkKey.{LinkKey}
 use Rattle.mesh_atoms.specs.declared.tuples.Link.{Link}
 use Rattle.mesh_atoms.specs.Base.{Base, find, base_of, link_eq}
@@ -12,16 +11,6 @@ use Rattle.mesh_hello.proofs.Collect.{item_at}
 -- an item is the base of its interface
 pub is_base : {K V : Type 0} (bases : List (Base K V)) (i : ℕ) (x : Base K V) → i < length bases → x ≡ get_or bases i x → base_of bases i ≡ x
 is_base bases i x lt is = base_at bases i x (item_at bases i x lt is)
-
--- the base that a look-up of its interface gives, and that of an interface past the last
-pub found_base : {K V : Type 0} (bases slice : List (Base K V)) (i : ℕ) (x : Base K V) → slice ≡ bases → i < length slice → x ≡ get_or slice i x → base_of bases i ≡ x
-found_base {K} {V} bases slice i x is lt at = subst (λ (bs : List (Base K V)). base_of bs i ≡ x) is (is_base slice i x lt at)
-
-pub past_base : {K V : Type 0} (bases slice : List (Base K V)) (i : ℕ) → slice ≡ bases → false ≡ nat_lt i (length slice) → base_of bases i ≡ []
-past_base {K} {V} bases slice i is past = elim (cases_lt i (length slice)) [
-  | inl lt ↦ absurd (false≢true (past ∙ lt-ltb i (length slice) lt))
-  | inr le ↦ get_or_past bases i [] (subst (λ (bs : List (Base K V)). length bs ≤ i) is le)
-]
 
 -- what a look-up in the base of an interface finds
 pub found_on : (bases : List (Base LinkKey Link)) (i : ℕ) (seen x : Base LinkKey Link) → i < length bases → x ≡ get_or bases i x → seen ≡ x → (key : LinkKey) (o : Option (Link × ℕ)) → o ≡ find link_eq seen key →

@@ -10,8 +10,6 @@ use Rattle.mesh_atoms.specs.declared.tuples.TwoHopKey.{TwoHopKey}
 use Rattle.mesh_atoms.specs.declared.tuples.TwoHop.{TwoHop}
 use Rattle.mesh_atoms.specs.Base.{Base, base_of, find, HasDistinctKeys, link_eq, two_hop_eq}
 use Rattle.mesh_atoms.specs.declared.tuples.LinkKey.{LinkKey}
-use Rattle.mesh_atoms.specs.declared.tuples.Neighbour.{Neighbour}
-use Rattle.mesh_atoms.specs.declared.tuples.Lost.{Lost}
 use Rattle.mesh_atoms.specs.declared.tuples.Link.{Link}
 use Rattle.mesh_atoms.specs.Quality.{admit_on}
 use Rattle.mesh_atoms.specs.State.{Neighbourhood}
@@ -19,7 +17,7 @@ use Rattle.mesh_atoms.specs.TakesHello.{IsHeld}
 use Rattle.mesh_atoms.specs.Words.{AreMoreThan}
 use Rattle.mesh_atoms.specs.Sound.{SoundNeighbourhood}
 use Rattle.mesh_atoms.proofs.Options.{none_is_some}
-use Rattle.mesh_nhdp.specs.NhdpState.{empty_near, near_with}
+use Rattle.mesh_nhdp.specs.NhdpState.{empty_near}
 
 pub empty_base : {K V : Type 0} (count i : ℕ) → slice_index_or (replicate count (let none : Base K V = [] in none)) i [] ≡ []
 empty_base {K} {V} count i = elim (cases_lt i count) [
@@ -45,7 +43,7 @@ no_addresses count more =
     first [] all many = absurd (omega (arith, many))
     first (a ∷ some) all many = none_held a (all a (0, omega arith, refl))
 
-empty_sound : (settings : RouterSettings) (moment count : ℕ) (near : Neighbourhood) → count ≡ length settings.interfaces → near ≡ empty_near count → SoundNeighbourhood settings moment near
+pub empty_sound : (settings : RouterSettings) (moment count : ℕ) (near : Neighbourhood) → count ≡ length settings.interfaces → near ≡ empty_near count → SoundNeighbourhood settings moment near
 unfolding IsDistinct
 empty_sound settings moment count near counts is = subst (λ (n : Neighbourhood). SoundNeighbourhood settings moment n) (sym is) (record {
   interfaces = length-replicate count [] ∙ counts;
@@ -72,11 +70,6 @@ empty_sound settings moment count near counts is = subst (λ (n : Neighbourhood)
   lost = λ a e at is. none_is_some at;
   lost_not_mine = λ a e at mine. none_is_some at;
 })
-
--- the empty neighbourhood is that of nothing
-pub empty_is : (count n : ℕ) (links : List (Base LinkKey Link)) (two_hops : List (Base TwoHopKey TwoHop)) (neighbours : Base Addr4 Neighbour) (losts : Base Addr4 Lost) → count ≡ n →
-    links ≡ replicate count [] → two_hops ≡ replicate count [] → neighbours ≡ [] → losts ≡ [] → near_with links two_hops neighbours losts ≡ empty_near n
-empty_is count n links two_hops neighbours losts same no_links no_two_hops no_neighbours no_losts = rw (no_links, no_two_hops, no_neighbours, no_losts, same) refl
 
 -- the same of its parts
 pub empty_parts : (settings : RouterSettings) (moment count : ℕ) (near : Neighbourhood) → count ≡ length settings.interfaces → near.links ≡ replicate count [] →

@@ -18,7 +18,7 @@ use Rattle.mesh_atoms.specs.Quality.{rule_of}
 use Rattle.mesh_atoms.specs.HelloTold.{Told, Tells}
 use Rattle.mesh_atoms.specs.AfterHello.{AfterHello}
 use Rattle.mesh_atoms.specs.Words.{IsKept}
-use Rattle.mesh_atoms.specs.TakesHello.{IsFault, IsFullOfAddresses, FitsTwoHops}
+use Rattle.mesh_atoms.specs.TakesHello.{IsFault}
 use Rattle.mesh_atoms.specs.Sound.{SoundNeighbourhood}
 use Rattle.mesh_links.specs.Links.{EndsOutside}
 use Rattle.mesh_nbrs.specs.Neighbours.{Replaces}
@@ -27,7 +27,6 @@ use Rattle.mesh_nhdp.specs.Follows.{FollowsLinksOf}
 use Rattle.mesh_nhdp.specs.Interfaces.{HearsAt}
 use Rattle.mesh_atoms.specs.AfterHello.{IsTheirs}
 use Rattle.mesh_nhdp.proofs.Bases.{base_cases}
-use Rattle.mesh_nhdp.proofs.HelloSound.{hello_sound}
 use Rattle.mesh_nhdp.proofs.Touched.{IsTheirSymmetric}
 use Rattle.mesh_nhdp.proofs.Whole.{Starts, hello_by_calls}
 use Rattle.mesh_atoms.proofs.Lists.{contains_at}

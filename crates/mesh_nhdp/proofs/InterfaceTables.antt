@@ -1,19 +1,17 @@
 -- The tables of one interface of a router.
-use Rattle.std.proofs.Common.{◌≡◌, ◌<◌, ◌≤◌, ℕ, false, nat_lt, inl, inr, sym, ◌∙◌, ap, subst, length, get_or, arith}
-use Rattle.std.specs.Prelude.{List, [], Some, None, slice_get}
-use Rattle.std.proofs.lemmas.List.{get_or_default, get_or_past}
-use Rattle.std.proofs.lemmas.Option.{slice_get-get_or, none-some}
-use Rattle.std.proofs.lemmas.Bool.{cases_lt, lt-ltb, false≢true}
+use Rattle.std.proofs.Common.{◌≡◌, ◌<◌, ℕ, sym, ◌∙◌, ap, length, get_or, arith}
+use Rattle.std.specs.Prelude.{List, [], Some, slice_get}
+use Rattle.std.proofs.lemmas.List.{get_or_default}
+use Rattle.std.proofs.lemmas.Option.{slice_get-get_or}
 use Rattle.mesh_atoms.specs.declared.addr.Addr4.{Addr4}
 use Rattle.mesh_atoms.specs.declared.tuples.LinkKey.{LinkKey}
 use Rattle.mesh_atoms.specs.declared.tuples.Link.{Link}
 use Rattle.mesh_atoms.specs.declared.tuples.Lost.{Lost}
 use Rattle.mesh_atoms.specs.declared.tuples.Neighbour.{Neighbour}
 use Rattle.mesh_atoms.specs.declared.tuples.Relays.{Relays}
-use Rattle.mesh_atoms.specs.Base.{Base, base_of}
+use Rattle.mesh_atoms.specs.Base.{Base}
 use Rattle.mesh_atoms.specs.Sound.{SoundNeighbourhood}
 use Rattle.mesh_atoms.specs.State.{State, Neighbourhood}
-use Rattle.mesh_links.specs.Links.{SelectorOf, Unlinked}
 use Rattle.mesh_nhdp.specs.NhdpState.{NhdpState}
 use Rattle.mesh_hello.specs.Saying.Said.{AreDisjoint, IsSeen}
 use Rattle.mesh_hello.proofs.SayingLemmas.Message.{apart_by}
@@ -45,13 +43,3 @@ seen_held held inside now i links l neighbours losts is sound lt e f g h relays 
       losts_are = ap (λ (n : Neighbourhood). n.losts) near ∙ (ap (λ (x : NhdpState). x.near.losts) (sym is) ∙ sym h);
       relays_are = chosen;
     }
-
--- no link, where there is no such interface
-pub no_selector : (links items : List (Base LinkKey Link)) (i now : ℕ) (a : Addr4) → items ≡ links → false ≡ nat_lt i (length items) → SelectorOf (base_of links i) now a None
-no_selector links items i now a same past = elim (cases_lt i (length items)) [
-  | inl lt ↦ absurd (false≢true (past ∙ lt-ltb i (length items) lt))
-  | inr le ↦
-      let P : Base LinkKey Link → Type 0 = λ base. SelectorOf base now a None in
-      let empty : base_of links i ≡ [] = get_or_past links i [] (subst (λ (l : List (Base LinkKey Link)). length l ≤ i) same le) in
-      subst P (sym empty) (Unlinked (λ link w. none-some (link, w.1) w.2))
-]

@@ -16,7 +16,6 @@ mod Ends
 mod Expiry
 mod FewRows
 mod Hears
-mod Held
 mod HeldAddresses
 mod InterfaceTables
 mod Judges

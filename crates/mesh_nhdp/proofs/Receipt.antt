@@ -23,7 +23,6 @@ use Rattle.mesh_nbrs.specs.Neighbours.{Replaces}
 use Rattle.mesh_nhdp.specs.Calls.{key_at}
 use Rattle.mesh_nhdp.specs.Follows.{FollowsLinksOf, RenewsNeighbour}
 use Rattle.mesh_nhdp.specs.Hearings.{HearsInterfaces, HearsLinks}
-use Rattle.mesh_nhdp.specs.NhdpState.{near_with}
 use Rattle.mesh_nhdp.specs.Wanted.{IsSpokenAddress, IsSymmetricSpokenAddress}
 use Rattle.mesh_nhdp.proofs.Touched.{IsTheirSymmetric}
 use Rattle.mesh_nhdp.proofs.Hears.{hears_is}
@@ -63,16 +62,16 @@ links_heard rule r told theirs listed own keys seen_keys hold now i hello old ne
       (subst (λ (x : Admit). HearsInterfaces x told.shown told.least theirs listed seen_keys own hold now i hello old new before after) rule_is H));
 }
 
-pub receipt_runs : (settings : RouterSettings) (now i : ℕ) (sender : Addr4) (told : Told) (hello : Hello) (old_links links : List (Base LinkKey Link)) (old_two_hops two_hops : List (Base TwoHopKey TwoHop))
-    (old_neighbours neighbours : Base Addr4 Neighbour) (old_losts losts : Base Addr4 Lost) (theirs seen_theirs own before seen_before : List Addr4) →
-    Tells settings i sender hello told → IsFault settings sender hello None → 0 < told.shown.validity → SoundNeighbourhood settings now (near_with old_links old_two_hops old_neighbours old_losts) → i < length settings.interfaces →
-    ((a : Addr4) → Contains own a ↔ HasAddress settings a) →
-    ((a : Addr4) → Contains before a ↔ IsSymmetricSpokenAddress old_neighbours told.originator told.listed a) → ((a : Addr4) → Contains theirs a ↔ IsSpokenAddress old_neighbours told.originator told.listed a) →
-    seen_theirs ≡ theirs → seen_before ≡ before → HearsLinks (rule_of settings i) told seen_theirs own settings.times.link_hold now i hello old_links links old_two_hops two_hops →
-    RenewsNeighbour links now told seen_before (now + settings.times.neighbour_hold) old_neighbours neighbours old_losts losts →
-    AfterHello settings now i told hello (near_with old_links old_two_hops old_neighbours old_losts) (near_with links two_hops neighbours losts)
-receipt_runs settings now i sender told hello old_links links old_two_hops two_hops old_neighbours neighbours old_losts losts theirs seen_theirs own before seen_before T fault lasts S is_interface own_is before_is theirs_are theirs_is seen_is H R =
-    let hears = subst (λ (xs : List Addr4). HearsLinks (rule_of settings i) told xs own settings.times.link_hold now i hello old_links links old_two_hops two_hops) theirs_is H in
-    let follows = subst (λ (b : List Addr4). FollowsLinksOf links now told.originator told.listed b (now + settings.times.neighbour_hold) R.replaced neighbours old_losts losts) seen_is R.follows in
-    receipt_is settings now i sender told hello (near_with old_links old_two_hops old_neighbours old_losts) T fault lasts S is_interface theirs hears.keys own before now links two_hops R.replaced neighbours losts own_is theirs_are before_is
+pub receipt_runs : (settings : RouterSettings) (now i : ℕ) (sender : Addr4) (told : Told) (hello : Hello) (old : Neighbourhood) (seen_links links : List (Base LinkKey Link)) (seen_two_hops two_hops : List (Base TwoHopKey TwoHop))
+    (neighbours : Base Addr4 Neighbour) (losts : Base Addr4 Lost) (theirs seen_theirs own before seen_before : List Addr4) →
+    Tells settings i sender hello told → IsFault settings sender hello None → 0 < told.shown.validity → SoundNeighbourhood settings now old → i < length settings.interfaces → ((a : Addr4) → Contains own a ↔ HasAddress settings a) →
+    ((a : Addr4) → Contains before a ↔ IsSymmetricSpokenAddress old.neighbours told.originator told.listed a) → ((a : Addr4) → Contains theirs a ↔ IsSpokenAddress old.neighbours told.originator told.listed a) →
+    seen_links ≡ old.links → seen_two_hops ≡ old.two_hops → seen_theirs ≡ theirs → seen_before ≡ before → HearsLinks (rule_of settings i) told seen_theirs own settings.times.link_hold now i hello seen_links links seen_two_hops two_hops →
+    RenewsNeighbour links now told seen_before (now + settings.times.neighbour_hold) old.neighbours neighbours old.losts losts →
+    AfterHello settings now i told hello old (record { links = links; two_hops = two_hops; neighbours = neighbours; losts = losts })
+receipt_runs settings now i sender told hello old seen_links links seen_two_hops two_hops neighbours losts theirs seen_theirs own before seen_before T fault lasts S is_interface own_is before_is theirs_are links_are two_hops_are theirs_is seen_is H R =
+    let Heard : List Addr4 → List (Base LinkKey Link) → List (Base TwoHopKey TwoHop) → Type 0 = λ xs ls ts. HearsLinks (rule_of settings i) told xs own settings.times.link_hold now i hello ls links ts two_hops in
+    let hears = subst (λ xs. Heard xs old.links old.two_hops) theirs_is (subst (λ ls. Heard seen_theirs ls old.two_hops) links_are (subst (λ ts. Heard seen_theirs seen_links ts) two_hops_are H)) in
+    let follows = subst (λ (b : List Addr4). FollowsLinksOf links now told.originator told.listed b (now + settings.times.neighbour_hold) R.replaced neighbours old.losts losts) seen_is R.follows in
+    receipt_is settings now i sender told hello old T fault lasts S is_interface theirs hears.keys own before now links two_hops R.replaced neighbours losts own_is theirs_are before_is
     hears.keys_are hears.same hears.hears R.replaces follows

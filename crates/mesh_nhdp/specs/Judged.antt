@@ -1,5 +1,5 @@
 -- What is judged of a HELLO before anything changes, and what is answered.
-use Rattle.std.specs.Prelude.{◌≡◌, ℕ, ◌↔◌, Contains, Option, Some, None}
+use Rattle.std.specs.Prelude.{◌≡◌, ℕ, ◌<◌, ◌^◌, ◌↔◌, length, Contains, Option, Some, None}
 use Rattle.mesh_atoms.specs.declared.addr.Addr4.{Addr4}
 use Rattle.mesh_atoms.specs.declared.hello.Hello.{Hello}
 use Rattle.mesh_atoms.specs.declared.tuples.Base.{Base}
@@ -14,6 +14,13 @@ use Rattle.mesh_nhdp.specs.declared.judge.HelloCheck.TheVariants.{Breaks, Overfi
 use Rattle.mesh_nhdp.specs.declared.take.HelloTaken.{HelloTaken}
 use Rattle.mesh_nhdp.specs.declared.take.HelloTaken.TheVariants.{Done, Broken, Full}
 use Rattle.mesh_hello.specs.Told.Telling.{told_of}
+
+-- the HELLO came over an interface of the router, and the moment and its validity are in range
+pub record CanTakeHello (settings : RouterSettings) (now i : ℕ) (hello : Hello) : Type 0 where
+  pub now_range : now < 2 ^ 62
+  pub is_interface : i < length settings.interfaces
+  pub lasts : 0 < hello.validity
+  pub validity_range : hello.validity < 2 ^ 62
 
 -- the base that a HELLO which breaks no rule would fill, if there is one
 abbrev pub IsFilledBy : RouterSettings → ℕ → Hello → Neighbourhood → Told → Option Base → Type 0

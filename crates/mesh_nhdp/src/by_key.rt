@@ -12,7 +12,7 @@ impl<B: Bases> Nhdp<B> {
     pub fn link_of(&self, iface: usize, key: &LinkKey) -> Option<(&Link, u64)>
         ensures { value_of result ≡ find link_eq (base_of self.now.near.links iface) key.now }
     {
-        match self.links.as_slice().get(iface) {
+        match self.sets.links_on(iface) {
             Some(set) => set.table().get(key),
             None => None,
         }
@@ -22,7 +22,7 @@ impl<B: Bases> Nhdp<B> {
     pub fn two_hop_of(&self, iface: usize, key: &TwoHopKey) -> Option<(&TwoHop, u64)>
         ensures { value_of result ≡ find two_hop_eq (base_of self.now.near.two_hops iface) key.now }
     {
-        match self.two_hops.as_slice().get(iface) {
+        match self.sets.two_hops_on(iface) {
             Some(set) => set.table().get(key),
             None => None,
         }
@@ -32,6 +32,6 @@ impl<B: Bases> Nhdp<B> {
     pub fn neighbour_of(&self, originator: &Addr4) -> Option<(&Neighbour, u64)>
         ensures { value_of result ≡ find addr_eq self.now.near.neighbours originator.now }
     {
-        self.neighbours.table().get(originator)
+        self.sets.neighbours.table().get(originator)
     }
 }

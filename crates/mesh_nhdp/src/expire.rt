@@ -2,18 +2,16 @@
 ghost use Rattle.std.specs.Prelude.{◌≡◌, ◌<◌, ◌^◌, ◌↔◌, ℕ, IsTrue, IfOk, OnOk};
 ghost use Rattle.mesh_atoms.specs.Live.{LiveNeighbourhood};
 ghost use Rattle.mesh_atoms.specs.Sound.{SoundNeighbourhood};
-ghost use Rattle.mesh_nhdp.specs.NhdpState.{near_with};
 ghost use Rattle.mesh_nhdp.specs.Staying.{AllIsAsItWas};
 
 use crate::follow::follow_links;
 use crate::interfaces::{Expiry, change_all};
 use crate::near_addresses::{WantedNeighbours, wanted_addresses};
 use crate::nhdp::Nhdp;
+use crate::sets::NeighbourhoodSets;
 use crate::staying::{are_links_unchanged, expire_beside};
 use mesh_atoms::{Addr4, Link, LinkKey, Lost, Neighbour, RouterSettings, TwoHop, TwoHopKey};
 use mesh_expire::{Bases, PlacedTable, Table};
-use mesh_links::LinkSet;
-use mesh_nbrs::{LostSet, NeighbourSet, TwoHopSet};
 use std::alloc::AllocError;
 
 impl<B: Bases> Nhdp<B> {
@@ -29,15 +27,7 @@ impl<B: Bases> Nhdp<B> {
         ensures same { IfOk result (λ same. IsTrue same → self.new.near ≡ self.old.near) }
         ensures when { IfOk result (λ same. IsTrue same ↔ AllIsAsItWas self.old.settings last now self.old.near) }
     {
-        expire_or_stay(
-            &self.settings,
-            last,
-            now,
-            &mut self.links,
-            &mut self.two_hops,
-            &mut self.neighbours,
-            &mut self.losts,
-        )
+        expire_or_stay(&self.settings, last, now, &mut self.sets)
     }
 
     /// Brings links in line with their qualities, and takes out what is expired at a moment below 2^62: links, their 2-hop
@@ -51,18 +41,11 @@ impl<B: Bases> Nhdp<B> {
         ensures sound { OnOk result (SoundNeighbourhood self.new.settings now self.new.near) }
         ensures settings { self.new.settings ≡ self.old.settings }
     {
-        expire_all(
-            &self.settings,
-            now,
-            &mut self.links,
-            &mut self.two_hops,
-            &mut self.neighbours,
-            &mut self.losts,
-        )
+        expire_all(&self.settings, now, &mut self.sets)
     }
 }
 
-/// The same over links, tuples, neighbours and lost addresses, which after an allocation failure may only be dropped.
+/// The same over the sets, which after an allocation failure may only be dropped.
 fn expire_all<
     L: Table<LinkKey, Link>,
     H: PlacedTable<TwoHopKey, TwoHop>,
@@ -71,27 +54,34 @@ fn expire_all<
 >(
     settings: &RouterSettings,
     now: u64,
-    links: &mut [LinkSet<L>],
-    two_hops: &mut [TwoHopSet<H>],
-    neighbours: &mut NeighbourSet<N>,
-    losts: &mut LostSet<O>,
+    sets: &mut NeighbourhoodSets<L, H, N, O>,
 ) -> Result<(), AllocError>
     requires now { now < 2 ^ 62 }
-    requires sound { (moment : ℕ) × SoundNeighbourhood settings.now moment (near_with links.old two_hops.old neighbours.old losts.old) }
-    ensures live { OnOk result (LiveNeighbourhood settings.now now (near_with links.old two_hops.old neighbours.old losts.old) (near_with links.new two_hops.new neighbours.new losts.new)) }
-    ensures sound { OnOk result (SoundNeighbourhood settings.now now (near_with links.new two_hops.new neighbours.new losts.new)) }
+    requires sound { (moment : ℕ) × SoundNeighbourhood settings.now moment sets.old }
+    ensures live { OnOk result (LiveNeighbourhood settings.now now sets.old sets.new) }
+    ensures sound { OnOk result (SoundNeighbourhood settings.now now sets.new) }
 {
     let alloc = settings.interfaces.allocator();
     let until = now + settings.times.neighbour_hold;
-    let before = wanted_addresses(alloc, neighbours.table(), WantedNeighbours::Symmetric)?;
+    let before = wanted_addresses(alloc, sets.neighbours.table(), WantedNeighbours::Symmetric)?;
+    let links = sets.links.as_mut_slice();
+    let two_hops = sets.two_hops.as_mut_slice();
     let expiry = Expiry {
         now,
         hold: settings.times.link_hold,
         faces: settings.interfaces.as_slice(),
     };
     change_all(alloc, &expiry, links, two_hops)?;
-    losts.expire(now);
-    follow_links(alloc, links, now, &before, until, neighbours, losts)
+    sets.losts.expire(now);
+    follow_links(
+        alloc,
+        links,
+        now,
+        &before,
+        until,
+        &mut sets.neighbours,
+        &mut sets.losts,
+    )
 }
 
 /// Takes out the 2-hop tuples and the lost addresses that are expired where nothing becomes of the links since `last`, and else
@@ -105,22 +95,19 @@ fn expire_or_stay<
     settings: &RouterSettings,
     last: u64,
     now: u64,
-    links: &mut [LinkSet<L>],
-    two_hops: &mut [TwoHopSet<H>],
-    neighbours: &mut NeighbourSet<N>,
-    losts: &mut LostSet<O>,
+    sets: &mut NeighbourhoodSets<L, H, N, O>,
 ) -> Result<bool, AllocError>
     requires now { now < 2 ^ 62 }
-    requires sound { SoundNeighbourhood settings.now last (near_with links.old two_hops.old neighbours.old losts.old) }
-    ensures live { OnOk result (LiveNeighbourhood settings.now now (near_with links.old two_hops.old neighbours.old losts.old) (near_with links.new two_hops.new neighbours.new losts.new)) }
-    ensures sound { OnOk result (SoundNeighbourhood settings.now now (near_with links.new two_hops.new neighbours.new losts.new)) }
-    ensures same { IfOk result (λ same. IsTrue same → near_with links.new two_hops.new neighbours.new losts.new ≡ near_with links.old two_hops.old neighbours.old losts.old) }
-    ensures when { IfOk result (λ same. IsTrue same ↔ AllIsAsItWas settings.now last now (near_with links.old two_hops.old neighbours.old losts.old)) }
+    requires sound { SoundNeighbourhood settings.now last sets.old }
+    ensures live { OnOk result (LiveNeighbourhood settings.now now sets.old sets.new) }
+    ensures sound { OnOk result (SoundNeighbourhood settings.now now sets.new) }
+    ensures same { IfOk result (λ same. IsTrue same → sets.new ≡ sets.old) }
+    ensures when { IfOk result (λ same. IsTrue same ↔ AllIsAsItWas settings.now last now sets.old) }
 {
-    if are_links_unchanged(settings, links, last, now) {
-        Ok(expire_beside(two_hops, losts, now))
+    if are_links_unchanged(settings, sets, last, now) {
+        Ok(expire_beside(sets, now))
     } else {
-        expire_all(settings, now, links, two_hops, neighbours, losts)?;
+        expire_all(settings, now, sets)?;
         Ok(false)
     }
 }

@@ -12,7 +12,7 @@ ghost use Rattle.mesh_hello.specs.Told.Telling.{told_of};
 ghost use Rattle.mesh_nhdp.specs.Calls.{is_symmetric_in};
 ghost use Rattle.mesh_nhdp.specs.Hearings.{HearsInterfaces, HearsLinks};
 ghost use Rattle.mesh_nhdp.specs.Interfaces.{CanHearHello};
-ghost use Rattle.mesh_nhdp.specs.NhdpState.{near_with};
+ghost use Rattle.mesh_nhdp.specs.Judged.{CanTakeHello};
 ghost use Rattle.mesh_nhdp.specs.Repeats.{RepeatsRows};
 
 use crate::drops::has_symmetric_on;
@@ -21,12 +21,13 @@ use crate::interfaces::{Hearing, change_all};
 use crate::keys::keys_of_both;
 use crate::near_addresses::spoken_addresses;
 use crate::sending_link::{has_link, update_two_hops_on};
+use crate::sets::NeighbourhoodSets;
 use crate::two_hop_rows::TwoHopRows;
 use mesh_atoms::{Addr4, Hello, Link, LinkKey, Lost, Neighbour, RouterSettings, TwoHop, TwoHopKey};
 use mesh_expire::{PlacedTable, Table};
 use mesh_hello::HelloInfo;
 use mesh_links::LinkSet;
-use mesh_nbrs::{LostSet, NeighbourSet, TwoHopSet};
+use mesh_nbrs::TwoHopSet;
 use std::alloc::{AllocError, Global};
 
 /// The receipt of a HELLO that isn't refused and isn't too much, on an interface at a moment in ticks of 1/8192 s: the HELLO, the
@@ -139,35 +140,38 @@ pub fn hear<
 >(
     settings: &RouterSettings,
     receipt: &HelloReceipt,
-    links: &mut [LinkSet<L>],
-    two_hops: &mut [TwoHopSet<H>],
-    neighbours: &mut NeighbourSet<N>,
-    losts: &mut LostSet<O>,
+    sets: &mut NeighbourhoodSets<L, H, N, O>,
 ) -> Result<bool, AllocError>
-    requires now { receipt.now.moment < 2 ^ 62 }
-    requires iface { receipt.now.iface < length settings.now.interfaces }
-    requires lasts { 0 < receipt.now.hello.now.validity }
-    requires validity { receipt.now.hello.now.validity < 2 ^ 62 }
+    requires ready { CanTakeHello settings.now receipt.now.moment receipt.now.iface receipt.now.hello.now }
     requires own { (a : Addr4) → Contains receipt.now.own.now a ↔ HasAddress settings.now a }
     requires told { (sender : Addr4) × Tells settings.now receipt.now.iface sender receipt.now.hello.now (told_of receipt.now.telling.now)
         × IsFault settings.now sender receipt.now.hello.now None }
-    requires sound { SoundNeighbourhood settings.now receipt.now.moment (near_with links.old two_hops.old neighbours.old losts.old) }
+    requires sound { SoundNeighbourhood settings.now receipt.now.moment sets.old }
     ensures after { OnOk result (AfterHello settings.now receipt.now.moment receipt.now.iface (told_of receipt.now.telling.now) receipt.now.hello.now
-        (near_with links.old two_hops.old neighbours.old losts.old) (near_with links.new two_hops.new neighbours.new losts.new)) }
+        sets.old sets.new) }
     ensures repeats { IfOk result (λ repeats. IsTrue repeats
-        → is_symmetric_in (base_of links.new receipt.now.iface) receipt.now.moment receipt.now.telling.now.least ≡ true
-        → RepeatsRows receipt.now.own.now receipt.now.telling.now.listed (base_of two_hops.old receipt.now.iface)
+        → is_symmetric_in (base_of sets.new.links receipt.now.iface) receipt.now.moment receipt.now.telling.now.least ≡ true
+        → RepeatsRows receipt.now.own.now receipt.now.telling.now.listed (base_of sets.old.two_hops receipt.now.iface)
         receipt.now.telling.now.least receipt.now.hello.now) }
 {
     let alloc = settings.interfaces.allocator();
     let until = receipt.moment + settings.times.neighbour_hold;
-    let (theirs, before) = spoken_addresses(alloc, neighbours, receipt.telling)?;
+    let (theirs, before) = spoken_addresses(alloc, &sets.neighbours, receipt.telling)?;
+    let links = sets.links.as_mut_slice();
+    let two_hops = sets.two_hops.as_mut_slice();
     let repeats = hear_links(settings, receipt, &theirs, links, two_hops)?;
     let neighbour = SendingNeighbour {
         telling: receipt.telling,
         before: &before,
         until,
     };
-    renew_neighbour(alloc, links, receipt.moment, &neighbour, neighbours, losts)?;
+    renew_neighbour(
+        alloc,
+        links,
+        receipt.moment,
+        &neighbour,
+        &mut sets.neighbours,
+        &mut sets.losts,
+    )?;
     Ok(repeats)
 }

@@ -1,23 +1,21 @@
 //! What is judged of a HELLO before anything changes (RFC 6130, section 12.1).
-ghost use Rattle.std.specs.Prelude.{◌≡◌, ◌<◌, ◌≤◌, ◌↔◌, List, Contains, length, IfOk};
-ghost use Rattle.mesh_atoms.specs.Base.{Base as Links, base_of};
+ghost use Rattle.std.specs.Prelude.{◌<◌, ◌≤◌, ◌↔◌, Contains, length, IfOk};
+ghost use Rattle.mesh_atoms.specs.Base.{base_of};
 ghost use Rattle.mesh_atoms.specs.State.{HasAddress};
 ghost use Rattle.mesh_atoms.specs.declared.addr.Addr4.{Addr4};
 ghost use Rattle.mesh_atoms.specs.declared.settings.RouterSettings.{RouterSettings};
-ghost use Rattle.mesh_atoms.specs.declared.tuples.LinkKey.{LinkKey};
-ghost use Rattle.mesh_atoms.specs.declared.tuples.Link.{Link};
 ghost use Rattle.mesh_hello.specs.Told.Telling.{told_of};
 ghost use Rattle.mesh_nhdp.specs.Judged.{IsFilledBy, Judges};
-ghost use Rattle.mesh_nhdp.specs.NhdpState.{near_with};
 
 use crate::full::is_full_of_addresses;
+use crate::sets::NeighbourhoodSets;
 use crate::two_hop_rows::count_symmetric;
 use mesh_atoms::{
-    Addr4, Base, Hello, Lost, MOST_TUPLES, Neighbour, RouterSettings, Seq, TwoHop, TwoHopKey,
+    Addr4, Base, Hello, Link, LinkKey, Lost, MOST_TUPLES, Neighbour, RouterSettings, Seq, TwoHop,
+    TwoHopKey,
 };
 use mesh_expire::{PlacedTable, Table};
 use mesh_hello::{HelloInfo, own_addresses, receive_fault, tell};
-use mesh_nbrs::{LostSet, NeighbourSet, TwoHopSet};
 use std::alloc::AllocError;
 
 /// A HELLO from that sender, which arrives on an interface at a moment in ticks of 1/8192 s.
@@ -38,40 +36,31 @@ pub enum HelloCheck {
     Fits(Seq<Addr4>, HelloInfo),
 }
 
-/// How many 2-hop tuples the interface has. Takes no memory.
-fn count_on<H: PlacedTable<TwoHopKey, TwoHop>>(sets: &[TwoHopSet<H>], iface: usize) -> usize
-    requires { iface < length sets.now }
-    ensures { result ≡ length (base_of sets.now iface) }
-{
-    sets[iface].table().len()
-}
-
 /// The base that the HELLO would fill, if there is one; `own` has the router's addresses. Counts the addresses that the HELLO tells as
 /// SYMMETRIC neighbours only where all its rows would be too many; else it looks at the counts alone.
 fn base_to_fill<
+    L: Table<LinkKey, Link>,
     H: PlacedTable<TwoHopKey, TwoHop>,
     N: Table<Addr4, Neighbour>,
     O: Table<Addr4, Lost>,
 >(
-    two_hops: &[TwoHopSet<H>],
-    neighbours: &NeighbourSet<N>,
-    losts: &LostSet<O>,
+    sets: &NeighbourhoodSets<L, H, N, O>,
     iface: usize,
     hello: &Hello,
     own: &[Addr4],
     telling: &HelloInfo,
 ) -> Result<Option<Base>, AllocError>
-    requires iface { iface < length two_hops.now }
-    requires few { length (base_of two_hops.now iface) ≤ MOST_TUPLES }
-    ensures { IfOk result (λ base. (settings : RouterSettings) (links : List (Links LinkKey Link)) → ((a : Addr4) → Contains own.now a ↔ HasAddress settings a)
-        → IsFilledBy settings iface hello.now (near_with links two_hops.now neighbours.now losts.now) (told_of telling.now) base) }
+    requires { length (base_of sets.now.two_hops iface) ≤ MOST_TUPLES }
+    ensures { IfOk result (λ base. (settings : RouterSettings) → ((a : Addr4) → Contains own.now a ↔ HasAddress settings a)
+        → IsFilledBy settings iface hello.now sets.now (told_of telling.now) base) }
 {
     let alloc = telling.listed.allocator();
     let listed = telling.listed.as_slice();
-    if is_full_of_addresses(alloc, neighbours, losts, telling.originator, listed)? {
+    let originator = telling.originator;
+    if is_full_of_addresses(alloc, &sets.neighbours, &sets.losts, originator, listed)? {
         return Ok(Some(Base::Neighbours));
     }
-    let room = MOST_TUPLES - count_on(two_hops, iface);
+    let room = MOST_TUPLES - sets.two_hop_count(iface);
     if hello.rows.len() <= room {
         return Ok(None);
     }
@@ -84,18 +73,19 @@ fn base_to_fill<
 }
 
 /// Judges a HELLO (RFC 6130, section 12.1, and the limits of the bases).
-pub fn judge<H: PlacedTable<TwoHopKey, TwoHop>, N: Table<Addr4, Neighbour>, O: Table<Addr4, Lost>>(
+pub fn judge<
+    L: Table<LinkKey, Link>,
+    H: PlacedTable<TwoHopKey, TwoHop>,
+    N: Table<Addr4, Neighbour>,
+    O: Table<Addr4, Lost>,
+>(
     settings: &RouterSettings,
-    two_hops: &[TwoHopSet<H>],
-    neighbours: &NeighbourSet<N>,
-    losts: &LostSet<O>,
+    sets: &NeighbourhoodSets<L, H, N, O>,
     arrival: &HelloArrival,
 ) -> Result<HelloCheck, AllocError>
     requires iface { arrival.now.iface < length settings.now.interfaces }
-    requires same { length two_hops.now ≡ length settings.now.interfaces }
-    requires few { length (base_of two_hops.now arrival.now.iface) ≤ MOST_TUPLES }
-    ensures { IfOk result (λ judgement. (links : List (Links LinkKey Link)) →
-        Judges settings.now arrival.now.iface arrival.now.sender arrival.now.hello.now (near_with links two_hops.now neighbours.now losts.now) judgement) }
+    requires few { length (base_of sets.now.two_hops arrival.now.iface) ≤ MOST_TUPLES }
+    ensures { IfOk result (Judges settings.now arrival.now.iface arrival.now.sender arrival.now.hello.now sets.now) }
 {
     let alloc = settings.interfaces.allocator();
     let hello = arrival.hello;
@@ -105,15 +95,7 @@ pub fn judge<H: PlacedTable<TwoHopKey, TwoHop>, N: Table<Addr4, Neighbour>, O: T
         None => {}
     }
     let telling = tell(alloc, settings, arrival.iface, arrival.sender, hello, &own)?;
-    match base_to_fill(
-        two_hops,
-        neighbours,
-        losts,
-        arrival.iface,
-        hello,
-        &own,
-        &telling,
-    )? {
+    match base_to_fill(sets, arrival.iface, hello, &own, &telling)? {
         Some(base) => Ok(HelloCheck::Overfills(base)),
         None => Ok(HelloCheck::Fits(Seq::from_vec(own), telling)),
     }

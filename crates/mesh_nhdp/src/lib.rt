@@ -19,6 +19,7 @@ mod notes;
 mod repeating;
 mod say;
 mod sending_link;
+mod sets;
 mod staying;
 mod take;
 mod two_hop_rows;

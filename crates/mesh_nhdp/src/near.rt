@@ -8,42 +8,39 @@ impl<B: Bases> Near4 for Nhdp<B> {
     ghost near = { λ n. n.near };
 
     fn link_count(&self, iface: usize) -> usize {
-        match self.links.as_slice().get(iface) {
+        match self.sets.links_on(iface) {
             Some(set) => set.table().len(),
             None => 0,
         }
     }
 
     fn link(&self, iface: usize, place: usize) -> Option<(&LinkKey, &Link, u64)> {
-        match self.links.as_slice().get(iface) {
+        match self.sets.links_on(iface) {
             Some(set) => set.table().at(place),
             None => None,
         }
     }
 
     fn neighbour_count(&self) -> usize {
-        self.neighbours.table().len()
+        self.sets.neighbours.table().len()
     }
 
     fn neighbour(&self, place: usize) -> Option<(&Addr4, &Neighbour, u64)> {
-        self.neighbours.table().at(place)
+        self.sets.neighbours.table().at(place)
     }
 
     fn two_hop_count(&self, iface: usize) -> usize {
-        match self.two_hops.as_slice().get(iface) {
-            Some(set) => set.table().len(),
-            None => 0,
-        }
+        self.sets.two_hop_count(iface)
     }
 
     fn two_hop(&self, iface: usize, place: usize) -> Option<(&TwoHopKey, &TwoHop, u64)> {
-        match self.two_hops.as_slice().get(iface) {
+        match self.sets.two_hops_on(iface) {
             Some(set) => set.table().at(place),
             None => None,
         }
     }
 
     fn lost_count(&self) -> usize {
-        self.losts.table().len()
+        self.sets.losts.table().len()
     }
 }

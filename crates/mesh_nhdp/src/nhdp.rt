@@ -1,12 +1,11 @@
 //! The neighbourhood of a router, and what it is made of (RFC 6130, sections 7 and 8, and RFC 7181, sections 8 and 9).
-ghost use Rattle.std.specs.Prelude.{◌≡◌, ℕ, [], length, replicate, IfOk};
+ghost use Rattle.std.specs.Prelude.{◌≡◌, ℕ, length, IfOk};
 ghost use Rattle.mesh_atoms.specs.Sound.{SoundNeighbourhood};
 ghost use Rattle.mesh_nhdp.specs.NhdpState.{NhdpState, empty_near};
 
-use mesh_atoms::{Addr4, Link, LinkKey, Lost, Neighbour, RouterSettings, TwoHop, TwoHopKey};
-use mesh_expire::{Bases, PlacedTable, Table};
-use mesh_links::LinkSet;
-use mesh_nbrs::{LostSet, NeighbourSet, TwoHopSet};
+use crate::sets::NeighbourhoodSets;
+use mesh_atoms::RouterSettings;
+use mesh_expire::Bases;
 use std::alloc::{AllocError, Global};
 use std::marker::Model;
 
@@ -14,10 +13,7 @@ use std::marker::Model;
 /// dropped.
 pub struct Nhdp<B: Bases> {
     pub(crate) settings: RouterSettings,
-    pub(crate) links: Vec<LinkSet<B::Links>>,
-    pub(crate) two_hops: Vec<TwoHopSet<B::TwoHops>>,
-    pub(crate) neighbours: NeighbourSet<B::Neighbours>,
-    pub(crate) losts: LostSet<B::Losts>,
+    pub(crate) sets: NeighbourhoodSets<B::Links, B::TwoHops, B::Neighbours, B::Losts>,
 }
 
 // By hand, so that no crate that lets go of one has to know its parts.
@@ -25,10 +21,7 @@ impl<B: Bases> Drop for Nhdp<B> {
     fn drop(self) {
         let Nhdp {
             settings: _,
-            links: _,
-            two_hops: _,
-            neighbours: _,
-            losts: _,
+            sets: _,
         } = self;
     }
 }
@@ -38,7 +31,7 @@ impl<B: Bases> Model for Nhdp<B> {
 
     ghost Value = { NhdpState };
 
-    ghost view = { λ n. record { settings = n.settings; near = record { links = n.links.items; two_hops = n.two_hops.items; neighbours = n.neighbours; losts = n.losts } } };
+    ghost view = { λ n. record { settings = n.settings; near = n.sets } };
 }
 
 impl<B: Bases> Nhdp<B> {
@@ -49,14 +42,8 @@ impl<B: Bases> Nhdp<B> {
         ensures sound { IfOk result (λ n. (moment : ℕ) → SoundNeighbourhood n.settings moment n.near) }
     {
         let settings = settings.copy()?;
-        let (links, two_hops, neighbours, losts) = no_tuples(alloc, settings.interfaces.len())?;
-        Ok(Nhdp {
-            settings,
-            links,
-            two_hops,
-            neighbours,
-            losts,
-        })
+        let sets = NeighbourhoodSets::new(alloc, settings.interfaces.len())?;
+        Ok(Nhdp { settings, sets })
     }
 
     /// The settings. Takes no memory.
@@ -65,62 +52,4 @@ impl<B: Bases> Nhdp<B> {
     {
         &self.settings
     }
-}
-
-/// No links on so many interfaces.
-fn no_links<T: Table<LinkKey, Link>>(
-    alloc: Global,
-    count: usize,
-) -> Result<Vec<LinkSet<T>>, AllocError>
-    ensures { IfOk result (λ sets. sets.items ≡ replicate count []) }
-{
-    let mut sets = Vec::new(alloc);
-    for _ in 0..count {
-        sets.push(LinkSet::new(alloc)?)?;
-    }
-    Ok(sets)
-}
-
-/// No 2-hop tuples on so many interfaces.
-fn no_two_hops<T: PlacedTable<TwoHopKey, TwoHop>>(
-    alloc: Global,
-    count: usize,
-) -> Result<Vec<TwoHopSet<T>>, AllocError>
-    ensures { IfOk result (λ sets. sets.items ≡ replicate count []) }
-{
-    let mut sets = Vec::new(alloc);
-    for _ in 0..count {
-        sets.push(TwoHopSet::new(alloc)?)?;
-    }
-    Ok(sets)
-}
-
-/// No links and no 2-hop tuples on so many interfaces, no neighbour, and no lost address.
-fn no_tuples<
-    L: Table<LinkKey, Link>,
-    H: PlacedTable<TwoHopKey, TwoHop>,
-    N: Table<Addr4, Neighbour>,
-    O: Table<Addr4, Lost>,
->(
-    alloc: Global,
-    count: usize,
-) -> Result<
-    (
-        Vec<LinkSet<L>>,
-        Vec<TwoHopSet<H>>,
-        NeighbourSet<N>,
-        LostSet<O>,
-    ),
-    AllocError,
->
-    ensures links { IfOk result (λ sets. sets.0.items ≡ replicate count []) }
-    ensures two_hops { IfOk result (λ sets. sets.1.items ≡ replicate count []) }
-    ensures neighbours { IfOk result (λ sets. sets.2 ≡ []) }
-    ensures losts { IfOk result (λ sets. sets.3 ≡ []) }
-{
-    let neighbours = NeighbourSet::new(alloc)?;
-    let losts = LostSet::new(alloc)?;
-    let links = no_links(alloc, count)?;
-    let two_hops = no_two_hops(alloc, count)?;
-    Ok((links, two_hops, neighbours, losts))
 }

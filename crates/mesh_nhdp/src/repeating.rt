@@ -1,15 +1,14 @@
 //! Whether what a HELLO tells of its link and its neighbour is held already, so that its taking changes nothing of them but moments (RFC
 //! 6130, section 12).
-ghost use Rattle.std.specs.Prelude.{◌≡◌, ◌↔◌, ◌<◌, ◌&&◌, List, length, IsTrue};
-ghost use Rattle.mesh_atoms.specs.Base.{Base};
+ghost use Rattle.std.specs.Prelude.{◌≡◌, ◌↔◌, ◌&&◌, IsTrue};
 ghost use Rattle.mesh_hello.specs.Told.Telling.{told_of};
-ghost use Rattle.mesh_nhdp.specs.NhdpState.{near_with};
 ghost use Rattle.mesh_nhdp.specs.Repeats.{Repeats, RepeatsLink, RepeatsNeighbour, RepeatsStatus};
 
+use crate::sets::NeighbourhoodSets;
 use mesh_atoms::{
     Addr4, Link, LinkKey, LinkStatus, Lost, Metric, Neighbour, Shown, TwoHop, TwoHopKey, Willing,
 };
-use mesh_expire::Table;
+use mesh_expire::{PlacedTable, Table};
 use mesh_hello::HelloInfo;
 use mesh_links::LinkSet;
 use mesh_nbrs::NeighbourSet;
@@ -112,19 +111,19 @@ fn is_neighbour_repeated<N: Table<Addr4, Neighbour>>(
 }
 
 /// Whether what the HELLO tells of its link and its neighbour is held already, but for moments. Looks up these two alone. Takes no memory.
-pub fn is_repeated<L: Table<LinkKey, Link>, N: Table<Addr4, Neighbour>>(
-    now: u64,
-    iface: usize,
-    telling: &HelloInfo,
-    links: &[LinkSet<L>],
-    neighbours: &NeighbourSet<N>,
-) -> bool
-    requires { iface < length links.now }
-    ensures { IsTrue result → (two_hops : List (Base TwoHopKey TwoHop)) (losts : Base Addr4 Lost)
-        → Repeats now iface (told_of telling.now) (near_with links.now two_hops neighbours.now losts) }
+pub fn is_repeated<
+    L: Table<LinkKey, Link>,
+    H: PlacedTable<TwoHopKey, TwoHop>,
+    N: Table<Addr4, Neighbour>,
+    O: Table<Addr4, Lost>,
+>(now: u64, iface: usize, telling: &HelloInfo, sets: &NeighbourhoodSets<L, H, N, O>) -> bool
+    ensures { IsTrue result → Repeats now iface (told_of telling.now) sets.now }
 {
-    if !is_neighbour_repeated(neighbours, telling) {
+    if !is_neighbour_repeated(&sets.neighbours, telling) {
         return false;
     }
-    is_link_repeated(now, telling, &links[iface])
+    match sets.links_on(iface) {
+        Some(links) => is_link_repeated(now, telling, links),
+        None => false,
+    }
 }

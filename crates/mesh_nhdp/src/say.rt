@@ -36,11 +36,12 @@ impl<B: Bases> Nhdp<B> {
         // An address of its own has no status, no metric and no relay.
         ensures own { IfOk result (λ hello. HaveSenderAlone hello.rows) }
     {
+        let sets = &self.sets;
         let basis = HelloBasis {
             settings: &self.settings,
-            links: &self.links[iface],
-            neighbours: &self.neighbours,
-            losts: self.losts.table(),
+            links: &sets.links[iface],
+            neighbours: &sets.neighbours,
+            losts: sets.losts.table(),
             relays,
             iface,
             moment: now,
@@ -53,7 +54,7 @@ impl<B: Bases> Nhdp<B> {
     pub fn symmetric_of(&self, iface: usize, sender: Addr4, now: u64) -> Option<bool>
         ensures { SelectorOf (base_of self.now.near.links iface) now sender result }
     {
-        match self.links.as_slice().get(iface) {
+        match self.sets.links_on(iface) {
             Some(links) => links.symmetric_of(sender, now),
             None => None,
         }

@@ -1,19 +1,15 @@
 //! Expiry where nothing becomes of links (RFC 6130, section 13).
-ghost use Rattle.std.specs.Prelude.{◌≡◌, ◌↔◌, ◌<◌, ◌^◌, ◌&&◌, ℕ, List, IsTrue, true, false, nat_eq, length};
-ghost use Rattle.mesh_atoms.specs.declared.addr.Addr4.{Addr4};
-ghost use Rattle.mesh_atoms.specs.declared.tuples.LinkKey.{LinkKey};
-ghost use Rattle.mesh_atoms.specs.declared.tuples.Link.{Link};
-ghost use Rattle.mesh_atoms.specs.declared.tuples.Neighbour.{Neighbour};
-ghost use Rattle.mesh_atoms.specs.Base.{Base, HasDistinctKeys, Expires, base_of, two_hop_eq};
+ghost use Rattle.std.specs.Prelude.{◌≡◌, ◌↔◌, ◌<◌, ◌^◌, ◌&&◌, ℕ, IsTrue, true, false, nat_eq, length};
+ghost use Rattle.mesh_atoms.specs.Base.{HasDistinctKeys, Expires, base_of, two_hop_eq};
 ghost use Rattle.mesh_atoms.specs.Quality.{rule_of};
 ghost use Rattle.mesh_links.specs.Links.{AllStay};
-ghost use Rattle.mesh_nhdp.specs.NhdpState.{near_with};
 ghost use Rattle.mesh_nhdp.specs.Staying.{LinksStay, ExpiresBeside};
 
-use mesh_atoms::{Addr4, Link, LinkKey, Lost, RouterSettings, TwoHop, TwoHopKey};
+use crate::sets::NeighbourhoodSets;
+use mesh_atoms::{Addr4, Link, LinkKey, Lost, Neighbour, RouterSettings, TwoHop, TwoHopKey};
 use mesh_expire::{PlacedTable, Table};
 use mesh_links::LinkSet;
-use mesh_nbrs::{LostSet, TwoHopSet};
+use mesh_nbrs::TwoHopSet;
 
 /// Whether nothing becomes of the links of the interface of that number.
 fn are_unchanged_on<L: Table<LinkKey, Link>>(
@@ -32,18 +28,18 @@ fn are_unchanged_on<L: Table<LinkKey, Link>>(
 }
 
 /// Whether nothing becomes of the links of any interface. Looks at each link once. Takes no memory.
-pub fn are_links_unchanged<L: Table<LinkKey, Link>>(
-    settings: &RouterSettings,
-    links: &[LinkSet<L>],
-    last: u64,
-    now: u64,
-) -> bool
+pub fn are_links_unchanged<
+    L: Table<LinkKey, Link>,
+    H: PlacedTable<TwoHopKey, TwoHop>,
+    N: Table<Addr4, Neighbour>,
+    O: Table<Addr4, Lost>,
+>(settings: &RouterSettings, sets: &NeighbourhoodSets<L, H, N, O>, last: u64, now: u64) -> bool
     requires now { now < 2 ^ 62 }
-    requires same { length links.now ≡ length settings.now.interfaces }
-    ensures { IsTrue result ↔ LinksStay settings.now last now links.now }
+    requires same { length sets.now.links ≡ length settings.now.interfaces }
+    ensures { IsTrue result ↔ LinksStay settings.now last now sets.now.links }
 {
-    for i in 0..links.len() {
-        if !are_unchanged_on(settings, &links[i], i, last, now) {
+    for i in 0..sets.links.len() {
+        if !are_unchanged_on(settings, &sets.links[i], i, last, now) {
             return false;
         }
     }
@@ -74,15 +70,15 @@ fn expire_two_hops<H: PlacedTable<TwoHopKey, TwoHop>>(sets: &mut [TwoHopSet<H>],
 }
 
 /// Takes out the 2-hop tuples and the lost addresses that are expired; whether none is. Takes no memory.
-pub fn expire_beside<H: PlacedTable<TwoHopKey, TwoHop>, O: Table<Addr4, Lost>>(
-    two_hops: &mut [TwoHopSet<H>],
-    losts: &mut LostSet<O>,
-    now: u64,
-) -> bool
-    ensures { (links : List (Base LinkKey Link)) (neighbours : Base Addr4 Neighbour) →
-        ExpiresBeside now result (near_with links two_hops.old neighbours losts.old) (near_with links two_hops.new neighbours losts.new) }
+pub fn expire_beside<
+    L: Table<LinkKey, Link>,
+    H: PlacedTable<TwoHopKey, TwoHop>,
+    N: Table<Addr4, Neighbour>,
+    O: Table<Addr4, Lost>,
+>(sets: &mut NeighbourhoodSets<L, H, N, O>, now: u64) -> bool
+    ensures { ExpiresBeside now result sets.old sets.new }
 {
-    let same = expire_two_hops(two_hops, now);
-    let gone = losts.expire_and_count(now);
+    let same = expire_two_hops(&mut sets.two_hops, now);
+    let gone = sets.losts.expire_and_count(now);
     is_none_gone(same, gone)
 }

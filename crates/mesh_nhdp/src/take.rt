@@ -3,19 +3,17 @@ ghost use Rattle.std.specs.Prelude.{◌≡◌, ◌<◌, ◌^◌, false, length, 
 ghost use Rattle.mesh_atoms.specs.TakesHello.{HelloAnswer, TakesHello};
 ghost use Rattle.mesh_atoms.specs.Sound.{SoundNeighbourhood};
 ghost use Rattle.mesh_nbrs.specs.Same.{SameNear};
-ghost use Rattle.mesh_nhdp.specs.Judged.{IsAnswer};
-ghost use Rattle.mesh_nhdp.specs.NhdpState.{near_with};
+ghost use Rattle.mesh_nhdp.specs.Judged.{CanTakeHello, IsAnswer};
 
 use crate::hearing::{HelloReceipt, hear};
 use crate::judge::{HelloArrival, HelloCheck, judge};
 use crate::nhdp::Nhdp;
 use crate::repeating::is_repeated;
+use crate::sets::NeighbourhoodSets;
 use mesh_atoms::{
     Addr4, Base, Hello, Link, LinkKey, Lost, Neighbour, RouterSettings, TwoHop, TwoHopKey,
 };
 use mesh_expire::{Bases, PlacedTable, Table};
-use mesh_links::LinkSet;
-use mesh_nbrs::{LostSet, NeighbourSet, TwoHopSet};
 use std::alloc::AllocError;
 
 /// What became of a HELLO: it was taken, it broke the rule of that number (RFC 6130, section 12.1), or a base would have been
@@ -78,14 +76,7 @@ impl<B: Bases> Nhdp<B> {
             sender,
             hello,
         };
-        take_in(
-            &self.settings,
-            &arrival,
-            &mut self.links,
-            &mut self.two_hops,
-            &mut self.neighbours,
-            &mut self.losts,
-        )
+        take_in(&self.settings, &arrival, &mut self.sets)
     }
 }
 
@@ -98,24 +89,18 @@ fn take_in<
 >(
     settings: &RouterSettings,
     arrival: &HelloArrival,
-    links: &mut [LinkSet<L>],
-    two_hops: &mut [TwoHopSet<H>],
-    neighbours: &mut NeighbourSet<N>,
-    losts: &mut LostSet<O>,
+    sets: &mut NeighbourhoodSets<L, H, N, O>,
 ) -> Result<(HelloTaken, bool), AllocError>
-    requires now { arrival.now.moment < 2 ^ 62 }
-    requires iface { arrival.now.iface < length settings.now.interfaces }
-    requires lasts { 0 < arrival.now.hello.now.validity }
-    requires validity { arrival.now.hello.now.validity < 2 ^ 62 }
-    requires sound { SoundNeighbourhood settings.now arrival.now.moment (near_with links.old two_hops.old neighbours.old losts.old) }
+    requires ready { CanTakeHello settings.now arrival.now.moment arrival.now.iface arrival.now.hello.now }
+    requires sound { SoundNeighbourhood settings.now arrival.now.moment sets.old }
     ensures ok { IfOk result (λ told. (answer : HelloAnswer) × IsAnswer told.0 answer ×
         TakesHello settings.now arrival.now.moment arrival.now.iface arrival.now.sender arrival.now.hello.now
-        (near_with links.old two_hops.old neighbours.old losts.old) (near_with links.new two_hops.new neighbours.new losts.new) answer) }
-    ensures same { IfOk result (λ told. told.1 ≡ false → SameNear (near_with links.old two_hops.old neighbours.old losts.old) arrival.now.moment
-        (near_with links.new two_hops.new neighbours.new losts.new) arrival.now.moment) }
-    ensures sound { OnOk result (SoundNeighbourhood settings.now arrival.now.moment (near_with links.new two_hops.new neighbours.new losts.new)) }
+        sets.old sets.new answer) }
+    ensures same { IfOk result (λ told. told.1 ≡ false → SameNear sets.old arrival.now.moment
+        sets.new arrival.now.moment) }
+    ensures sound { OnOk result (SoundNeighbourhood settings.now arrival.now.moment sets.new) }
 {
-    match judge(settings, two_hops, neighbours, losts, arrival)? {
+    match judge(settings, sets, arrival)? {
         HelloCheck::Breaks(number) => Ok((HelloTaken::Broken(number), false)),
         HelloCheck::Overfills(base) => Ok((HelloTaken::Full(base), false)),
         HelloCheck::Fits(own, telling) => {
@@ -126,8 +111,8 @@ fn take_in<
                 own: own.as_slice(),
                 telling: &telling,
             };
-            let repeated = is_repeated(arrival.moment, arrival.iface, &telling, links, neighbours);
-            let rows = hear(settings, &receipt, links, two_hops, neighbours, losts)?;
+            let repeated = is_repeated(arrival.moment, arrival.iface, &telling, sets);
+            let rows = hear(settings, &receipt, sets)?;
             Ok((HelloTaken::Done, !(repeated & rows)))
         }
     }

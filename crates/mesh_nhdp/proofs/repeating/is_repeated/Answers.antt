@@ -1,14 +1,18 @@
-use Rattle.std.proofs.Common.{sym, subst}
+use Rattle.std.proofs.Common.{subst}
+use Rattle.std.proofs.lemmas.Bool.{false≢true}
 use Rattle.mesh_atoms.specs.declared.tuples.Link.{Link}
 use Rattle.mesh_atoms.specs.declared.tuples.LinkKey.{LinkKey}
 use Rattle.mesh_atoms.specs.Base.{Base}
+use Rattle.mesh_atoms.specs.State.{Neighbourhood}
 use Rattle.mesh_hello.specs.Told.Telling.{told_of}
-use Rattle.mesh_nhdp.specs.Repeats.{RepeatsLink}
-use Rattle.mesh_nhdp.proofs.AllHears.{is_base}
+use Rattle.mesh_nhdp.specs.Repeats.{RepeatsLink, RepeatsNeighbour}
 use Rattle.mesh_nhdp.proofs.repeating.is_repeated.Goals as goal
 
-pub returns : goal.returns
-returns g c = λ linked two_hops losts. record {
-  link = subst (λ (b : Base LinkKey Link). RepeatsLink c.args.now (told_of c.args.telling.now) b) (sym (is_base c.args.links.now c.args.iface c.index-links-iface.result c.requires c.index-links-iface.is)) (c.is_link_repeated.ensures linked);
-  neighbour = c.is_neighbour_repeated.ensures c.if-not-is_neighbour_repeated.false;
+pub returns-in-Some : goal.returns-in-Some
+returns-in-Some g c = λ linked. record {
+  link = subst (λ (b : Base LinkKey Link). RepeatsLink c.args.now (told_of c.args.telling.now) b) c.in-Some.ensures (c.is_link_repeated.ensures linked);
+  neighbour = subst (λ (n : Neighbourhood). RepeatsNeighbour (told_of c.args.telling.now) n.neighbours) c.sets.view_is (c.is_neighbour_repeated.ensures c.if-not-is_neighbour_repeated.false);
 }
+
+pub returns-in-None : goal.returns-in-None
+returns-in-None g c = λ linked. absurd (false≢true linked)

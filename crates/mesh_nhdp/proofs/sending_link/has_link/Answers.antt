@@ -1,4 +1,4 @@
-use Rattle.std.proofs.Common.{ℕ, true, ap, sym, ◌∙◌}
+use Rattle.std.proofs.Common.{ℕ, ap, sym, ◌∙◌}
 use Rattle.std.proofs.lemmas.Bool.{false≢true}
 use Rattle.std.proofs.lemmas.Slice.Eq.{slice_eq-Decides}
 use Rattle.mesh_atoms.specs.declared.tuples.Link.{Link}

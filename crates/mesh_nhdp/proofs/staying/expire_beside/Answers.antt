@@ -1,8 +1,12 @@
+use Rattle.std.proofs.Common.{sym}
+use Rattle.mesh_nhdp.proofs.Expiry.{written_back}
 use Rattle.mesh_nhdp.proofs.Unchanged.{beside_is}
 use Rattle.mesh_nhdp.proofs.staying.expire_beside.Goals as goal
 
 pub returns : goal.returns
-returns g c links neighbours =
-    beside_is c.args.now links c.args.two_hops.now c.expire_two_hops-same.new.sets neighbours c.args.losts.now c.expire_and_count-gone.new.self c.expire_two_hops-same.result c.is_none_gone.result c.expire_and_count-gone.result
-    c.expire_two_hops-same.ensures.length c.expire_two_hops-same.ensures.each c.expire_two_hops-same.ensures.distinct c.expire_two_hops-same.ensures.same c.expire_two_hops-same.ensures.changed
-    c.expire_and_count-gone.ensures.expired c.expire_and_count-gone.ensures.distinct c.expire_and_count-gone.ensures.count c.expire_and_count-gone.ensures.none c.is_none_gone.ensures
+returns g c =
+    let two_hops = c.expire_two_hops-same.ensures in
+    let gone = c.expire_and_count-gone.ensures in
+    rw (← c.sets.view_is, ← c.deref_mut.ensures.value, written_back c.sets.inside.two_hops.len c.expire_two_hops-same.new.sets c.deref_mut.result.now two_hops.length (sym c.deref_mut.ensures.len))
+    (beside_is c.args.now c.sets.inside.links.items c.deref_mut.result.now c.expire_two_hops-same.new.sets c.sets.inside.neighbours c.sets.inside.losts c.expire_and_count-gone.new.self c.expire_two_hops-same.result c.is_none_gone.result
+    c.expire_and_count-gone.result two_hops.length two_hops.each two_hops.distinct two_hops.same two_hops.changed gone.expired gone.distinct gone.count gone.none c.is_none_gone.ensures)

@@ -1,19 +1,8 @@
-use Rattle.std.proofs.Common.{◌≡◌, ◌∙◌, ap, sym, subst, slice_get, None}
-use Rattle.mesh_atoms.specs.declared.tuples.LinkKey.{LinkKey}
-use Rattle.mesh_atoms.specs.declared.tuples.Link.{Link}
-use Rattle.mesh_atoms.specs.Base.{Base, base_of}
-use Rattle.mesh_expire.specs.Table.{entry_of}
-use Rattle.mesh_nhdp.specs.NhdpState.{NhdpState}
-use Rattle.mesh_nhdp.proofs.AllHears.{found_base, past_base}
+use Rattle.std.proofs.Common.{◌∙◌, ap, slice_get, refl}
 use Rattle.mesh_nhdp.proofs.near.NhdpNear4.link.Goals as goal
 
 pub returns-in-Some : goal.returns-in-Some
-returns-in-Some g c =
-    let lookup = c.in-Some.ensures.lookup in
-    subst (λ (h : NhdpState). entry_of c.at.result ≡ slice_get (base_of h.near.links c.args.iface) c.args.place) c.self.view_is
-    (c.at.ensures ∙ ap (λ (b : Base LinkKey Link). slice_get b c.args.place) (c.table.ensures.content ∙ sym (found_base c.self.inside.links.items c.as_slice.result.now c.args.iface c.in-Some.set.now c.as_slice.ensures.value lookup.3.0 lookup.1)))
+returns-in-Some g c = rw (← c.self.view_is, ← c.in-Some.ensures) (c.at.ensures ∙ ap (λ base. slice_get base c.args.place) c.table.ensures.content)
 
 pub returns-in-None : goal.returns-in-None
-returns-in-None g c =
-    subst (λ (h : NhdpState). None ≡ slice_get (base_of h.near.links c.args.iface) c.args.place) c.self.view_is
-    (sym (ap (λ (b : Base LinkKey Link). slice_get b c.args.place) (past_base c.self.inside.links.items c.as_slice.result.now c.args.iface c.as_slice.ensures.value c.in-None.ensures.lookup.0)))
+returns-in-None g c = rw (← c.self.view_is, ← c.in-None.ensures) refl

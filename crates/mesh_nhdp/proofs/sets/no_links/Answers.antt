@@ -1,5 +1,5 @@
 use Rattle.mesh_nhdp.proofs.Empty.{one_more_empty}
-use Rattle.mesh_nhdp.proofs.nhdp.no_two_hops.Goals as goal
+use Rattle.mesh_nhdp.proofs.sets.no_links.Goals as goal
 
 pub loop-init : goal.loop-init
 loop-init g c = c.new-sets.ensures.items

@@ -1,5 +1,5 @@
 use Rattle.std.proofs.Common.{◌≡◌, [], replicate}
-use Rattle.mesh_nhdp.proofs.nhdp.no_two_hops.Given as goal
+use Rattle.mesh_nhdp.proofs.sets.no_links.Given as goal
 
 abbrev pub invariant-loop : goal.invariant-loop
 invariant-loop g l = l.sets.items ≡ replicate l.counter []
