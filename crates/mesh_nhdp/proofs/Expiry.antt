@@ -1,9 +1,9 @@
 -- The parts of expiry, interface by interface.
-use Rattle.std.proofs.Common.{◌≡◌, ℕ, ◌+◌, ◌<◌, ◌≤◌, ◌↔◌, inl, inr, refl, sym, ◌∙◌, ap, subst, arith, List, [], ◌++◌, length, take, drop, get_or, Contains}
+use Rattle.std.proofs.Common.{◌≡◌, ℕ, ◌+◌, ◌<◌, ◌↔◌, inl, inr, refl, sym, ◌∙◌, ap, subst, arith, List, [], ◌++◌, length, take, drop, get_or, Contains}
 use Rattle.std.specs.Prelude.{Some, slice_get}
 use Rattle.std.proofs.lemmas.Option.{slice_get_cases}
 use Rattle.std.specs.List.{IsDistinct}
-use Rattle.std.proofs.lemmas.List.{append-nil, length-drop, nil_from_length, take_all}
+use Rattle.std.proofs.lemmas.List.{append-nil, get_or_past, length-drop, nil_from_length, take_all}
 use Rattle.mesh_atoms.specs.declared.addr.Addr4.{Addr4}
 use Rattle.mesh_atoms.specs.declared.tuples.LinkKey.{LinkKey}
 use Rattle.mesh_atoms.specs.declared.tuples.Link.{Link}
@@ -30,11 +30,9 @@ use Rattle.mesh_nhdp.proofs.LiveSound.{live_sound}
 use Rattle.mesh_atoms.proofs.Options.{none_not}
 
 -- the rule of the interface at a place
-pub face_rule : (settings r : RouterSettings) (i : ℕ) (faces : List Interface) (face : Interface) → faces ≡ settings.interfaces → settings ≡ r → i < length r.interfaces → face ≡ get_or faces i face → face.admit ≡ rule_of r i
-face_rule settings r i faces face faces_are same lt is =
-    let here : faces ≡ r.interfaces = faces_are ∙ ap (λ (s : RouterSettings). s.interfaces) same in
-    let at : slice_get faces i ≡ Some face = item_at faces i face (subst (λ (fs : List Interface). i < length fs) (sym here) lt) is in
-    sym (ap rule_in at) ∙ ap (λ (fs : List Interface). rule_in (slice_get fs i)) here
+pub face_rule : (settings : RouterSettings) (i : ℕ) (faces : List Interface) (face : Interface) → faces ≡ settings.interfaces → i < length settings.interfaces → face ≡ get_or faces i face → face.admit ≡ rule_of settings i
+face_rule settings i faces face faces_are lt is =
+    sym (ap rule_in (item_at faces i face (subst (λ (fs : List Interface). i < length fs) (sym faces_are) lt) is)) ∙ ap (λ (fs : List Interface). rule_in (slice_get fs i)) faces_are
 
 -- a slice of the whole of a vector is written back whole
 pub written_back : {A : Type 0} (len : ℕ) (new items : List A) → length new ≡ length items → len ≡ length items → take len (new ++ drop (length new) items) ≡ new
@@ -56,9 +54,6 @@ module _ (settings : RouterSettings) (moment now : ℕ) (old : Neighbourhood) (S
     (before_is : (a : Addr4) → Contains before a ↔ IsWantedAddress old.neighbours Symmetric a) (same : length links ≡ length old.links) (same_two_hops : length two_hops ≡ length old.two_hops)
     (each : (i : ℕ) → i < length old.links → (face : Interface) → slice_get settings.interfaces i ≡ Some face → ExpiresOn face.admit settings.times.link_hold now (base_of old.links i) (base_of links i) (base_of old.two_hops i) (base_of two_hops i)) (expires : Expires addr_eq now old.losts live_losts)
     (F : FollowsLinks links now before (now + settings.times.neighbour_hold) old.neighbours neighbours live_losts losts) where
-  empty_past : {K V : Type 0} (bases : List (Base K V)) (i : ℕ) → length bases ≤ i → base_of bases i ≡ []
-  empty_past bases i past = elim (base_cases bases i) [ inl there ↦ absurd (omega (arith, there.0, past)) | inr none ↦ none.1 ]
-
   on : (i : ℕ) → ExpiresOn (rule_of settings i) settings.times.link_hold now (base_of old.links i) (base_of links i) (base_of old.two_hops i) (base_of two_hops i)
   on i = elim (base_cases old.links i) [
     | inl there ↦ by_face there.0
@@ -66,9 +61,9 @@ module _ (settings : RouterSettings) (moment now : ℕ) (old : Neighbourhood) (S
         let counts = S.interfaces in
         let counts_too = S.two_hop_interfaces in
         subst (λ b. ExpiresOn (rule_of settings i) settings.times.link_hold now b (base_of links i) (base_of old.two_hops i) (base_of two_hops i)) (sym past.1)
-        (subst (λ b. ExpiresOn (rule_of settings i) settings.times.link_hold now [] b (base_of old.two_hops i) (base_of two_hops i)) (sym (empty_past links i (omega (arith, past.0, same))))
-        (subst (λ b. ExpiresOn (rule_of settings i) settings.times.link_hold now [] [] b (base_of two_hops i)) (sym (empty_past old.two_hops i (omega (arith, past.0, counts, counts_too))))
-        (subst (λ b. ExpiresOn (rule_of settings i) settings.times.link_hold now [] [] [] b) (sym (empty_past two_hops i (omega (arith, past.0, same_two_hops, counts, counts_too)))) (expires_on_none (rule_of settings i) settings.times.link_hold now))))
+        (subst (λ b. ExpiresOn (rule_of settings i) settings.times.link_hold now [] b (base_of old.two_hops i) (base_of two_hops i)) (sym (get_or_past links i [] (omega (arith, past.0, same))))
+        (subst (λ b. ExpiresOn (rule_of settings i) settings.times.link_hold now [] [] b (base_of two_hops i)) (sym (get_or_past old.two_hops i [] (omega (arith, past.0, counts, counts_too))))
+        (subst (λ b. ExpiresOn (rule_of settings i) settings.times.link_hold now [] [] [] b) (sym (get_or_past two_hops i [] (omega (arith, past.0, same_two_hops, counts, counts_too)))) (expires_on_none (rule_of settings i) settings.times.link_hold now))))
   ]
     where
       by_face : i < length old.links → ExpiresOn (rule_of settings i) settings.times.link_hold now (base_of old.links i) (base_of links i) (base_of old.two_hops i) (base_of two_hops i)

@@ -2,6 +2,7 @@
 use Rattle.std.proofs.Common.{◌≡◌, ℕ, ◌+◌, ◌<◌, ◌≤◌, ◌≢◌, ◌⊎◌, ◌↔◌, inl, inr, refl, sym, ◌∙◌, ap, subst, arith, List, [], length, Contains, None}
 use Rattle.std.specs.Prelude.{true, false, nat_eq}
 use Rattle.std.specs.List.{IsDistinct}
+use Rattle.std.proofs.lemmas.List.{get_or_past}
 use Rattle.std.proofs.lemmas.Bool.{cases_eq, ne_eqb, eq-eqb}
 use Rattle.mesh_atoms.specs.declared.addr.Addr4.{Addr4}
 use Rattle.mesh_atoms.specs.declared.hello.Hello.{Hello}
@@ -48,9 +49,6 @@ module _ (settings : RouterSettings) (now i : ℕ) (sender : Addr4) (told : Told
     (no_rows : is_symmetric_in (base_of links i) now told.least ≡ false → base_of two_hops i ≡ started)
     (replaces : Replaces told.originator told.listed told.willing told.routing until old.neighbours replaced)
     (F : FollowsLinksOf links now told.originator told.listed before (now + settings.times.neighbour_hold) replaced neighbours old.losts losts) where
-  past : {K V : Type 0} (bases : List (Base K V)) (j : ℕ) → length bases ≤ j → base_of bases j ≡ []
-  past bases j beyond = elim (base_cases bases j) [ inl there ↦ absurd (omega (arith, there.0, beyond)) | inr none ↦ none.1 ]
-
   is_link_interface : i < length old.links
   is_link_interface = let counts = S.interfaces in omega (arith, counts, is_interface)
 
@@ -78,15 +76,15 @@ module _ (settings : RouterSettings) (now i : ℕ) (sender : Addr4) (told : Told
   ends j other = elim (base_cases old.links j) [
     | inl there ↦ (each j there.0).elsewhere (ne_eqb j i other)
     | inr none ↦ subst (λ (b : Base LinkKey Link). EndsOutside theirs told.listed b (base_of links j)) (sym none.1)
-        (subst (λ (b : Base LinkKey Link). EndsOutside theirs told.listed [] b) (sym (past links j (let beyond = none.0 in omega (arith, beyond, same)))) (ends_none theirs told.listed))
+        (subst (λ (b : Base LinkKey Link). EndsOutside theirs told.listed [] b) (sym (get_or_past links j [] (let beyond = none.0 in omega (arith, beyond, same)))) (ends_none theirs told.listed))
   ]
 
   no_drops : (j : ℕ) → length old.links ≤ j → DropsEnded keys (base_of links j) now (base_of old.two_hops j) (base_of mids j)
   no_drops j beyond key =
       let counts = S.interfaces in
       let counts_too = S.two_hop_interfaces in
-      subst (λ (b : Base TwoHopKey TwoHop). IsKept (λ t. (Contains keys key.link × (is_symmetric_in (base_of links j) now key.link ≡ false)) → ⊥) (find two_hop_eq b key) (find two_hop_eq (base_of mids j) key)) (sym (past old.two_hops j (omega (arith, beyond, counts, counts_too))))
-      (ap (λ (b : Base TwoHopKey TwoHop). find two_hop_eq b key) (past mids j (omega (arith, beyond, counts, counts_too, same_mids))))
+      subst (λ (b : Base TwoHopKey TwoHop). IsKept (λ t. (Contains keys key.link × (is_symmetric_in (base_of links j) now key.link ≡ false)) → ⊥) (find two_hop_eq b key) (find two_hop_eq (base_of mids j) key)) (sym (get_or_past old.two_hops j [] (omega (arith, beyond, counts, counts_too))))
+      (ap (λ (b : Base TwoHopKey TwoHop). find two_hop_eq b key) (get_or_past mids j [] (omega (arith, beyond, counts, counts_too, same_mids))))
 
   drops : (j : ℕ) → DropsEnded keys (base_of links j) now (base_of old.two_hops j) (base_of mids j)
   drops j = elim (base_cases old.links j) [ inl there ↦ (each j there.0).two_hops | inr none ↦ no_drops j none.0 ]

@@ -20,8 +20,8 @@ use Rattle.mesh_nhdp.specs.Judged.{IsFilledBy, Judges, IsAnswer}
 use Rattle.mesh_nhdp.proofs.HelloSound.{hello_sound}
 
 -- the router's addresses, said of equal settings and of an equal list
-pub own_at : (s r : RouterSettings) (xs ys : List Addr4) → s ≡ r → ys ≡ xs → ((a : Addr4) → Contains xs a ↔ HasAddress s a) → (a : Addr4) → Contains ys a ↔ HasAddress r a
-own_at s r xs ys same is own = subst (λ (t : RouterSettings). (a : Addr4) → Contains ys a ↔ HasAddress t a) same (subst (λ (zs : List Addr4). (a : Addr4) → Contains zs a ↔ HasAddress s a) (sym is) own)
+pub own_at : (settings : RouterSettings) (xs ys : List Addr4) → ys ≡ xs → ((a : Addr4) → Contains xs a ↔ HasAddress settings a) → (a : Addr4) → Contains ys a ↔ HasAddress settings a
+own_at settings xs ys is own = subst (λ (zs : List Addr4). (a : Addr4) → Contains zs a ↔ HasAddress settings a) (sym is) own
 
 module _ (near : Neighbourhood) (told : Told) (listed : List Addr4) (is : listed ≡ told.listed) (full : Bool)
     (says : IsTrue full ↔ AreMoreThan 1024 (λ a. IsHeld near a ⊎ (Contains listed a ⊎ (a ≡ told.originator)))) where
@@ -62,8 +62,8 @@ overfull settings now i sender hello near TwoHops judged = let (told, fault, tel
 overfull settings now i sender hello near base judged = absurd judged
 
 -- a HELLO that is taken keeps what holds of the neighbourhood
-pub taken_sound : (settings r : RouterSettings) (now i : ℕ) (sender : Addr4) (hello : Hello) (told : Told) (old new : Neighbourhood) → IsFault settings sender hello None → Tells settings i sender hello told →
-    0 < hello.validity → SoundNeighbourhood settings now old → AfterHello settings now i told hello old new → (IsFullOfAddresses old told → ⊥) → FitsTwoHops settings i old told hello → r ≡ settings → SoundNeighbourhood r now new
-taken_sound settings r now i sender hello told old new fault tells lasts sound after few room same = subst (λ (s : RouterSettings). SoundNeighbourhood s now new) (sym same)
-    (hello_sound settings now i sender hello told old new fault tells (subst (λ n. 0 < n) (sym tells.validity) lasts) (let least = settings.times.sound.link_hold_range.least in omega (arith, least))
-    (let least = settings.times.sound.neighbour_hold_range.least in omega (arith, least)) sound after few room)
+pub taken_sound : (settings : RouterSettings) (now i : ℕ) (sender : Addr4) (hello : Hello) (told : Told) (old new : Neighbourhood) → IsFault settings sender hello None → Tells settings i sender hello told →
+    0 < hello.validity → SoundNeighbourhood settings now old → AfterHello settings now i told hello old new → (IsFullOfAddresses old told → ⊥) → FitsTwoHops settings i old told hello → SoundNeighbourhood settings now new
+taken_sound settings now i sender hello told old new fault tells lasts sound after few room =
+    hello_sound settings now i sender hello told old new fault tells (subst (λ n. 0 < n) (sym tells.validity) lasts) (let least = settings.times.sound.link_hold_range.least in omega (arith, least))
+    (let least = settings.times.sound.neighbour_hold_range.least in omega (arith, least)) sound after few room

@@ -16,15 +16,13 @@ use Rattle.mesh_atoms.specs.Base.{Base, base_of, find, two_hop_eq}
 use Rattle.mesh_atoms.specs.State.{Neighbourhood, HasAddress}
 use Rattle.mesh_atoms.specs.Quality.{rule_of}
 use Rattle.mesh_atoms.specs.HelloTold.{Told, Tells}
-use Rattle.mesh_atoms.specs.AfterHello.{AfterHello, IsTheirs}
+use Rattle.mesh_atoms.specs.AfterHello.{AfterHello}
 use Rattle.mesh_atoms.specs.TakesHello.{IsFault}
 use Rattle.mesh_atoms.specs.Sound.{SoundNeighbourhood}
-use Rattle.mesh_nbrs.specs.Neighbours.{Replaces}
 use Rattle.mesh_nhdp.specs.Calls.{key_at}
 use Rattle.mesh_nhdp.specs.Follows.{FollowsLinksOf, RenewsNeighbour}
 use Rattle.mesh_nhdp.specs.Hearings.{HearsInterfaces, HearsLinks}
 use Rattle.mesh_nhdp.specs.Wanted.{IsSpokenAddress, IsSymmetricSpokenAddress}
-use Rattle.mesh_nhdp.proofs.Touched.{IsTheirSymmetric}
 use Rattle.mesh_nhdp.proofs.Hears.{hears_is}
 use Rattle.mesh_nhdp.proofs.Whole.{Starts, Goes_on, Anew}
 
@@ -36,18 +34,6 @@ starts_by rule old i told theirs keys own hold now hello links two_hops H = by_c
     by_case : (b : Bool) → H.stood ≡ b → Starts old i told (base_of H.mids i) H.updates.started
     by_case true is = let (e, at, same) = H.stood_is.0 is in Goes_on e at same (λ key. ap (λ (b : Base TwoHopKey TwoHop). find two_hop_eq b key) (H.updates.goes_on is))
     by_case false is = Anew (λ e at same. false≢true (sym is ∙ H.stood_is.1 (e, at, same))) (H.updates.anew is)
-
-pub receipt_is : (settings : RouterSettings) (now i : ℕ) (sender : Addr4) (told : Told) (hello : Hello) (old : Neighbourhood) → Tells settings i sender hello told → IsFault settings sender hello None →
-    0 < told.shown.validity → SoundNeighbourhood settings now old → i < length settings.interfaces → (theirs : List Addr4) (keys : List LinkKey) (own before : List Addr4) (until : ℕ) (links : List (Base LinkKey Link)) (two_hops : List (Base TwoHopKey TwoHop))
-    (replaced neighbours : Base Addr4 Neighbour) (losts : Base Addr4 Lost) → ((a : Addr4) → Contains own a ↔ HasAddress settings a) → ((a : Addr4) → Contains theirs a ↔ IsTheirs old told a) →
-    ((a : Addr4) → Contains before a ↔ IsTheirSymmetric old told a) → ((a : Addr4) → Contains theirs a ⊎ Contains told.listed a → Contains keys (key_at a)) → length links ≡ length old.links →
-    HearsInterfaces (rule_of settings i) told.shown told.least theirs told.listed keys own settings.times.link_hold now i hello old.links links old.two_hops two_hops →
-    Replaces told.originator told.listed told.willing told.routing until old.neighbours replaced →
-    FollowsLinksOf links now told.originator told.listed before (now + settings.times.neighbour_hold) replaced neighbours old.losts losts →
-    AfterHello settings now i told hello old (record { links = links; two_hops = two_hops; neighbours = neighbours; losts = losts })
-receipt_is settings now i sender told hello old T fault lasts S is_interface theirs keys own before until links two_hops replaced neighbours losts own_is theirs_are before_is keys_are same H replaces F =
-    hears_is settings now i sender told hello old T fault lasts S is_interface links H.mids two_hops replaced neighbours losts H.updates.started theirs before keys until theirs_are before_is keys_are same H.same_mids H.same
-    H.each H.elsewhere H.updates.distinct (starts_by (rule_of settings i) old i told theirs keys own settings.times.link_hold now hello links two_hops H) (λ symmetric. H.updates.rows symmetric settings told own_is refl) H.updates.no_rows replaces F
 
 -- the links, as the calls leave them
 pub links_heard : (rule r : Admit) (told : Told) (theirs listed own : List Addr4) (keys seen_keys : List LinkKey) (hold now i : ℕ) (hello : Hello) (old new : List (Base LinkKey Link)) (before after : List (Base TwoHopKey TwoHop)) →
@@ -69,9 +55,10 @@ pub receipt_runs : (settings : RouterSettings) (now i : ℕ) (sender : Addr4) (t
     seen_links ≡ old.links → seen_two_hops ≡ old.two_hops → seen_theirs ≡ theirs → seen_before ≡ before → HearsLinks (rule_of settings i) told seen_theirs own settings.times.link_hold now i hello seen_links links seen_two_hops two_hops →
     RenewsNeighbour links now told seen_before (now + settings.times.neighbour_hold) old.neighbours neighbours old.losts losts →
     AfterHello settings now i told hello old (record { links = links; two_hops = two_hops; neighbours = neighbours; losts = losts })
-receipt_runs settings now i sender told hello old seen_links links seen_two_hops two_hops neighbours losts theirs seen_theirs own before seen_before T fault lasts S is_interface own_is before_is theirs_are links_are two_hops_are theirs_is seen_is H R =
+receipt_runs settings now i sender told hello old seen_links links seen_two_hops two_hops neighbours losts theirs seen_theirs own before seen_before T fault lasts S is_interface own_is before_is theirs_are links_are two_hops_are theirs_is seen_is heard R =
     let Heard : List Addr4 → List (Base LinkKey Link) → List (Base TwoHopKey TwoHop) → Type 0 = λ xs ls ts. HearsLinks (rule_of settings i) told xs own settings.times.link_hold now i hello ls links ts two_hops in
-    let hears = subst (λ xs. Heard xs old.links old.two_hops) theirs_is (subst (λ ls. Heard seen_theirs ls old.two_hops) links_are (subst (λ ts. Heard seen_theirs seen_links ts) two_hops_are H)) in
+    let hears = subst (λ xs. Heard xs old.links old.two_hops) theirs_is (subst (λ ls. Heard seen_theirs ls old.two_hops) links_are (subst (λ ts. Heard seen_theirs seen_links ts) two_hops_are heard)) in
     let follows = subst (λ (b : List Addr4). FollowsLinksOf links now told.originator told.listed b (now + settings.times.neighbour_hold) R.replaced neighbours old.losts losts) seen_is R.follows in
-    receipt_is settings now i sender told hello old T fault lasts S is_interface theirs hears.keys own before now links two_hops R.replaced neighbours losts own_is theirs_are before_is
-    hears.keys_are hears.same hears.hears R.replaces follows
+    let H = hears.hears in
+    hears_is settings now i sender told hello old T fault lasts S is_interface links H.mids two_hops R.replaced neighbours losts H.updates.started theirs before hears.keys now theirs_are before_is hears.keys_are hears.same H.same_mids H.same
+    H.each H.elsewhere H.updates.distinct (starts_by (rule_of settings i) old i told theirs hears.keys own settings.times.link_hold now hello links two_hops H) (λ symmetric. H.updates.rows symmetric settings told own_is refl) H.updates.no_rows R.replaces follows

@@ -3,6 +3,7 @@ use Rattle.std.proofs.Common.{◌≡◌, ℕ, ◌+◌, ◌<◌, ◌≤◌, ◌�
 use Rattle.std.specs.Prelude.{Bool, true, false, cond, nat_lt, nat_eq, ◌&&◌}
 use Rattle.std.specs.List.{IsDistinct}
 use Rattle.std.specs.Cmp.{IsEquivalence}
+use Rattle.std.proofs.lemmas.List.{get_or_past}
 use Rattle.std.proofs.lemmas.Bool.{false≢true, eqb-true, and_parts as both_so}
 use Rattle.mesh_atoms.specs.declared.addr.Addr4.{Addr4}
 use Rattle.mesh_atoms.specs.declared.codes.metric.Metric.{Metric}
@@ -158,9 +159,6 @@ module _ (now : ℕ) (links : List (Base LinkKey Link)) (two_hops after : List (
     (unchanged : first ≡ true → after ≡ two_hops) (changed : first ≡ false → (i : ℕ) × (length (base_of after i) < length (base_of two_hops i)))
     (expires : Expires addr_eq now losts losts_after) (distinct_losts : HasDistinctKeys addr_eq losts_after) (count : gone + length losts_after ≡ length losts) (none : gone ≡ 0 → losts_after ≡ losts)
     (is : same ≡ (first && nat_eq gone 0)) where
-  past_all : {K V : Type 0} (bases : List (Base K V)) (i : ℕ) → length bases ≤ i → base_of bases i ≡ []
-  past_all bases i past = elim (base_cases bases i) [ inl there ↦ absurd (omega (arith, there.0, past)) | inr none ↦ none.1 ]
-
   all_distinct : (i : ℕ) → HasDistinctKeys two_hop_eq (base_of after i)
   unfolding IsDistinct
   all_distinct i = elim (base_cases after i) [
@@ -172,7 +170,7 @@ module _ (now : ℕ) (links : List (Base LinkKey Link)) (two_hops after : List (
   all_expire i = elim (base_cases two_hops i) [
     | inl there ↦ each i there.0
     | inr past ↦ subst (λ (b : Base TwoHopKey TwoHop). Expires two_hop_eq now b (base_of after i)) (sym past.1)
-        (subst (λ (b : Base TwoHopKey TwoHop). Expires two_hop_eq now [] b) (sym (past_all after i (let beyond = past.0 in omega (arith, beyond, lengths)))) (λ q. refl))
+        (subst (λ (b : Base TwoHopKey TwoHop). Expires two_hop_eq now [] b) (sym (get_or_past after i [] (let beyond = past.0 in omega (arith, beyond, lengths)))) (λ q. refl))
   ]
 
   what_changed : (b : Bool) → first ≡ b → same ≡ false → ((i : ℕ) × (length (base_of after i) < length (base_of two_hops i))) ⊎ (length losts_after < length losts)
@@ -204,6 +202,6 @@ beside_live settings last now same old new S stay E =
     ∙ ap (λ (ns : Base Addr4 Neighbour). let n : Neighbourhood = record { links = new.links; two_hops = new.two_hops; neighbours = ns; losts = new.losts } in n) (sym E.neighbours) in
     subst (λ (n : Neighbourhood). LiveNeighbourhood settings now old n) is (stays_live settings last now old S stay new.two_hops new.losts E.interfaces E.distinct_two_hops E.distinct_losts E.two_hops E.losts)
 
-pub beside_sound : (settings r : RouterSettings) (last now : ℕ) (same : Bool) (old new : Neighbourhood) → SoundNeighbourhood settings last old → LinksStay settings last now old.links → ExpiresBeside now same old new → r ≡ settings → SoundNeighbourhood r now new
-beside_sound settings r last now same old new S stay E is = subst (λ (s : RouterSettings). SoundNeighbourhood s now new) (sym is)
-    (live_sound settings last now old new S (beside_live settings last now same old new S stay E) (let least = settings.times.sound.neighbour_hold_range.least in omega (arith, least)))
+pub beside_sound : (settings : RouterSettings) (last now : ℕ) (same : Bool) (old new : Neighbourhood) → SoundNeighbourhood settings last old → LinksStay settings last now old.links → ExpiresBeside now same old new → SoundNeighbourhood settings now new
+beside_sound settings last now same old new S stay E =
+    live_sound settings last now old new S (beside_live settings last now same old new S stay E) (let least = settings.times.sound.neighbour_hold_range.least in omega (arith, least))

@@ -1,4 +1,3 @@
-use Rattle.std.proofs.Common.{refl}
 use Rattle.std.proofs.lemmas.Bool.{false≢true, iff_false}
 use Rattle.mesh_nhdp.proofs.Unchanged.{as_it_was, beside_live, beside_sound}
 use Rattle.mesh_nhdp.proofs.expire.expire_or_stay.Goals as goal
@@ -18,7 +17,7 @@ returns-then-are_links_unchanged g c =
     let stay = c.are_links_unchanged.ensures.0 c.if-are_links_unchanged.true in
     record {
       live = beside_live settings c.args.last c.args.now same before after c.requires.sound stay c.expire_beside.ensures;
-      sound = beside_sound settings settings c.args.last c.args.now same before after c.requires.sound stay c.expire_beside.ensures refl;
+      sound = beside_sound settings c.args.last c.args.now same before after c.requires.sound stay c.expire_beside.ensures;
       same = c.expire_beside.ensures.unchanged;
       when = as_it_was settings c.args.last c.args.now same before after c.requires.sound stay c.expire_beside.ensures;
     }

@@ -1,5 +1,5 @@
 use Rattle.std.proofs.lemmas.Result.{on_ok_weaker}
-use Rattle.std.proofs.Common.{List, refl, subst, arith}
+use Rattle.std.proofs.Common.{List, subst, arith}
 use Rattle.mesh_atoms.specs.declared.addr.Addr4.{Addr4}
 use Rattle.mesh_atoms.specs.Base.{base_of}
 use Rattle.mesh_atoms.specs.Quality.{rule_of}
@@ -27,7 +27,7 @@ returns-clause-hears g c =
     on_ok_weaker c.hear_interfaces.result
     (λ H. links_heard c.index-as_slice-receipt.result.admit (rule_of c.args.settings.now c.args.receipt.now.iface) (told_of c.args.receipt.now.telling.now) c.args.theirs.now c.as_slice-listed.result.now c.args.receipt.now.own.now c.in_ok-keys.keys.items c.deref.result.now
     c.args.settings.now.times.link_hold c.args.receipt.now.moment c.args.receipt.now.iface c.args.receipt.now.hello.now c.args.links.now c.hear_interfaces.new.links c.args.two_hops.now c.hear_interfaces.new.two_hops
-    (face_rule c.args.settings.now c.args.settings.now c.args.receipt.now.iface c.as_slice.result.now c.index-as_slice-receipt.result c.as_slice.ensures refl c.requires.iface c.index-as_slice-receipt.is) c.as_slice-listed.ensures c.deref.ensures.value
+    (face_rule c.args.settings.now c.args.receipt.now.iface c.as_slice.result.now c.index-as_slice-receipt.result c.as_slice.ensures c.requires.iface c.index-as_slice-receipt.is) c.as_slice-listed.ensures c.deref.ensures.value
     c.in_ok-keys.ensures c.hear_interfaces.ensures.links H) c.hear_interfaces.ensures.hears
 
 pub returns-clause-repeats : goal.returns-clause-repeats

@@ -1,4 +1,4 @@
-use Rattle.std.proofs.Common.{refl, subst, IsTrue}
+use Rattle.std.proofs.Common.{subst, IsTrue}
 use Rattle.std.specs.Prelude.{◌↔◌}
 use Rattle.mesh_atoms.specs.declared.admit.Admit.{Admit}
 use Rattle.mesh_links.specs.Links.{AllStay}
@@ -9,4 +9,4 @@ pub returns : goal.returns
 returns g c =
     let settings = c.args.settings.now in
     subst (λ (rule : Admit). IsTrue c.are_unchanged.result ↔ AllStay rule settings.times.link_hold c.args.last c.args.now c.args.links.now)
-    (face_rule settings settings c.args.iface c.as_slice.result.now c.index-as_slice-iface.result c.as_slice.ensures refl c.requires.iface c.index-as_slice-iface.is) c.are_unchanged.ensures
+    (face_rule settings c.args.iface c.as_slice.result.now c.index-as_slice-iface.result c.as_slice.ensures c.requires.iface c.index-as_slice-iface.is) c.are_unchanged.ensures

@@ -36,7 +36,7 @@ hear-requires-clause-ready g c = c.requires.ready
 pub hear-requires-clause-own : goal.hear-requires-clause-own
 hear-requires-clause-own g c =
     let arrival = c.args.arrival.now in
-    own_at c.args.settings.now c.args.settings.now c.in-Fits.own c.as_slice.result.now refl c.as_slice.ensures
+    own_at c.args.settings.now c.in-Fits.own c.as_slice.result.now c.as_slice.ensures
     (subst (Judges c.args.settings.now arrival.iface arrival.sender arrival.hello.now c.args.sets.now) c.in-Fits.is c.in_ok-number.ensures).4
 
 pub hear-requires-clause-told : goal.hear-requires-clause-told
@@ -58,9 +58,9 @@ returns-in_ok-rows-in-Fits g c =
     record {
       ok = (Taken, refl, Takes told fault tells few room heard.after);
       same = λ unchanged. (
-          let own_is = own_at settings settings c.in-Fits.own c.as_slice.result.now refl c.as_slice.ensures own in
+          let own_is = own_at settings c.in-Fits.own c.as_slice.result.now c.as_slice.ensures own in
           let both = both_true c.is_repeated-repeated.result c.in_ok-rows-in-Fits.rows (not-false _ unchanged) in
           repeats_same settings arrival.moment arrival.iface told arrival.hello.now c.as_slice.result.now own_is c.args.sets.now c.hear.new.sets
           (subst (λ n. 0 < n) (sym tells.validity) c.requires.ready.lasts) c.requires.sound heard.after (c.is_repeated-repeated.ensures both.0) (heard.repeats both.1));
-      sound = taken_sound settings settings arrival.moment arrival.iface arrival.sender arrival.hello.now told c.args.sets.now c.hear.new.sets fault tells c.requires.ready.lasts c.requires.sound heard.after few room refl;
+      sound = taken_sound settings arrival.moment arrival.iface arrival.sender arrival.hello.now told c.args.sets.now c.hear.new.sets fault tells c.requires.ready.lasts c.requires.sound heard.after few room;
     }
