@@ -1,21 +1,14 @@
 -- The tuples of the interface that a HELLO came over.
-use Rattle.std.proofs.Common.{◌≡◌, ℕ, ◌+◌, ◌<◌, ◌≤◌, ◌≢◌, inl, inr, sym, ◌∙◌, ap, subst, arith, List, [], length, get_or, get_or-set_same, get_or-set_other}
-use Rattle.std.specs.Prelude.{Option, slice_set}
+use Rattle.std.proofs.Common.{◌≡◌, ℕ, ◌+◌, ◌<◌, ◌≤◌, ◌≢◌, inl, inr, sym, ◌∙◌, subst, arith, List, [], length, get_or, get_or-set_same, get_or-set_other}
+use Rattle.std.specs.Prelude.{slice_set}
 use Rattle.std.proofs.lemmas.Bool.{cases_lt}
-use Rattle.mesh_atoms.specs.declared.tuples.LinkKey.{LinkKey}
-use Rattle.mesh_atoms.specs.declared.tuples.Link.{Link}
-use Rattle.mesh_atoms.specs.Base.{Base, find, base_of, link_eq}
+use Rattle.mesh_atoms.specs.Base.{Base, base_of}
 use Rattle.mesh_nhdp.proofs.Bases.{base_at}
 use Rattle.mesh_hello.proofs.Collect.{item_at}
 
 -- an item is the base of its interface
 pub is_base : {K V : Type 0} (bases : List (Base K V)) (i : ℕ) (x : Base K V) → i < length bases → x ≡ get_or bases i x → base_of bases i ≡ x
 is_base bases i x lt is = base_at bases i x (item_at bases i x lt is)
-
--- what a look-up in the base of an interface finds
-pub found_on : (bases : List (Base LinkKey Link)) (i : ℕ) (seen x : Base LinkKey Link) → i < length bases → x ≡ get_or bases i x → seen ≡ x → (key : LinkKey) (o : Option (Link × ℕ)) → o ≡ find link_eq seen key →
-    find link_eq (base_of bases i) key ≡ o
-found_on bases i seen x lt is same key o at = ap (λ (b : Base LinkKey Link). find link_eq b key) (is_base bases i x lt is ∙ sym same) ∙ sym at
 
 pub written_same : {K V : Type 0} (bases : List (Base K V)) (i : ℕ) (x : Base K V) → i < length bases → base_of (slice_set bases i x) i ≡ x
 written_same bases i x lt = get_or-set_same bases i x [] lt

@@ -1,6 +1,6 @@
 //! The end of 2-hop tuples whose link isn't SYMMETRIC (RFC 6130, section 13).
-ghost use Rattle.std.specs.Prelude.{◌≡◌, ◌<◌, ◌&&◌, length, not, cond, None};
-ghost use Rattle.mesh_atoms.specs.Base.{base_of, find, link_eq, two_hop_eq};
+ghost use Rattle.std.specs.Prelude.{◌≡◌, ◌&&◌, not, cond, None};
+ghost use Rattle.mesh_atoms.specs.Base.{find, link_eq, two_hop_eq};
 ghost use Rattle.mesh_nhdp.specs.Calls.{is_symmetric_in, DropsEnded};
 
 use mesh_atoms::{Link, LinkKey, TwoHop, TwoHopKey};
@@ -9,26 +9,13 @@ use mesh_links::LinkSet;
 use mesh_nbrs::TwoHopSet;
 
 /// Whether there is a link with that key, and it is SYMMETRIC. Takes no memory.
-fn has_symmetric<T: Table<LinkKey, Link>>(table: &T, key: LinkKey, now: u64) -> bool
+pub fn has_symmetric<T: Table<LinkKey, Link>>(table: &T, key: LinkKey, now: u64) -> bool
     ensures { result ≡ is_symmetric_in (T.content table.now) now key }
 {
     match table.get(&key) {
         Some((link, _)) => link.is_symmetric(now),
         None => false,
     }
-}
-
-/// The same of the interface of that number.
-pub fn has_symmetric_on<T: Table<LinkKey, Link>>(
-    links: &[LinkSet<T>],
-    iface: usize,
-    key: LinkKey,
-    now: u64,
-) -> bool
-    requires { iface < length links.now }
-    ensures { result ≡ is_symmetric_in (base_of links.now iface) now key }
-{
-    has_symmetric(links[iface].table(), key, now)
 }
 
 /// Takes out the tuples of the link with that key, where it isn't SYMMETRIC.

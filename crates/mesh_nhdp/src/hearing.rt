@@ -15,12 +15,12 @@ ghost use Rattle.mesh_nhdp.specs.Interfaces.{CanHearHello};
 ghost use Rattle.mesh_nhdp.specs.Judged.{CanTakeHello};
 ghost use Rattle.mesh_nhdp.specs.Repeats.{RepeatsRows};
 
-use crate::drops::has_symmetric_on;
+use crate::drops::has_symmetric;
 use crate::follow::{SendingNeighbour, renew_neighbour};
 use crate::interfaces::{Hearing, change_all};
 use crate::keys::keys_of_both;
 use crate::near_addresses::spoken_addresses;
-use crate::sending_link::{has_link, update_two_hops_on};
+use crate::sending_link::{has_link, update_two_hops};
 use crate::sets::NeighbourhoodSets;
 use crate::two_hop_rows::TwoHopRows;
 use mesh_atoms::{Addr4, Hello, Link, LinkKey, Lost, Neighbour, RouterSettings, TwoHop, TwoHopKey};
@@ -64,14 +64,10 @@ fn hear_interfaces<L: Table<LinkKey, Link>, H: PlacedTable<TwoHopKey, TwoHop>>(
         → is_symmetric_in (base_of links.new hearing.now.iface) hearing.now.moment least ≡ true
         → RepeatsRows own.now hearing.now.listed.now (base_of two_hops.old hearing.now.iface) least hello.now) }
 {
-    let stood = has_link(
-        links,
-        hearing.iface,
-        least,
-        hearing.shown.sending.as_slice(),
-    );
+    let sending = hearing.shown.sending.as_slice();
+    let stood = has_link(&links[hearing.iface], least, sending);
     change_all(alloc, hearing, links, two_hops)?;
-    let symmetric = has_symmetric_on(links, hearing.iface, least, hearing.moment);
+    let symmetric = has_symmetric(links[hearing.iface].table(), least, hearing.moment);
     let until = hearing.moment + hearing.shown.validity;
     let rows = TwoHopRows {
         link: least,
@@ -80,7 +76,7 @@ fn hear_interfaces<L: Table<LinkKey, Link>, H: PlacedTable<TwoHopKey, TwoHop>>(
         own,
         listed: hearing.listed,
     };
-    update_two_hops_on(two_hops, hearing.iface, &rows, stood, symmetric)
+    update_two_hops(&mut two_hops[hearing.iface], &rows, stood, symmetric)
 }
 
 /// Takes a HELLO in on all interfaces; `theirs` has the addresses of the neighbours that it speaks of. Answers as `hear_interfaces`.

@@ -17,17 +17,15 @@ use mesh_links::LinkSet;
 use mesh_nbrs::TwoHopSet;
 use std::alloc::AllocError;
 
-/// Whether the link of the interface of that number with that key has exactly these addresses.
+/// Whether the link with that key has exactly these addresses.
 pub fn has_link<L: Table<LinkKey, Link>>(
-    links: &[LinkSet<L>],
-    iface: usize,
+    links: &LinkSet<L>,
     key: LinkKey,
     addrs: &[Addr4],
 ) -> bool
-    requires { iface < length links.now }
-    ensures { IsTrue result ↔ ((e : Link × ℕ) × (find link_eq (base_of links.now iface) key ≡ Some e) × (e.0.addrs ≡ addrs.now)) }
+    ensures { IsTrue result ↔ ((e : Link × ℕ) × (find link_eq links.now key ≡ Some e) × (e.0.addrs ≡ addrs.now)) }
 {
-    match links[iface].table().get(&key) {
+    match links.table().get(&key) {
         Some((link, _)) => link.addrs.as_slice() == addrs,
         None => false,
     }
@@ -68,7 +66,7 @@ fn tell_if_symmetric<H: PlacedTable<TwoHopKey, TwoHop>>(
 
 /// Brings the tuples of the link that the HELLO came over up to date: where it is a new one they go, and where it is SYMMETRIC
 /// they are made as the rows tell; whether it stood, and all those rows repeat what was held.
-fn update_two_hops<H: PlacedTable<TwoHopKey, TwoHop>>(
+pub fn update_two_hops<H: PlacedTable<TwoHopKey, TwoHop>>(
     two_hops: &mut TwoHopSet<H>,
     rows: &TwoHopRows,
     stood: bool,
@@ -84,23 +82,4 @@ fn update_two_hops<H: PlacedTable<TwoHopKey, TwoHop>>(
     // Its keys are distinct, which the proof needs.
     let _table = two_hops.table();
     Ok(stood & repeats)
-}
-
-/// The same of the interface of that number.
-pub fn update_two_hops_on<H: PlacedTable<TwoHopKey, TwoHop>>(
-    two_hops: &mut [TwoHopSet<H>],
-    iface: usize,
-    rows: &TwoHopRows,
-    stood: bool,
-    symmetric: bool,
-) -> Result<bool, AllocError>
-    requires { iface < length two_hops.old }
-    ensures length { length two_hops.new ≡ length two_hops.old }
-    ensures elsewhere { (j : ℕ) → j ≢ iface → base_of two_hops.new j ≡ base_of two_hops.old j }
-    ensures here { OnOk result (UpdatesTwoHops stood symmetric rows.now.own.now rows.now.listed.now rows.now.hello.now rows.now.link rows.now.until
-        (base_of two_hops.old iface) (base_of two_hops.new iface)) }
-    ensures repeats { IfOk result (λ repeats. IsTrue repeats → symmetric ≡ true
-        → RepeatsRows rows.now.own.now rows.now.listed.now (base_of two_hops.old iface) rows.now.link rows.now.hello.now) }
-{
-    update_two_hops(&mut two_hops[iface], rows, stood, symmetric)
 }

@@ -1,6 +1,6 @@
-use Rattle.std.proofs.Common.{◌<◌, ◌∙◌, length, refl, arith}
-use Rattle.std.proofs.lemmas.List.{length-set}
-use Rattle.mesh_nhdp.proofs.AllHears.{is_base, written_other, changed_more}
+use Rattle.std.proofs.Common.{◌<◌, ◌∙◌, [], length, refl, arith}
+use Rattle.std.proofs.lemmas.List.{get_or_default, length-set}
+use Rattle.mesh_nhdp.proofs.AllHears.{written_other, changed_more}
 use Rattle.mesh_nhdp.proofs.interfaces.change_all.Goals as goal
 
 pub loop-i-init : goal.loop-i-init
@@ -30,7 +30,7 @@ loop-i-preserved g c =
       links = length-set c.loop-i.links c.loop-i.i c.change.new.links ∙ old.links;
       two_hops = length-set c.loop-i.two_hops c.loop-i.i c.change.new.two_hops ∙ old.two_hops;
       done = changed_more (g.C.Change.makes c.args.change.now) c.args.links.now c.loop-i.links c.args.two_hops.now c.loop-i.two_hops c.loop-i.i _ c.change.new.links _ c.change.new.two_hops within within_too
-          (is_base c.loop-i.links c.loop-i.i c.index-links-i.result within c.index-links-i.is ∙ c.index-links-i.is) (is_base c.loop-i.two_hops c.loop-i.i c.index-two_hops-i.result within_too c.index-two_hops-i.is ∙ c.index-two_hops-i.is)
+          (get_or_default c.loop-i.links c.loop-i.i [] c.index-links-i.result within) (get_or_default c.loop-i.two_hops c.loop-i.i [] c.index-two_hops-i.result within_too)
           old.links_left old.two_hops_left old.done c.in_ok-change.ensures;
       links_left = λ k past. written_other c.loop-i.links c.loop-i.i k c.change.new.links (λ e. omega (arith, e, past)) ∙ old.links_left k (omega (arith, past));
       two_hops_left = λ k past. written_other c.loop-i.two_hops c.loop-i.i k c.change.new.two_hops (λ e. omega (arith, e, past)) ∙ old.two_hops_left k (omega (arith, past));

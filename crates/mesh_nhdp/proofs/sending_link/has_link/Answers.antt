@@ -2,9 +2,9 @@ use Rattle.std.proofs.Common.{ℕ, ap, sym, ◌∙◌}
 use Rattle.std.proofs.lemmas.Bool.{false≢true}
 use Rattle.std.proofs.lemmas.Slice.Eq.{slice_eq-Decides}
 use Rattle.mesh_atoms.specs.declared.tuples.Link.{Link}
-use Rattle.mesh_atoms.specs.Base.{addr_eq}
+use Rattle.mesh_atoms.specs.declared.tuples.LinkKey.{LinkKey}
+use Rattle.mesh_atoms.specs.Base.{Base, find, addr_eq, link_eq}
 use Rattle.std.proofs.lemmas.Option.{none-some}
-use Rattle.mesh_nhdp.proofs.AllHears.{found_on}
 use Rattle.mesh_nhdp.proofs.sending_link.has_link.Goals as goal
 use Rattle.mesh_atoms.proofs.Options.{same_some}
 use Rattle.mesh_atoms.proofs.Deciding.{Decides-addr}
@@ -12,12 +12,12 @@ use Rattle.mesh_atoms.proofs.Deciding.{Decides-addr}
 pub returns-in-Some : goal.returns-in-Some
 returns-in-Some g c =
     let decides = slice_eq-Decides {E = addr_eq} Decides-addr c.as_slice.result.now c.args.addrs.now c.eq.result c.eq.ensures in
-    let found = found_on c.args.links.now c.args.iface (g.L.Table.content c.table.result.now) c.index-links-iface.result c.requires c.index-links-iface.is c.table.ensures.content c.args.key _ c.in-Some.ensures in (
+    let found = ap (λ (b : Base LinkKey Link). find link_eq b c.args.key) (sym c.table.ensures.content) ∙ sym c.in-Some.ensures in (
       λ h. ((c.in-Some.link.now, c.in-Some.field-0-1), found, sym c.as_slice.ensures ∙ decides.0 h),
       λ h. let (e, is, same) = h in decides.1 (c.as_slice.ensures ∙ (ap (λ (x : Link × ℕ). x.0.addrs) (same_some found is) ∙ same)),
     )
 
 pub returns-in-None : goal.returns-in-None
 returns-in-None g c =
-    let none = found_on c.args.links.now c.args.iface (g.L.Table.content c.table.result.now) c.index-links-iface.result c.requires c.index-links-iface.is c.table.ensures.content c.args.key _ c.in-None.ensures in
+    let none = ap (λ (b : Base LinkKey Link). find link_eq b c.args.key) (sym c.table.ensures.content) ∙ sym c.in-None.ensures in
     ((λ h. absurd (false≢true h)), (λ h. absurd (none-some h.0 (sym none ∙ h.1))))
