@@ -3,12 +3,11 @@ use Rattle.std.proofs.Common.{◌≡◌, ℕ, ◌+◌, ◌<◌, ◌≤◌, ◌�
 use Rattle.std.specs.Prelude.{slice_set}
 use Rattle.std.proofs.lemmas.Bool.{cases_lt}
 use Rattle.mesh_atoms.specs.Base.{Base, base_of}
-use Rattle.mesh_nhdp.proofs.Bases.{base_at}
-use Rattle.mesh_hello.proofs.Collect.{item_at}
+use Rattle.std.proofs.lemmas.List.{get_or_default}
 
 -- an item is the base of its interface
 pub is_base : {K V : Type 0} (bases : List (Base K V)) (i : ℕ) (x : Base K V) → i < length bases → x ≡ get_or bases i x → base_of bases i ≡ x
-is_base bases i x lt is = base_at bases i x (item_at bases i x lt is)
+is_base bases i x lt is = get_or_default bases i [] x lt ∙ sym is
 
 pub written_same : {K V : Type 0} (bases : List (Base K V)) (i : ℕ) (x : Base K V) → i < length bases → base_of (slice_set bases i x) i ≡ x
 written_same bases i x lt = get_or-set_same bases i x [] lt

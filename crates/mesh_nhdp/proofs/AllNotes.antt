@@ -1,7 +1,7 @@
 -- The notes of all links.
-use Rattle.std.proofs.Common.{◌≡◌, ℕ, ◌↔◌, sym, ◌∙◌, ap, subst, List, length, Contains, refl}
+use Rattle.std.proofs.Common.{◌≡◌, ℕ, ◌↔◌, sym, ◌∙◌, ap, subst, List, [], length, Contains, refl}
 use Rattle.std.specs.Prelude.{Some}
-use Rattle.std.proofs.lemmas.Option.{slice_get_within}
+use Rattle.std.proofs.lemmas.Option.{slice_get_within, get_or_from_slice_get}
 use Rattle.mesh_atoms.specs.declared.addr.Addr4.{Addr4}
 use Rattle.mesh_atoms.specs.declared.tuples.LinkKey.{LinkKey}
 use Rattle.mesh_atoms.specs.declared.tuples.Link.{Link}
@@ -9,7 +9,7 @@ use Rattle.mesh_atoms.specs.Base.{Base, base_of, find, link_eq}
 use Rattle.mesh_nbrs.specs.declared.neighbours.LinkNote.{LinkNote}
 use Rattle.mesh_nhdp.specs.Calls.{note_of, IsNoteIn, IsNoteAmong, TellsLinks, TellsLinksOf}
 use Rattle.mesh_hello.proofs.Collect.{SomeBelow}
-use Rattle.mesh_nhdp.proofs.Bases.{base_at, within_bases}
+use Rattle.mesh_nhdp.proofs.Bases.{within_bases}
 
 module _ (sets : List (Base LinkKey Link)) (now : ℕ) (notes : List LinkNote) (Is : Base LinkKey Link → LinkNote → Type 0)
     (gathered : (note : LinkNote) → Contains notes note ↔ SomeBelow sets (length sets) (λ base. Is base note)) where
@@ -21,7 +21,7 @@ module _ (sets : List (Base LinkKey Link)) (now : ℕ) (notes : List LinkNote) (
       let key_is : key ≡ note.key = sym (ap (λ (n : LinkNote). n.key) same) in (
         k,
         e,
-        ap (λ (b : Base LinkKey Link). find link_eq b note.key) (base_at sets k base at) ∙ subst (λ (x : LinkKey). find link_eq base x ≡ Some e) key_is is,
+        ap (λ (b : Base LinkKey Link). find link_eq b note.key) (get_or_from_slice_get sets k base [] at) ∙ subst (λ (x : LinkKey). find link_eq base x ≡ Some e) key_is is,
         subst (λ (x : LinkKey). note ≡ note_of now x e) key_is same,
       )
 

@@ -12,10 +12,6 @@ base_cases {K} {V} bases i = elim ((slice_get_cases bases i).1) [
   | inr past ↦ inr (past.0, get_or_past bases i [] past.0)
 ]
 
--- the base at a place
-pub base_at : {K V : Type 0} (bases : List (Base K V)) (i : ℕ) (base : Base K V) → slice_get bases i ≡ Some base → base_of bases i ≡ base
-base_at bases i base at = get_or_from_slice_get bases i base [] at
-
 -- a tuple stands in the base of an interface
 pub within_bases : {K V : Type 0} (eq : K → K → _) (bases : List (Base K V)) (i : ℕ) (key : K) (e : V × ℕ) → find eq (base_of bases i) key ≡ Some e → slice_get bases i ≡ Some (base_of bases i)
 within_bases {K} {V} eq bases i key e is = elim (base_cases bases i) [

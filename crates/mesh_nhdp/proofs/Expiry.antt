@@ -79,16 +79,11 @@ module _ (settings : RouterSettings) (moment now : ℕ) (old : Neighbourhood) (S
     two_hop_interfaces = same_two_hops;
     links = λ i. (on i).links;
     two_hops = λ i. (on i).two_hops;
-    notes = F.notes;
-    notes_are = F.notes_are;
-    neighbours = F.neighbours;
     before = before;
     before_is = before_is;
-    after = F.after;
-    after_is = F.after_is;
     live_losts = live_losts;
     expires_losts = expires;
-    losts = F.losts;
+    follows = F;
   })
 
   pub expiry_sound : SoundNeighbourhood settings now (record { links = links; two_hops = two_hops; neighbours = neighbours; losts = losts })

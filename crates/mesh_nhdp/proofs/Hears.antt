@@ -111,11 +111,7 @@ module _ (settings : RouterSettings) (now i : ℕ) (sender : Addr4) (told : Told
         until = until;
         replaced = replaced;
         replaces = replaces;
-        notes = F.notes;
-        notes_are = F.notes_are;
-        neighbour = F.neighbour;
-        others = F.others;
         before = before;
         before_is = before_is;
-        losts = F.losts;
+        follows = F;
       })

@@ -20,12 +20,10 @@ use Rattle.mesh_atoms.specs.AfterHello.{AfterHello, GoesOn, IsTheirs, Matches, L
 use Rattle.mesh_atoms.specs.Words.{IsKept}
 use Rattle.mesh_atoms.specs.Sound.{SoundNeighbourhood}
 use Rattle.mesh_links.specs.Links.{AdmitsLinks, ExpiresLinks, EndsOutside, HearsOn}
-use Rattle.mesh_nbrs.specs.declared.neighbours.LinkNote.{LinkNote}
-use Rattle.mesh_nbrs.specs.Neighbours.{Replaces, RestoresBy}
-use Rattle.mesh_nbrs.specs.Losts.{SettlesAll}
+use Rattle.mesh_nbrs.specs.Neighbours.{Replaces}
 use Rattle.mesh_nbrs.specs.TwoHops.TwoHops.{DropsLink}
-use Rattle.mesh_nhdp.specs.Calls.{key_at, TellsLinks, TellsLinksOf, TellsKeys, DropsEnded, TellsTwoHops}
-use Rattle.mesh_nhdp.specs.Wanted.{symmetric_at}
+use Rattle.mesh_nhdp.specs.Calls.{key_at, TellsKeys, DropsEnded, TellsTwoHops}
+use Rattle.mesh_nhdp.specs.Follows.{FollowsLinks, FollowsLinksOf}
 use Rattle.mesh_hello.proofs.Lookups.{live_from}
 use Rattle.mesh_nhdp.proofs.Composes.{restores_by, restores_of, settles_by, goes_on_elsewhere, goes_on_here, hears_link, replaced_one, replaced_other}
 use Rattle.mesh_nhdp.proofs.Touched.{IsTheirSymmetric, rests, untouched, settles}
@@ -47,16 +45,11 @@ pub record RunsExpiry (settings : RouterSettings) (now : ℕ) (old new : Neighbo
   pub links : (i : ℕ) → (mid : Base LinkKey Link) × AdmitsLinks (rule_of settings i) settings.times.link_hold now (base_of old.links i) mid × ExpiresLinks now mid (base_of new.links i)
   pub two_hops : (i : ℕ) → (mid : Base TwoHopKey TwoHop) × (keys : List LinkKey) × Expires two_hop_eq now (base_of old.two_hops i) mid
       × TellsKeys (base_of old.links i) keys × DropsEnded keys (base_of new.links i) now mid (base_of new.two_hops i)
-  pub notes : List LinkNote
-  pub notes_are : TellsLinks new.links now notes
-  pub neighbours : (o : Addr4) → RestoresBy notes (neighbour_at old o) (neighbour_at new o)
   pub before : List Addr4
   pub before_is : (a : Addr4) → Contains before a ↔ IsSymmetricAddress old a
-  pub after : List Addr4
-  pub after_is : (a : Addr4) → Contains after a ↔ IsSymmetricAddress new a
   pub live_losts : Base Addr4 Lost
   pub expires_losts : Expires addr_eq now old.losts live_losts
-  pub losts : SettlesAll before after (now + settings.times.neighbour_hold) live_losts new.losts
+  pub follows : FollowsLinks new.links now before (now + settings.times.neighbour_hold) old.neighbours new.neighbours live_losts new.losts
 
 admit_is : (settings : RouterSettings) (i now : ℕ) (o : Option (Link × ℕ)) → option_map (admitted (rule_of settings i) settings.times.link_hold now) o ≡ admit_on settings i now o
 admit_is settings i now None = refl
@@ -70,9 +63,9 @@ live_by_calls settings before now old new S R = record {
   two_hop_interfaces = R.two_hop_interfaces;
   links = λ i key. let (mid, admits, expires) = R.links i in expires key ∙ ap (λ (o : Option (Link × ℕ)). trim now (if_live now o)) (admits key ∙ admit_is settings i now (link_at old i key));
   two_hops = two_hops;
-  neighbours = λ o. restores_by new now R.notes R.notes_are (neighbour_at old o) (neighbour_at new o) (R.neighbours o);
+  neighbours = λ o. restores_by new now R.follows.notes R.follows.notes_are (neighbour_at old o) (neighbour_at new o) (R.follows.neighbours o);
   losts = λ a. subst (λ (x : Option (Lost × ℕ)). SettlesLost (IsSymmetricAddress old a) (IsSymmetricAddress new a) (now + settings.times.neighbour_hold) x (lost_at new a)) (R.expires_losts a)
-      (settles_by (IsSymmetricAddress old a) (IsSymmetricAddress new a) (R.before_is a).0 (R.before_is a).1 (R.after_is a).0 (R.after_is a).1 (R.losts a));
+      (settles_by (IsSymmetricAddress old a) (IsSymmetricAddress new a) (R.before_is a).0 (R.before_is a).1 (R.follows.after_is a).0 (R.follows.after_is a).1 (R.follows.losts a));
 }
   where
     two_hops : (i : ℕ) (key : TwoHopKey) → two_hop_at new i key ≡ cond (is_symmetric_at new now i key.link) (if_live now (two_hop_at old i key)) None
@@ -110,13 +103,9 @@ pub record RunsHello (settings : RouterSettings) (now i : ℕ) (told : Told) (he
   pub until : ℕ
   pub replaced : Base Addr4 Neighbour
   pub replaces : Replaces told.originator told.listed told.willing told.routing until old.neighbours replaced
-  pub notes : List LinkNote
-  pub notes_are : TellsLinksOf new.links told.listed now notes
-  pub neighbour : RestoresBy notes (find addr_eq replaced told.originator) (neighbour_at new told.originator)
-  pub others : (o : Addr4) → o ≢ told.originator → neighbour_at new o ≡ find addr_eq replaced o
   pub before : List Addr4
   pub before_is : (a : Addr4) → Contains before a ↔ IsTheirSymmetric old told a
-  pub losts : SettlesAll before (symmetric_at (neighbour_at new told.originator)) (now + settings.times.neighbour_hold) old.losts new.losts
+  pub follows : FollowsLinksOf new.links now told.originator told.listed before (now + settings.times.neighbour_hold) replaced new.neighbours old.losts new.losts
 
 module _ (settings : RouterSettings) (now i : ℕ) (told : Told) (hello : Hello) (old new : Neighbourhood)
     (within : (a : Addr4) → Contains told.shown.sending a → Contains told.listed a) (least : Contains told.listed told.least.addr) (S : SoundNeighbourhood settings now old)
@@ -194,7 +183,7 @@ module _ (settings : RouterSettings) (now i : ℕ) (told : Told) (hello : Hello)
 
   -- a neighbour with another originator is kept where the HELLO doesn't speak of it
   kept : (o : Addr4) → o ≢ told.originator → IsKept (λ e. Matches told.originator told.listed o e.0 → ⊥) (neighbour_at old o) (neighbour_at new o)
-  kept o other = subst (λ (x : Option (Neighbour × ℕ)). IsKept (λ e. Matches told.originator told.listed o e.0 → ⊥) (neighbour_at old o) x) (sym (R.others o other)) (R.replaces.others o other)
+  kept o other = subst (λ (x : Option (Neighbour × ℕ)). IsKept (λ e. Matches told.originator told.listed o e.0 → ⊥) (neighbour_at old o) x) (sym (R.follows.others o other)) (R.replaces.others o other)
 
   announced_addrs : (e : Neighbour × ℕ) → find addr_eq R.replaced told.originator ≡ Some e → e.0.addrs ≡ told.listed
   announced_addrs e at = ap (λ (x : Neighbour × ℕ). x.0.addrs) (same_some at R.replaces.one)
@@ -208,11 +197,11 @@ module _ (settings : RouterSettings) (now i : ℕ) (told : Told) (hello : Hello)
     link = the_link;
     other_links = other_links;
     neighbour = replaced_one new now R.until told old.neighbours R.replaced (neighbour_at new told.originator) R.replaces
-        (restores_of new now told.listed R.notes R.notes_are (find addr_eq R.replaced told.originator) (neighbour_at new told.originator) announced_addrs R.neighbour);
+        (restores_of new now told.listed R.follows.notes R.follows.notes_are (find addr_eq R.replaced told.originator) (neighbour_at new told.originator) announced_addrs R.follows.neighbour);
     other_neighbours = λ o other. replaced_other new now told o (neighbour_at old o) (neighbour_at new o) (neighbour_at new o) other (kept o other)
         (rests settings now i told old new within least S other_links o (neighbour_at new o) (kept o other));
     two_hops = λ symmetric a. (find two_hop_eq R.started (record { link = told.least; addr = a }), stood_of a symmetric, (R.rows symmetric).one a);
     no_two_hops = no_two_hops;
     other_two_hops = other_two_hops;
-    losts = λ a. settles settings now i told old new within least S other_links kept R.before (now + settings.times.neighbour_hold) a R.tables.neighbours (R.before_is a) (R.losts a);
+    losts = λ a. settles settings now i told old new within least S other_links kept R.before (now + settings.times.neighbour_hold) a R.tables.neighbours (R.before_is a) (R.follows.losts a);
   }

@@ -1,6 +1,6 @@
-use Rattle.std.proofs.Common.{◌<◌, ◌∙◌, length, refl, sym, arith, get_or}
+use Rattle.std.proofs.Common.{◌<◌, [], length, refl, sym, arith, get_or}
 use Rattle.std.proofs.lemmas.Bool.{false≢true}
-use Rattle.mesh_nhdp.proofs.AllHears.{is_base}
+use Rattle.std.proofs.lemmas.List.{get_or_default}
 use Rattle.mesh_nhdp.proofs.BesideWalk.{goes_over_one}
 use Rattle.mesh_nhdp.proofs.staying.expire_two_hops.Goals as goal
 
@@ -23,7 +23,7 @@ loop-i-preserved g c =
     let within : c.loop-i.i < length c.loop-i.sets = omega (arith, c.loop-i-test.true, old.lengths) in
     let step = goes_over_one c.args.now c.args.sets.now c.loop-i.sets (get_or c.loop-i.sets c.loop-i.i c.index-sets-i.result) c.expire_and_count-gone.new.self c.loop-i.same c.is_none_gone-same.result c.expire_and_count-gone.result c.loop-i.i
     (record { lengths = old.lengths; done = old.done; distinct = old.distinct; left = old.left; unchanged = old.same; changed = old.changed }) within
-    (is_base c.loop-i.sets c.loop-i.i c.index-sets-i.result within c.index-sets-i.is ∙ c.index-sets-i.is) c.expire_and_count-gone.ensures.expired c.expire_and_count-gone.ensures.distinct c.expire_and_count-gone.ensures.count c.expire_and_count-gone.ensures.none c.is_none_gone-same.ensures in
+    (get_or_default c.loop-i.sets c.loop-i.i [] c.index-sets-i.result within) c.expire_and_count-gone.ensures.expired c.expire_and_count-gone.ensures.distinct c.expire_and_count-gone.ensures.count c.expire_and_count-gone.ensures.none c.is_none_gone-same.ensures in
     record { lengths = step.lengths; done = step.done; distinct = step.distinct; left = step.left; same = step.unchanged; changed = step.changed }
 
 pub returns-clause-length : goal.returns-clause-length
