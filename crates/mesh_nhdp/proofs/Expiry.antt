@@ -21,7 +21,7 @@ use Rattle.mesh_atoms.specs.Live.{LiveNeighbourhood}
 use Rattle.mesh_atoms.specs.Sound.{SoundNeighbourhood}
 use Rattle.mesh_nhdp.specs.declared.near_addresses.WantedNeighbours.TheVariants.{Symmetric}
 use Rattle.mesh_nhdp.specs.Follows.{FollowsLinks}
-use Rattle.mesh_nhdp.specs.Interfaces.{ExpiresOn}
+use Rattle.mesh_nhdp.specs.Interfaces.{ChangesEach, ExpiresOn}
 use Rattle.mesh_nhdp.specs.Wanted.{IsWantedAddress}
 use Rattle.mesh_nhdp.proofs.Bases.{base_cases}
 use Rattle.mesh_hello.proofs.Collect.{item_at}
@@ -53,7 +53,7 @@ module _ (settings : RouterSettings) (moment now : ℕ) (old : Neighbourhood) (S
     (links : List (Base LinkKey Link)) (two_hops : List (Base TwoHopKey TwoHop)) (neighbours : Base Addr4 Neighbour) (losts live_losts : Base Addr4 Lost) (before : List Addr4)
     (before_is : (a : Addr4) → Contains before a ↔ IsWantedAddress old.neighbours Symmetric a) (same : length links ≡ length old.links) (same_two_hops : length two_hops ≡ length old.two_hops)
     (each : (i : ℕ) → i < length old.links → (face : Interface) → slice_get settings.interfaces i ≡ Some face → ExpiresOn face.admit settings.times.link_hold now (base_of old.links i) (base_of links i) (base_of old.two_hops i) (base_of two_hops i)) (expires : Expires addr_eq now old.losts live_losts)
-    (F : FollowsLinks links now before (now + settings.times.neighbour_hold) old.neighbours neighbours live_losts losts) where
+    (F : FollowsLinks now before (now + settings.times.neighbour_hold) (record { links = links; two_hops = two_hops; neighbours = old.neighbours; losts = live_losts }) (record { links = links; two_hops = two_hops; neighbours = neighbours; losts = losts })) where
   on : (i : ℕ) → ExpiresOn (rule_of settings i) settings.times.link_hold now (base_of old.links i) (base_of links i) (base_of old.two_hops i) (base_of two_hops i)
   on i = elim (base_cases old.links i) [
     | inl there ↦ by_face there.0
@@ -90,27 +90,22 @@ module _ (settings : RouterSettings) (moment now : ℕ) (old : Neighbourhood) (S
   expiry_sound = live_sound settings moment now old (record { links = links; two_hops = two_hops; neighbours = neighbours; losts = losts }) S expiry_is
       (let least = settings.times.sound.neighbour_hold_range.least in omega (arith, least))
 
--- what holds with these links and tuples holds with the vectors that they are written back to
-pub in_vectors : (P : Neighbourhood → Type 0) (old : Neighbourhood) (links : List (Base LinkKey Link)) (two_hops : List (Base TwoHopKey TwoHop)) (neighbours : Base Addr4 Neighbour) (losts : Base Addr4 Lost) (len len_two_hops : ℕ) →
-    length links ≡ length old.links → length two_hops ≡ length old.two_hops → len ≡ length old.links → len_two_hops ≡ length old.two_hops → P (record { links = links; two_hops = two_hops; neighbours = neighbours; losts = losts }) →
-    P (record { links = take len (links ++ drop (length links) old.links); two_hops = take len_two_hops (two_hops ++ drop (length two_hops) old.two_hops); neighbours = neighbours; losts = losts })
-in_vectors P old links two_hops neighbours losts len len_two_hops same same_two_hops all all_two_hops p =
-    rw (written_back len links old.links same all, written_back len_two_hops two_hops old.two_hops same_two_hops all_two_hops) p
-
 -- expiry, as the calls leave it
-pub expiry_runs : (settings : RouterSettings) (faces : List Interface) (moment now : ℕ) (old : Neighbourhood) (seen_links links : List (Base LinkKey Link)) (seen_two_hops two_hops : List (Base TwoHopKey TwoHop))
-    (seen_neighbours neighbours : Base Addr4 Neighbour) (losts live_losts : Base Addr4 Lost) (before seen_before : List Addr4) →
-    faces ≡ settings.interfaces → SoundNeighbourhood settings moment old → seen_links ≡ old.links → seen_two_hops ≡ old.two_hops → length links ≡ length old.links → length two_hops ≡ length old.two_hops →
-    seen_neighbours ≡ old.neighbours → ((a : Addr4) → Contains before a ↔ IsWantedAddress seen_neighbours Symmetric a) →
-    ((i : ℕ) → i < length seen_links → (face : Interface) → slice_get faces i ≡ Some face → ExpiresOn face.admit settings.times.link_hold now (base_of seen_links i) (base_of links i) (base_of seen_two_hops i) (base_of two_hops i)) →
-    Expires addr_eq now old.losts live_losts → seen_before ≡ before → FollowsLinks links now seen_before (now + settings.times.neighbour_hold) old.neighbours neighbours live_losts losts →
-    LiveNeighbourhood settings now old (record { links = links; two_hops = two_hops; neighbours = neighbours; losts = losts }) × SoundNeighbourhood settings now (record { links = links; two_hops = two_hops; neighbours = neighbours; losts = losts })
-expiry_runs settings faces moment now old seen_links links seen_two_hops two_hops seen_neighbours neighbours losts live_losts before seen_before faces_are S links_are two_hops_are same same_two_hops sees before_is each expires seen_is F =
-    let follows = subst (λ (b : List Addr4). FollowsLinks links now b (now + settings.times.neighbour_hold) old.neighbours neighbours live_losts losts) seen_is F in
+pub expiry_runs : (settings : RouterSettings) (faces : List Interface) (moment now : ℕ) (old mid new : Neighbourhood) (live_losts : Base Addr4 Lost) (seen_neighbours : Base Addr4 Neighbour) (before seen_before : List Addr4) →
+    faces ≡ settings.interfaces → SoundNeighbourhood settings moment old → seen_neighbours ≡ old.neighbours → ((a : Addr4) → Contains before a ↔ IsWantedAddress seen_neighbours Symmetric a) →
+    ChangesEach (λ i was is before after. (face : Interface) → slice_get faces i ≡ Some face → ExpiresOn face.admit settings.times.link_hold now was is before after) old mid → Expires addr_eq now mid.losts live_losts →
+    seen_before ≡ before → FollowsLinks now seen_before (now + settings.times.neighbour_hold) (record mid { losts = live_losts }) new → LiveNeighbourhood settings now old new × SoundNeighbourhood settings now new
+expiry_runs settings faces moment now old mid new live_losts seen_neighbours before seen_before faces_are S sees before_is C expires seen_is F =
+    let until = now + settings.times.neighbour_hold in
+    let after : Neighbourhood = record mid { neighbours = new.neighbours; losts = new.losts } in
+    let follows = subst (λ (b : List Addr4). FollowsLinks now b until (record mid { neighbours = old.neighbours; losts = live_losts }) after) seen_is
+    (subst (λ (b : Base Addr4 Neighbour). FollowsLinks now seen_before until (record mid { neighbours = b; losts = live_losts }) after) (ap (λ (n : Neighbourhood). n.neighbours) C.rest)
+    (subst (FollowsLinks now seen_before until (record mid { losts = live_losts })) F.rest F)) in
     let wanted = subst (λ (b : Base Addr4 Neighbour). (a : Addr4) → Contains before a ↔ IsWantedAddress b Symmetric a) sees before_is in
-    let Each : List Interface → List (Base LinkKey Link) → List (Base TwoHopKey TwoHop) → Type 0 = λ fs ls ts. (i : ℕ) → i < length ls → (face : Interface) → slice_get fs i ≡ Some face →
-    ExpiresOn face.admit settings.times.link_hold now (base_of ls i) (base_of links i) (base_of ts i) (base_of two_hops i) in
-    let each_by = subst (λ fs. Each fs old.links old.two_hops) faces_are (subst (λ ls. Each faces ls old.two_hops) links_are (subst (λ ts. Each faces seen_links ts) two_hops_are each)) in (
-      expiry_is settings moment now old S links two_hops neighbours losts live_losts before wanted same same_two_hops each_by expires follows,
-      expiry_sound settings moment now old S links two_hops neighbours losts live_losts before wanted same same_two_hops each_by expires follows,
+    let each_by = subst (λ (fs : List Interface). (i : ℕ) → i < length old.links → (face : Interface) → slice_get fs i ≡ Some face → ExpiresOn face.admit settings.times.link_hold now (base_of old.links i) (base_of mid.links i) (base_of old.two_hops i) (base_of mid.two_hops i))
+    faces_are C.each in
+    let expired = subst (λ (b : Base Addr4 Lost). Expires addr_eq now b live_losts) (ap (λ (n : Neighbourhood). n.losts) C.rest) expires in
+    subst (λ (n : Neighbourhood). LiveNeighbourhood settings now old n × SoundNeighbourhood settings now n) (sym F.rest) (
+      expiry_is settings moment now old S mid.links mid.two_hops new.neighbours new.losts live_losts before wanted C.links C.two_hops each_by expired follows,
+      expiry_sound settings moment now old S mid.links mid.two_hops new.neighbours new.losts live_losts before wanted C.links C.two_hops each_by expired follows,
     )

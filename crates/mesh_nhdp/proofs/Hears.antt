@@ -48,7 +48,7 @@ module _ (settings : RouterSettings) (now i : ℕ) (sender : Addr4) (told : Told
     (rows : is_symmetric_in (base_of links i) now told.least ≡ true → TellsTwoHops settings told hello told.least (now + told.shown.validity) started (base_of two_hops i))
     (no_rows : is_symmetric_in (base_of links i) now told.least ≡ false → base_of two_hops i ≡ started)
     (replaces : Replaces told.originator told.listed told.willing told.routing until old.neighbours replaced)
-    (F : FollowsLinksOf links now told.originator told.listed before (now + settings.times.neighbour_hold) replaced neighbours old.losts losts) where
+    (F : FollowsLinksOf now told.originator told.listed before (now + settings.times.neighbour_hold) (record { links = links; two_hops = two_hops; neighbours = replaced; losts = old.losts }) (record { links = links; two_hops = two_hops; neighbours = neighbours; losts = losts })) where
   is_link_interface : i < length old.links
   is_link_interface = let counts = S.interfaces in omega (arith, counts, is_interface)
 

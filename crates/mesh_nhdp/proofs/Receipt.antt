@@ -5,7 +5,6 @@ use Rattle.std.proofs.lemmas.Bool.{false≢true}
 use Rattle.mesh_atoms.specs.declared.addr.Addr4.{Addr4}
 use Rattle.mesh_atoms.specs.declared.hello.Hello.{Hello}
 use Rattle.mesh_atoms.specs.declared.tuples.LinkKey.{LinkKey}
-use Rattle.mesh_atoms.specs.declared.tuples.Link.{Link}
 use Rattle.mesh_atoms.specs.declared.tuples.TwoHopKey.{TwoHopKey}
 use Rattle.mesh_atoms.specs.declared.tuples.TwoHop.{TwoHop}
 use Rattle.mesh_atoms.specs.declared.tuples.Neighbour.{Neighbour}
@@ -19,6 +18,7 @@ use Rattle.mesh_atoms.specs.HelloTold.{Told, Tells}
 use Rattle.mesh_atoms.specs.AfterHello.{AfterHello}
 use Rattle.mesh_atoms.specs.TakesHello.{IsFault}
 use Rattle.mesh_atoms.specs.Sound.{SoundNeighbourhood}
+use Rattle.mesh_nbrs.specs.Neighbours.{Replaces}
 use Rattle.mesh_nhdp.specs.Calls.{key_at}
 use Rattle.mesh_nhdp.specs.Follows.{FollowsLinksOf, RenewsNeighbour}
 use Rattle.mesh_nhdp.specs.Hearings.{HearsInterfaces, HearsLinks}
@@ -27,38 +27,40 @@ use Rattle.mesh_nhdp.proofs.Hears.{hears_is}
 use Rattle.mesh_nhdp.proofs.Whole.{Starts, Goes_on, Anew}
 
 -- the tuples of the link start as the link does
-starts_by : (rule : Admit) (old : Neighbourhood) (i : ℕ) (told : Told) (theirs : List Addr4) (keys : List LinkKey) (own : List Addr4) (hold now : ℕ) (hello : Hello) (links : List (Base LinkKey Link)) (two_hops : List (Base TwoHopKey TwoHop)) →
-    (H : HearsInterfaces rule told.shown told.least theirs told.listed keys own hold now i hello old.links links old.two_hops two_hops) → Starts old i told (base_of H.mids i) H.updates.started
-starts_by rule old i told theirs keys own hold now hello links two_hops H = by_case H.stood refl
+starts_by : (rule : Admit) (old new : Neighbourhood) (i : ℕ) (told : Told) (theirs : List Addr4) (keys : List LinkKey) (own : List Addr4) (hold now : ℕ) (hello : Hello) →
+    (H : HearsInterfaces rule told.shown told.least theirs told.listed keys own hold now i hello old new) → Starts old i told (base_of H.mids i) H.updates.started
+starts_by rule old new i told theirs keys own hold now hello H = by_case H.stood refl
   where
     by_case : (b : Bool) → H.stood ≡ b → Starts old i told (base_of H.mids i) H.updates.started
     by_case true is = let (e, at, same) = H.stood_is.0 is in Goes_on e at same (λ key. ap (λ (b : Base TwoHopKey TwoHop). find two_hop_eq b key) (H.updates.goes_on is))
     by_case false is = Anew (λ e at same. false≢true (sym is ∙ H.stood_is.1 (e, at, same))) (H.updates.anew is)
 
 -- the links, as the calls leave them
-pub links_heard : (rule r : Admit) (told : Told) (theirs listed own : List Addr4) (keys seen_keys : List LinkKey) (hold now i : ℕ) (hello : Hello) (old new : List (Base LinkKey Link)) (before after : List (Base TwoHopKey TwoHop)) →
-    rule ≡ r → listed ≡ told.listed → seen_keys ≡ keys → ((a : Addr4) → Contains theirs a ⊎ Contains listed a → Contains keys (key_at a)) → length new ≡ length old →
-    HearsInterfaces rule told.shown told.least theirs listed seen_keys own hold now i hello old new before after → HearsLinks r told theirs own hold now i hello old new before after
-links_heard rule r told theirs listed own keys seen_keys hold now i hello old new before after rule_is listed_is keys_is keys_are same H = record {
+pub links_heard : (rule r : Admit) (told : Told) (theirs listed own : List Addr4) (keys seen_keys : List LinkKey) (hold now i : ℕ) (hello : Hello) (old new : Neighbourhood) →
+    rule ≡ r → listed ≡ told.listed → seen_keys ≡ keys → ((a : Addr4) → Contains theirs a ⊎ Contains listed a → Contains keys (key_at a)) →
+    HearsInterfaces rule told.shown told.least theirs listed seen_keys own hold now i hello old new → HearsLinks r told theirs own hold now i hello old new
+links_heard rule r told theirs listed own keys seen_keys hold now i hello old new rule_is listed_is keys_is keys_are H = record {
   keys = keys;
   keys_are = subst (λ (xs : List Addr4). (a : Addr4) → Contains theirs a ⊎ Contains xs a → Contains keys (key_at a)) listed_is keys_are;
-  same = same;
-  hears = subst (λ (xs : List Addr4). HearsInterfaces r told.shown told.least theirs xs keys own hold now i hello old new before after) listed_is
-      (subst (λ (ks : List LinkKey). HearsInterfaces r told.shown told.least theirs listed ks own hold now i hello old new before after) keys_is
-      (subst (λ (x : Admit). HearsInterfaces x told.shown told.least theirs listed seen_keys own hold now i hello old new before after) rule_is H));
+  hears = subst (λ (xs : List Addr4). HearsInterfaces r told.shown told.least theirs xs keys own hold now i hello old new) listed_is
+      (subst (λ (ks : List LinkKey). HearsInterfaces r told.shown told.least theirs listed ks own hold now i hello old new) keys_is
+      (subst (λ (x : Admit). HearsInterfaces x told.shown told.least theirs listed seen_keys own hold now i hello old new) rule_is H));
 }
 
-pub receipt_runs : (settings : RouterSettings) (now i : ℕ) (sender : Addr4) (told : Told) (hello : Hello) (old : Neighbourhood) (seen_links links : List (Base LinkKey Link)) (seen_two_hops two_hops : List (Base TwoHopKey TwoHop))
-    (neighbours : Base Addr4 Neighbour) (losts : Base Addr4 Lost) (theirs seen_theirs own before seen_before : List Addr4) →
+pub receipt_runs : (settings : RouterSettings) (now i : ℕ) (sender : Addr4) (told : Told) (hello : Hello) (old mid new : Neighbourhood) (theirs seen_theirs own before seen_before : List Addr4) →
     Tells settings i sender hello told → IsFault settings sender hello None → 0 < told.shown.validity → SoundNeighbourhood settings now old → i < length settings.interfaces → ((a : Addr4) → Contains own a ↔ HasAddress settings a) →
     ((a : Addr4) → Contains before a ↔ IsSymmetricSpokenAddress old.neighbours told.originator told.listed a) → ((a : Addr4) → Contains theirs a ↔ IsSpokenAddress old.neighbours told.originator told.listed a) →
-    seen_links ≡ old.links → seen_two_hops ≡ old.two_hops → seen_theirs ≡ theirs → seen_before ≡ before → HearsLinks (rule_of settings i) told seen_theirs own settings.times.link_hold now i hello seen_links links seen_two_hops two_hops →
-    RenewsNeighbour links now told seen_before (now + settings.times.neighbour_hold) old.neighbours neighbours old.losts losts →
-    AfterHello settings now i told hello old (record { links = links; two_hops = two_hops; neighbours = neighbours; losts = losts })
-receipt_runs settings now i sender told hello old seen_links links seen_two_hops two_hops neighbours losts theirs seen_theirs own before seen_before T fault lasts S is_interface own_is before_is theirs_are links_are two_hops_are theirs_is seen_is heard R =
-    let Heard : List Addr4 → List (Base LinkKey Link) → List (Base TwoHopKey TwoHop) → Type 0 = λ xs ls ts. HearsLinks (rule_of settings i) told xs own settings.times.link_hold now i hello ls links ts two_hops in
-    let hears = subst (λ xs. Heard xs old.links old.two_hops) theirs_is (subst (λ ls. Heard seen_theirs ls old.two_hops) links_are (subst (λ ts. Heard seen_theirs seen_links ts) two_hops_are heard)) in
-    let follows = subst (λ (b : List Addr4). FollowsLinksOf links now told.originator told.listed b (now + settings.times.neighbour_hold) R.replaced neighbours old.losts losts) seen_is R.follows in
+    seen_theirs ≡ theirs → seen_before ≡ before → HearsLinks (rule_of settings i) told seen_theirs own settings.times.link_hold now i hello old mid → RenewsNeighbour now told seen_before (now + settings.times.neighbour_hold) mid new →
+    AfterHello settings now i told hello old new
+receipt_runs settings now i sender told hello old mid new theirs seen_theirs own before seen_before T fault lasts S is_interface own_is before_is theirs_are theirs_is seen_is heard R =
+    let hears = subst (λ (xs : List Addr4). HearsLinks (rule_of settings i) told xs own settings.times.link_hold now i hello old mid) theirs_is heard in
     let H = hears.hears in
-    hears_is settings now i sender told hello old T fault lasts S is_interface links H.mids two_hops R.replaced neighbours losts H.updates.started theirs before hears.keys now theirs_are before_is hears.keys_are hears.same H.same_mids H.same
-    H.each H.elsewhere H.updates.distinct (starts_by (rule_of settings i) old i told theirs hears.keys own settings.times.link_hold now hello links two_hops H) (λ symmetric. H.updates.rows symmetric settings told own_is refl) H.updates.no_rows R.replaces follows
+    let until = now + settings.times.neighbour_hold in
+    let after : Neighbourhood = record mid { neighbours = new.neighbours; losts = new.losts } in
+    let replaces = subst (λ (b : Base Addr4 Neighbour). Replaces told.originator told.listed told.willing told.routing now b R.replaced) (ap (λ (n : Neighbourhood). n.neighbours) H.rest) R.replaces in
+    let follows = subst (λ (b : List Addr4). FollowsLinksOf now told.originator told.listed b until (record mid { neighbours = R.replaced; losts = old.losts }) after) seen_is
+    (subst (λ (b : Base Addr4 Lost). FollowsLinksOf now told.originator told.listed seen_before until (record mid { neighbours = R.replaced; losts = b }) after) (ap (λ (n : Neighbourhood). n.losts) H.rest)
+    (subst (FollowsLinksOf now told.originator told.listed seen_before until (record mid { neighbours = R.replaced })) R.follows.rest R.follows)) in
+    subst (AfterHello settings now i told hello old) (sym R.follows.rest)
+    (hears_is settings now i sender told hello old T fault lasts S is_interface mid.links H.mids mid.two_hops R.replaced new.neighbours new.losts H.updates.started theirs before hears.keys now theirs_are before_is hears.keys_are H.same_links H.same_mids H.same
+    H.each H.elsewhere H.updates.distinct (starts_by (rule_of settings i) old mid i told theirs hears.keys own settings.times.link_hold now hello H) (λ symmetric. H.updates.rows symmetric settings told own_is refl) H.updates.no_rows replaces follows)

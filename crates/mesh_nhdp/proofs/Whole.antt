@@ -49,7 +49,7 @@ pub record RunsExpiry (settings : RouterSettings) (now : ℕ) (old new : Neighbo
   pub before_is : (a : Addr4) → Contains before a ↔ IsSymmetricAddress old a
   pub live_losts : Base Addr4 Lost
   pub expires_losts : Expires addr_eq now old.losts live_losts
-  pub follows : FollowsLinks new.links now before (now + settings.times.neighbour_hold) old.neighbours new.neighbours live_losts new.losts
+  pub follows : FollowsLinks now before (now + settings.times.neighbour_hold) (record new { neighbours = old.neighbours; losts = live_losts }) new
 
 admit_is : (settings : RouterSettings) (i now : ℕ) (o : Option (Link × ℕ)) → option_map (admitted (rule_of settings i) settings.times.link_hold now) o ≡ admit_on settings i now o
 admit_is settings i now None = refl
@@ -105,7 +105,7 @@ pub record RunsHello (settings : RouterSettings) (now i : ℕ) (told : Told) (he
   pub replaces : Replaces told.originator told.listed told.willing told.routing until old.neighbours replaced
   pub before : List Addr4
   pub before_is : (a : Addr4) → Contains before a ↔ IsTheirSymmetric old told a
-  pub follows : FollowsLinksOf new.links now told.originator told.listed before (now + settings.times.neighbour_hold) replaced new.neighbours old.losts new.losts
+  pub follows : FollowsLinksOf now told.originator told.listed before (now + settings.times.neighbour_hold) (record new { neighbours = replaced; losts = old.losts }) new
 
 module _ (settings : RouterSettings) (now i : ℕ) (told : Told) (hello : Hello) (old new : Neighbourhood)
     (within : (a : Addr4) → Contains told.shown.sending a → Contains told.listed a) (least : Contains told.listed told.least.addr) (S : SoundNeighbourhood settings now old)

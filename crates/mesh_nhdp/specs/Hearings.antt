@@ -9,8 +9,8 @@ use Rattle.mesh_atoms.specs.declared.tuples.Link.{Link}
 use Rattle.mesh_atoms.specs.declared.tuples.TwoHopKey.{TwoHopKey}
 use Rattle.mesh_atoms.specs.declared.tuples.TwoHop.{TwoHop}
 use Rattle.mesh_atoms.specs.declared.settings.RouterSettings.{RouterSettings}
-use Rattle.mesh_atoms.specs.Base.{Base, HasDistinctKeys, find, base_of, link_eq, two_hop_eq}
-use Rattle.mesh_atoms.specs.State.{HasAddress}
+use Rattle.mesh_atoms.specs.Base.{Base, HasDistinctKeys, base_of, two_hop_eq}
+use Rattle.mesh_atoms.specs.State.{Neighbourhood, HasAddress, link_at}
 use Rattle.mesh_atoms.specs.HelloTold.{Told}
 use Rattle.mesh_nbrs.specs.TwoHops.TwoHops.{DropsLink}
 use Rattle.mesh_nhdp.specs.Calls.{TellsTwoHops, is_symmetric_in, key_at}
@@ -30,22 +30,22 @@ pub record UpdatesTwoHops (stood symmetric : Bool) (own listed : List Addr4) (he
 
 -- each interface hears the HELLO, and then the tuples of its link are brought up to date
 pub record HearsInterfaces (rule : Admit) (shown : Shown) (least : LinkKey) (theirs listed : List Addr4) (keys : List LinkKey) (own : List Addr4) (hold now i : ℕ) (hello : Hello)
-    (old new : List (Base LinkKey Link)) (before after : List (Base TwoHopKey TwoHop)) : Type 0 where
+    (old new : Neighbourhood) : Type 0 where
+  pub rest : new ≡ record old { links = new.links; two_hops = new.two_hops }
+  pub same_links : length new.links ≡ length old.links
   pub mids : List (Base TwoHopKey TwoHop)
-  pub same_mids : length mids ≡ length before
-  pub same : length after ≡ length mids
-  pub each : (j : ℕ) → j < length old →
-      HearsAt rule shown least theirs listed keys hold now (nat_eq j i) (base_of old j) (base_of new j) (base_of before j) (base_of mids j)
-  pub elsewhere : (j : ℕ) → j ≢ i → base_of after j ≡ base_of mids j
+  pub same_mids : length mids ≡ length old.two_hops
+  pub same : length new.two_hops ≡ length mids
+  pub each : (j : ℕ) → j < length old.links →
+      HearsAt rule shown least theirs listed keys hold now (nat_eq j i) (base_of old.links j) (base_of new.links j) (base_of old.two_hops j) (base_of mids j)
+  pub elsewhere : (j : ℕ) → j ≢ i → base_of new.two_hops j ≡ base_of mids j
   pub stood : Bool
-  pub stood_is : IsTrue stood ↔ ((e : Link × ℕ) × (find link_eq (base_of old i) least ≡ Some e) × (e.0.addrs ≡ shown.sending))
-  pub updates : UpdatesTwoHops stood (is_symmetric_in (base_of new i) now least) own listed hello least (now + shown.validity)
-      (base_of mids i) (base_of after i)
+  pub stood_is : IsTrue stood ↔ ((e : Link × ℕ) × (link_at old i least ≡ Some e) × (e.0.addrs ≡ shown.sending))
+  pub updates : UpdatesTwoHops stood (is_symmetric_in (base_of new.links i) now least) own listed hello least (now + shown.validity)
+      (base_of mids i) (base_of new.two_hops i)
 
 -- the same, with the keys of the links of the neighbours that the HELLO speaks of, and of the addresses that it lists
-pub record HearsLinks (rule : Admit) (told : Told) (theirs own : List Addr4) (hold now i : ℕ) (hello : Hello)
-    (old new : List (Base LinkKey Link)) (before after : List (Base TwoHopKey TwoHop)) : Type 0 where
+pub record HearsLinks (rule : Admit) (told : Told) (theirs own : List Addr4) (hold now i : ℕ) (hello : Hello) (old new : Neighbourhood) : Type 0 where
   pub keys : List LinkKey
   pub keys_are : (a : Addr4) → Contains theirs a ⊎ Contains told.listed a → Contains keys (key_at a)
-  pub same : length new ≡ length old
-  pub hears : HearsInterfaces rule told.shown told.least theirs told.listed keys own hold now i hello old new before after
+  pub hears : HearsInterfaces rule told.shown told.least theirs told.listed keys own hold now i hello old new

@@ -8,7 +8,8 @@ use Rattle.mesh_atoms.specs.declared.tuples.LinkKey.{LinkKey}
 use Rattle.mesh_atoms.specs.declared.tuples.TwoHopKey.{TwoHopKey}
 use Rattle.mesh_atoms.specs.declared.tuples.Link.{Link}
 use Rattle.mesh_atoms.specs.declared.tuples.TwoHop.{TwoHop}
-use Rattle.mesh_atoms.specs.Base.{Base, HasDistinctKeys, Expires, link_eq, two_hop_eq}
+use Rattle.mesh_atoms.specs.Base.{Base, HasDistinctKeys, Expires, base_of, link_eq, two_hop_eq}
+use Rattle.mesh_atoms.specs.State.{Neighbourhood}
 use Rattle.mesh_links.specs.Links.{AdmitsLinks, ExpiresLinks, EndsOutside, HearsOn}
 use Rattle.mesh_nhdp.specs.Calls.{TellsKeys, DropsEnded}
 
@@ -31,6 +32,13 @@ pub record HearsAt (rule : Admit) (shown : Shown) (least : LinkKey) (theirs list
   pub elsewhere : here ≡ false → EndsOutside theirs listed old new
   pub hears : here ≡ true → (mid : Base LinkKey Link) × EndsOutside theirs listed old mid × HearsOn rule shown least hold now mid new
   pub two_hops : DropsEnded keys new now before after
+
+-- the links and the 2-hop tuples of each interface become so, and neighbours and lost addresses stay
+pub record ChangesEach (makes : ℕ → Base LinkKey Link → Base LinkKey Link → Base TwoHopKey TwoHop → Base TwoHopKey TwoHop → Type 0) (old new : Neighbourhood) : Type 0 where
+  pub rest : new ≡ record old { links = new.links; two_hops = new.two_hops }
+  pub links : length new.links ≡ length old.links
+  pub two_hops : length new.two_hops ≡ length old.two_hops
+  pub each : (i : ℕ) → i < length old.links → makes i (base_of old.links i) (base_of new.links i) (base_of old.two_hops i) (base_of new.two_hops i)
 
 -- moments and times are in range, and the sending list is an ascending list of one address at least
 pub record CanHearHello (now hold : ℕ) (shown : Shown) : Type 0 where

@@ -64,24 +64,14 @@ fn expire_all<
     let alloc = settings.interfaces.allocator();
     let until = now + settings.times.neighbour_hold;
     let before = wanted_addresses(alloc, sets.neighbours.table(), WantedNeighbours::Symmetric)?;
-    let links = sets.links.as_mut_slice();
-    let two_hops = sets.two_hops.as_mut_slice();
     let expiry = Expiry {
         now,
         hold: settings.times.link_hold,
         faces: settings.interfaces.as_slice(),
     };
-    change_all(alloc, &expiry, links, two_hops)?;
+    change_all(alloc, &expiry, sets)?;
     sets.losts.expire(now);
-    follow_links(
-        alloc,
-        links,
-        now,
-        &before,
-        until,
-        &mut sets.neighbours,
-        &mut sets.losts,
-    )
+    follow_links(alloc, now, &before, until, sets)
 }
 
 /// Takes out the 2-hop tuples and the lost addresses that are expired where nothing becomes of the links since `last`, and else

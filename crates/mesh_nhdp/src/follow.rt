@@ -6,30 +6,32 @@ ghost use Rattle.mesh_nhdp.specs.Follows.{FollowsLinks, FollowsLinksOf, RenewsNe
 
 use crate::near_addresses::{WantedNeighbours, symmetric_at, wanted_addresses};
 use crate::notes::{notes_among, notes_of};
-use mesh_atoms::{Addr4, Link, LinkKey, Lost, Neighbour};
-use mesh_expire::Table;
+use crate::sets::NeighbourhoodSets;
+use mesh_atoms::{Addr4, Link, LinkKey, Lost, Neighbour, TwoHop, TwoHopKey};
+use mesh_expire::{PlacedTable, Table};
 use mesh_hello::HelloInfo;
-use mesh_links::LinkSet;
-use mesh_nbrs::{LostSet, NeighbourSet};
 use std::alloc::{AllocError, Global};
 
 /// Sets the neighbours as their links have them, and the addresses as lost until that moment that were a symmetric
-/// neighbour's and are none's now (RFC 6130, sections 12.4 and 13). After an allocation failure both sets may only be dropped.
-pub fn follow_links<L: Table<LinkKey, Link>, N: Table<Addr4, Neighbour>, O: Table<Addr4, Lost>>(
+/// neighbour's and are none's now (RFC 6130, sections 12.4 and 13). After an allocation failure the sets may only be dropped.
+pub fn follow_links<
+    L: Table<LinkKey, Link>,
+    H: PlacedTable<TwoHopKey, TwoHop>,
+    N: Table<Addr4, Neighbour>,
+    O: Table<Addr4, Lost>,
+>(
     alloc: Global,
-    links: &[LinkSet<L>],
     now: u64,
     before: &[Addr4],
     until: u64,
-    neighbours: &mut NeighbourSet<N>,
-    losts: &mut LostSet<O>,
+    sets: &mut NeighbourhoodSets<L, H, N, O>,
 ) -> Result<(), AllocError>
-    ensures { OnOk result (FollowsLinks links.now now before.now until neighbours.old neighbours.new losts.old losts.new) }
+    ensures { OnOk result (FollowsLinks now before.now until sets.old sets.new) }
 {
-    let notes = notes_of(alloc, links, now)?;
-    neighbours.expire(&notes)?;
-    let after = wanted_addresses(alloc, neighbours.table(), WantedNeighbours::Symmetric)?;
-    losts.settle_lost(before, &after, until)
+    let notes = notes_of(alloc, &sets.links, now)?;
+    sets.neighbours.expire(&notes)?;
+    let after = wanted_addresses(alloc, sets.neighbours.table(), WantedNeighbours::Symmetric)?;
+    sets.losts.settle_lost(before, &after, until)
 }
 
 /// The neighbour that a HELLO speaks of (RFC 6130, section 12.3): what the HELLO tells of it, the addresses of the symmetric neighbours
@@ -43,48 +45,55 @@ pub struct SendingNeighbour<'a> {
 
 /// Sets the neighbour that the HELLO speaks of, which has the listed addresses, as its links have it, and the addresses as lost that
 /// were a symmetric neighbour's, of those that became this one, and aren't this one's now. Looks at no other neighbour.
-/// After an allocation failure both sets may only be dropped.
-fn follow_links_of<L: Table<LinkKey, Link>, N: Table<Addr4, Neighbour>, O: Table<Addr4, Lost>>(
+/// After an allocation failure the sets may only be dropped.
+fn follow_links_of<
+    L: Table<LinkKey, Link>,
+    H: PlacedTable<TwoHopKey, TwoHop>,
+    N: Table<Addr4, Neighbour>,
+    O: Table<Addr4, Lost>,
+>(
     alloc: Global,
-    links: &[LinkSet<L>],
     now: u64,
     neighbour: &SendingNeighbour,
-    neighbours: &mut NeighbourSet<N>,
-    losts: &mut LostSet<O>,
+    sets: &mut NeighbourhoodSets<L, H, N, O>,
 ) -> Result<(), AllocError>
-    ensures { OnOk result (FollowsLinksOf links.now now neighbour.now.telling.now.originator neighbour.now.telling.now.listed
-        neighbour.now.before.now neighbour.now.until neighbours.old neighbours.new losts.old losts.new) }
+    ensures { OnOk result (FollowsLinksOf now neighbour.now.telling.now.originator neighbour.now.telling.now.listed
+        neighbour.now.before.now neighbour.now.until sets.old sets.new) }
 {
     let originator = neighbour.telling.originator;
-    let notes = notes_among(alloc, links, neighbour.telling.listed.as_slice(), now)?;
-    neighbours.follow(originator, &notes)?;
-    let after = symmetric_at(neighbours.table(), originator);
-    losts.settle_lost(neighbour.before, after, neighbour.until)
+    let listed = neighbour.telling.listed.as_slice();
+    let notes = notes_among(alloc, &sets.links, listed, now)?;
+    sets.neighbours.follow(originator, &notes)?;
+    let after = symmetric_at(sets.neighbours.table(), originator);
+    sets.losts
+        .settle_lost(neighbour.before, after, neighbour.until)
 }
 
 /// Makes one neighbour of all that a HELLO speaks of, and sets it as its links have it, with the addresses as lost that were a
 /// symmetric neighbour's, of those that became this one, and aren't this one's now. Looks at no other neighbour. After an allocation failure
-/// both sets may only be dropped.
-pub fn renew_neighbour<L: Table<LinkKey, Link>, N: Table<Addr4, Neighbour>, O: Table<Addr4, Lost>>(
+/// the sets may only be dropped.
+pub fn renew_neighbour<
+    L: Table<LinkKey, Link>,
+    H: PlacedTable<TwoHopKey, TwoHop>,
+    N: Table<Addr4, Neighbour>,
+    O: Table<Addr4, Lost>,
+>(
     alloc: Global,
-    links: &[LinkSet<L>],
     now: u64,
     neighbour: &SendingNeighbour,
-    neighbours: &mut NeighbourSet<N>,
-    losts: &mut LostSet<O>,
+    sets: &mut NeighbourhoodSets<L, H, N, O>,
 ) -> Result<(), AllocError>
     requires ascending { IsAscending neighbour.now.telling.now.listed }
     requires some { 0 < length neighbour.now.telling.now.listed }
-    ensures { OnOk result (RenewsNeighbour links.now now (told_of neighbour.now.telling.now) neighbour.now.before.now neighbour.now.until
-        neighbours.old neighbours.new losts.old losts.new) }
+    ensures { OnOk result (RenewsNeighbour now (told_of neighbour.now.telling.now) neighbour.now.before.now neighbour.now.until sets.old sets.new) }
 {
     let telling = neighbour.telling;
-    neighbours.replace(
+    sets.neighbours.replace(
         telling.originator,
         telling.listed.as_slice(),
         telling.willing,
         telling.routing,
         now,
     )?;
-    follow_links_of(alloc, links, now, neighbour, neighbours, losts)
+    follow_links_of(alloc, now, neighbour, sets)
 }

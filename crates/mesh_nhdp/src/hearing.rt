@@ -26,8 +26,6 @@ use crate::two_hop_rows::TwoHopRows;
 use mesh_atoms::{Addr4, Hello, Link, LinkKey, Lost, Neighbour, RouterSettings, TwoHop, TwoHopKey};
 use mesh_expire::{PlacedTable, Table};
 use mesh_hello::HelloInfo;
-use mesh_links::LinkSet;
-use mesh_nbrs::TwoHopSet;
 use std::alloc::{AllocError, Global};
 
 /// The receipt of a HELLO that isn't refused and isn't too much, on an interface at a moment in ticks of 1/8192 s: the HELLO, the
@@ -42,32 +40,35 @@ pub struct HelloReceipt<'a> {
 }
 
 /// Takes the HELLO in on all interfaces; `least` is the key of the link that it came over, and `own` has the router's addresses.
-/// Answers true only where that link isn't SYMMETRIC then, or all rows repeat what was held. After an allocation failure links and tuples may
-/// only be dropped.
-fn hear_interfaces<L: Table<LinkKey, Link>, H: PlacedTable<TwoHopKey, TwoHop>>(
+/// Answers true only where that link isn't SYMMETRIC then, or all rows repeat what was held. After an allocation failure the sets may only be
+/// dropped.
+fn hear_interfaces<
+    L: Table<LinkKey, Link>,
+    H: PlacedTable<TwoHopKey, TwoHop>,
+    N: Table<Addr4, Neighbour>,
+    O: Table<Addr4, Lost>,
+>(
     alloc: Global,
     hearing: &Hearing,
     least: LinkKey,
     hello: &Hello,
     own: &[Addr4],
-    links: &mut [LinkSet<L>],
-    two_hops: &mut [TwoHopSet<H>],
+    sets: &mut NeighbourhoodSets<L, H, N, O>,
 ) -> Result<bool, AllocError>
     requires ready { CanHearHello hearing.now.moment hearing.now.hold hearing.now.shown.now }
     requires least { slice_get hearing.now.shown.now.sending 0 ≡ Some least.addr }
-    requires iface { hearing.now.iface < length links.old }
-    requires same { length links.old ≡ length two_hops.old }
-    ensures links { length links.new ≡ length links.old }
+    requires iface { hearing.now.iface < length sets.old.links }
+    requires same { length sets.old.links ≡ length sets.old.two_hops }
     ensures hears { OnOk result (HearsInterfaces hearing.now.rule.now hearing.now.shown.now least hearing.now.theirs.now hearing.now.listed.now hearing.now.keys.now own.now hearing.now.hold hearing.now.moment hearing.now.iface hello.now
-        links.old links.new two_hops.old two_hops.new) }
+        sets.old sets.new) }
     ensures repeats { IfOk result (λ repeats. IsTrue repeats
-        → is_symmetric_in (base_of links.new hearing.now.iface) hearing.now.moment least ≡ true
-        → RepeatsRows own.now hearing.now.listed.now (base_of two_hops.old hearing.now.iface) least hello.now) }
+        → is_symmetric_in (base_of sets.new.links hearing.now.iface) hearing.now.moment least ≡ true
+        → RepeatsRows own.now hearing.now.listed.now (base_of sets.old.two_hops hearing.now.iface) least hello.now) }
 {
     let sending = hearing.shown.sending.as_slice();
-    let stood = has_link(&links[hearing.iface], least, sending);
-    change_all(alloc, hearing, links, two_hops)?;
-    let symmetric = has_symmetric(links[hearing.iface].table(), least, hearing.moment);
+    let stood = has_link(&sets.links[hearing.iface], least, sending);
+    change_all(alloc, hearing, sets)?;
+    let symmetric = has_symmetric(sets.links[hearing.iface].table(), least, hearing.moment);
     let until = hearing.moment + hearing.shown.validity;
     let rows = TwoHopRows {
         link: least,
@@ -76,28 +77,32 @@ fn hear_interfaces<L: Table<LinkKey, Link>, H: PlacedTable<TwoHopKey, TwoHop>>(
         own,
         listed: hearing.listed,
     };
-    update_two_hops(&mut two_hops[hearing.iface], &rows, stood, symmetric)
+    update_two_hops(&mut sets.two_hops[hearing.iface], &rows, stood, symmetric)
 }
 
 /// Takes a HELLO in on all interfaces; `theirs` has the addresses of the neighbours that it speaks of. Answers as `hear_interfaces`.
-/// After an allocation failure links and tuples may only be dropped.
-fn hear_links<L: Table<LinkKey, Link>, H: PlacedTable<TwoHopKey, TwoHop>>(
+/// After an allocation failure the sets may only be dropped.
+fn hear_links<
+    L: Table<LinkKey, Link>,
+    H: PlacedTable<TwoHopKey, TwoHop>,
+    N: Table<Addr4, Neighbour>,
+    O: Table<Addr4, Lost>,
+>(
     settings: &RouterSettings,
     receipt: &HelloReceipt,
     theirs: &[Addr4],
-    links: &mut [LinkSet<L>],
-    two_hops: &mut [TwoHopSet<H>],
+    sets: &mut NeighbourhoodSets<L, H, N, O>,
 ) -> Result<bool, AllocError>
     requires iface { receipt.now.iface < length settings.now.interfaces }
-    requires links { length links.old ≡ length settings.now.interfaces }
-    requires two_hops { length two_hops.old ≡ length settings.now.interfaces }
+    requires links { length sets.old.links ≡ length settings.now.interfaces }
+    requires two_hops { length sets.old.two_hops ≡ length settings.now.interfaces }
     requires ready { CanHearHello receipt.now.moment settings.now.times.link_hold receipt.now.telling.now.shown }
     requires least { slice_get receipt.now.telling.now.shown.sending 0 ≡ Some receipt.now.telling.now.least.addr }
     ensures hears { OnOk result (HearsLinks (rule_of settings.now receipt.now.iface) (told_of receipt.now.telling.now) theirs.now receipt.now.own.now
-        settings.now.times.link_hold receipt.now.moment receipt.now.iface receipt.now.hello.now links.old links.new two_hops.old two_hops.new) }
+        settings.now.times.link_hold receipt.now.moment receipt.now.iface receipt.now.hello.now sets.old sets.new) }
     ensures repeats { IfOk result (λ repeats. IsTrue repeats
-        → is_symmetric_in (base_of links.new receipt.now.iface) receipt.now.moment receipt.now.telling.now.least ≡ true
-        → RepeatsRows receipt.now.own.now receipt.now.telling.now.listed (base_of two_hops.old receipt.now.iface)
+        → is_symmetric_in (base_of sets.new.links receipt.now.iface) receipt.now.moment receipt.now.telling.now.least ≡ true
+        → RepeatsRows receipt.now.own.now receipt.now.telling.now.listed (base_of sets.old.two_hops receipt.now.iface)
         receipt.now.telling.now.least receipt.now.hello.now) }
 {
     let alloc = settings.interfaces.allocator();
@@ -121,8 +126,7 @@ fn hear_links<L: Table<LinkKey, Link>, H: PlacedTable<TwoHopKey, TwoHop>>(
         telling.least,
         receipt.hello,
         receipt.own,
-        links,
-        two_hops,
+        sets,
     )
 }
 
@@ -153,21 +157,12 @@ pub fn hear<
     let alloc = settings.interfaces.allocator();
     let until = receipt.moment + settings.times.neighbour_hold;
     let (theirs, before) = spoken_addresses(alloc, &sets.neighbours, receipt.telling)?;
-    let links = sets.links.as_mut_slice();
-    let two_hops = sets.two_hops.as_mut_slice();
-    let repeats = hear_links(settings, receipt, &theirs, links, two_hops)?;
+    let repeats = hear_links(settings, receipt, &theirs, sets)?;
     let neighbour = SendingNeighbour {
         telling: receipt.telling,
         before: &before,
         until,
     };
-    renew_neighbour(
-        alloc,
-        links,
-        receipt.moment,
-        &neighbour,
-        &mut sets.neighbours,
-        &mut sets.losts,
-    )?;
+    renew_neighbour(alloc, receipt.moment, &neighbour, sets)?;
     Ok(repeats)
 }

@@ -8,10 +8,13 @@ ghost use Rattle.mesh_atoms.specs.declared.tuples.TwoHop.{TwoHop};
 ghost use Rattle.mesh_atoms.specs.declared.settings.Interface.{Interface};
 ghost use Rattle.mesh_links.specs.Links.{AdmitsLinks, HearsOn};
 ghost use Rattle.mesh_nhdp.specs.Calls.{TellsKeys};
-ghost use Rattle.mesh_nhdp.specs.Interfaces.{ExpiresOn, HearsAt, CanHearHello};
+ghost use Rattle.mesh_nhdp.specs.Interfaces.{ExpiresOn, HearsAt, CanHearHello, ChangesEach};
 
 use crate::drops::drop_ended;
-use mesh_atoms::{Addr4, Admit, Interface, Link, LinkKey, Shown, TwoHop, TwoHopKey};
+use crate::sets::NeighbourhoodSets;
+use mesh_atoms::{
+    Addr4, Admit, Interface, Link, LinkKey, Lost, Neighbour, Shown, TwoHop, TwoHopKey,
+};
 use mesh_expire::{PlacedTable, Table};
 use mesh_hello::put_table_keys;
 use mesh_links::LinkSet;
@@ -157,20 +160,19 @@ impl<'a, L: Table<LinkKey, Link>, H: PlacedTable<TwoHopKey, TwoHop>> Change<L, H
 }
 
 /// Changes all interfaces.
-pub fn change_all<L: Table<LinkKey, Link>, H: PlacedTable<TwoHopKey, TwoHop>, C: Change<L, H>>(
-    alloc: Global,
-    change: &C,
-    links: &mut [LinkSet<L>],
-    two_hops: &mut [TwoHopSet<H>],
-) -> Result<(), AllocError>
+pub fn change_all<
+    L: Table<LinkKey, Link>,
+    H: PlacedTable<TwoHopKey, TwoHop>,
+    N: Table<Addr4, Neighbour>,
+    O: Table<Addr4, Lost>,
+    C: Change<L, H>,
+>(alloc: Global, change: &C, sets: &mut NeighbourhoodSets<L, H, N, O>) -> Result<(), AllocError>
     requires ready { C.is_ready change.now }
-    requires length { length links.old ≡ length two_hops.old }
-    ensures links { length links.new ≡ length links.old }
-    ensures two_hops { length two_hops.new ≡ length two_hops.old }
-    ensures each { OnOk result ((i : ℕ) → i < length links.old → C.makes change.now i (base_of links.old i) (base_of links.new i) (base_of two_hops.old i) (base_of two_hops.new i)) }
+    requires length { length sets.old.links ≡ length sets.old.two_hops }
+    ensures { OnOk result (ChangesEach (C.makes change.now) sets.old sets.new) }
 {
-    for i in 0..links.len() {
-        change.change(alloc, i, &mut links[i], &mut two_hops[i])?;
+    for i in 0..sets.links.len() {
+        change.change(alloc, i, &mut sets.links[i], &mut sets.two_hops[i])?;
     }
     Ok(())
 }

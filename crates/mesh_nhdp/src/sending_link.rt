@@ -18,11 +18,7 @@ use mesh_nbrs::TwoHopSet;
 use std::alloc::AllocError;
 
 /// Whether the link with that key has exactly these addresses.
-pub fn has_link<L: Table<LinkKey, Link>>(
-    links: &LinkSet<L>,
-    key: LinkKey,
-    addrs: &[Addr4],
-) -> bool
+pub fn has_link<L: Table<LinkKey, Link>>(links: &LinkSet<L>, key: LinkKey, addrs: &[Addr4]) -> bool
     ensures { IsTrue result ↔ ((e : Link × ℕ) × (find link_eq links.now key ≡ Some e) × (e.0.addrs ≡ addrs.now)) }
 {
     match links.table().get(&key) {

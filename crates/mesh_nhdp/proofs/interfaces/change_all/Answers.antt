@@ -1,46 +1,37 @@
-use Rattle.std.proofs.Common.{◌<◌, ◌∙◌, [], length, refl, arith}
-use Rattle.std.proofs.lemmas.List.{get_or_default, length-set}
-use Rattle.mesh_nhdp.proofs.AllHears.{written_other, changed_more}
+use Rattle.std.proofs.Common.{◌≡◌, ◌<◌, ◌∙◌, length, sym, subst, refl, arith}
+use Rattle.std.proofs.lemmas.List.{length-set}
+use Rattle.mesh_atoms.specs.State.{Neighbourhood}
+use Rattle.mesh_nhdp.proofs.AllHears.{is_base, written_other, changed_more}
 use Rattle.mesh_nhdp.proofs.interfaces.change_all.Goals as goal
 
 pub loop-i-init : goal.loop-i-init
-loop-i-init g c = record { links = refl; two_hops = refl; done = λ k lt. absurd (omega (arith, lt)); links_left = λ k past. refl; two_hops_left = λ k past. refl }
-
-pub bounds-links-i : goal.bounds-links-i
-bounds-links-i g c = omega (arith, c.loop-i-test.true, c.loop-i.invariant.links)
+loop-i-init g c = record { neighbours = refl; losts = refl; links = refl; two_hops = refl; done = λ k lt. absurd (omega (arith, lt)); links_left = λ k past. refl; two_hops_left = λ k past. refl }
 
 pub change-requires : goal.change-requires
 change-requires g c = record { ready = c.requires.ready }
 
-pub bounds-two_hops-i : goal.bounds-two_hops-i
-bounds-two_hops-i g c = omega (arith, c.loop-i-test.true, c.loop-i.invariant.two_hops, c.requires.length)
-
-pub returns-in_err-change-clause-links : goal.returns-in_err-change-clause-links
-returns-in_err-change-clause-links g c = length-set c.loop-i.links c.loop-i.i c.change.new.links ∙ c.loop-i.invariant.links
-
-pub returns-in_err-change-clause-two_hops : goal.returns-in_err-change-clause-two_hops
-returns-in_err-change-clause-two_hops g c = length-set c.loop-i.two_hops c.loop-i.i c.change.new.two_hops ∙ c.loop-i.invariant.two_hops
-
 pub loop-i-preserved : goal.loop-i-preserved
 loop-i-preserved g c =
     let old = c.loop-i.invariant in
-    let within : c.loop-i.i < length c.loop-i.links = omega (arith, c.loop-i-test.true, old.links) in
-    let within_too : c.loop-i.i < length c.loop-i.two_hops = omega (arith, c.loop-i-test.true, old.two_hops, c.requires.length) in
+    let i = c.loop-i.i in
+    let links = c.loop-i.sets-inside.links.items in
+    let two_hops = c.loop-i.sets-inside.two_hops.items in
+    let same = subst (λ (n : Neighbourhood). length n.links ≡ length n.two_hops) (sym c.sets.view_is) c.requires.length in
+    let within : i < length links = omega (arith, c.loop-i-test.true, c.len-i-end.ensures, old.links) in
+    let within_too : i < length two_hops = omega (arith, c.loop-i-test.true, c.len-i-end.ensures, old.two_hops, same) in
     record {
-      links = length-set c.loop-i.links c.loop-i.i c.change.new.links ∙ old.links;
-      two_hops = length-set c.loop-i.two_hops c.loop-i.i c.change.new.two_hops ∙ old.two_hops;
-      done = changed_more (g.C.Change.makes c.args.change.now) c.args.links.now c.loop-i.links c.args.two_hops.now c.loop-i.two_hops c.loop-i.i _ c.change.new.links _ c.change.new.two_hops within within_too
-          (get_or_default c.loop-i.links c.loop-i.i [] c.index-links-i.result within) (get_or_default c.loop-i.two_hops c.loop-i.i [] c.index-two_hops-i.result within_too)
+      neighbours = old.neighbours;
+      losts = old.losts;
+      links = length-set links i c.change.new.links ∙ old.links;
+      two_hops = length-set two_hops i c.change.new.two_hops ∙ old.two_hops;
+      done = changed_more (g.C.Change.makes c.args.change.now) c.sets.inside.links.items links c.sets.inside.two_hops.items two_hops i c.index_mut.result.now c.change.new.links c.index_mut-in-loop-i.result.now c.change.new.two_hops
+          within within_too (is_base links i c.index_mut.result.now within c.index_mut.ensures.value) (is_base two_hops i c.index_mut-in-loop-i.result.now within_too c.index_mut-in-loop-i.ensures.value)
           old.links_left old.two_hops_left old.done c.in_ok-change.ensures;
-      links_left = λ k past. written_other c.loop-i.links c.loop-i.i k c.change.new.links (λ e. omega (arith, e, past)) ∙ old.links_left k (omega (arith, past));
-      two_hops_left = λ k past. written_other c.loop-i.two_hops c.loop-i.i k c.change.new.two_hops (λ e. omega (arith, e, past)) ∙ old.two_hops_left k (omega (arith, past));
+      links_left = λ k past. written_other links i k c.change.new.links (λ e. omega (arith, e, past)) ∙ old.links_left k (omega (arith, past));
+      two_hops_left = λ k past. written_other two_hops i k c.change.new.two_hops (λ e. omega (arith, e, past)) ∙ old.two_hops_left k (omega (arith, past));
     }
 
-pub returns-clause-links : goal.returns-clause-links
-returns-clause-links g c = c.loop-i.invariant.links
-
-pub returns-clause-two_hops : goal.returns-clause-two_hops
-returns-clause-two_hops g c = c.loop-i.invariant.two_hops
-
-pub returns-clause-each : goal.returns-clause-each
-returns-clause-each g c = λ i lt. c.loop-i.invariant.done i (omega (arith, lt, c.loop-i-test.false, c.loop-i.invariant.links))
+pub returns : goal.returns
+returns g c =
+    let all = c.loop-i.invariant in
+    rw (← c.sets.view_is) (record { rest = rw (all.neighbours, all.losts) refl; links = all.links; two_hops = all.two_hops; each = λ i lt. all.done i (omega (arith, lt, c.loop-i-test.false, c.len-i-end.ensures)) })

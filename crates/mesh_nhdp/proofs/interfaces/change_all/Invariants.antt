@@ -3,10 +3,15 @@ use Rattle.mesh_atoms.specs.Base.{base_of}
 use Rattle.mesh_nhdp.proofs.interfaces.change_all.Given as goal
 
 abbrev pub invariant-loop-i : goal.invariant-loop-i
-invariant-loop-i g l = record {
-  links : length l.links ≡ length l.initial.links;
-  two_hops : length l.two_hops ≡ length l.initial.two_hops;
-  done : (k : ℕ) → k < l.i → g.C.Change.makes l.change k (base_of l.initial.links k) (base_of l.links k) (base_of l.initial.two_hops k) (base_of l.two_hops k);
-  links_left : (k : ℕ) → l.i ≤ k → base_of l.links k ≡ base_of l.initial.links k;
-  two_hops_left : (k : ℕ) → l.i ≤ k → base_of l.two_hops k ≡ base_of l.initial.two_hops k;
-}
+invariant-loop-i g l =
+    let old = l.initial.sets-inside in
+    let new = l.sets-inside in
+    record {
+      neighbours : new.neighbours ≡ old.neighbours;
+      losts : new.losts ≡ old.losts;
+      links : length new.links.items ≡ length old.links.items;
+      two_hops : length new.two_hops.items ≡ length old.two_hops.items;
+      done : (k : ℕ) → k < l.i → g.C.Change.makes l.change k (base_of old.links.items k) (base_of new.links.items k) (base_of old.two_hops.items k) (base_of new.two_hops.items k);
+      links_left : (k : ℕ) → l.i ≤ k → base_of new.links.items k ≡ base_of old.links.items k;
+      two_hops_left : (k : ℕ) → l.i ≤ k → base_of new.two_hops.items k ≡ base_of old.two_hops.items k;
+    }
