@@ -39,9 +39,8 @@ pub struct HelloReceipt<'a> {
     pub telling: &'a HelloInfo,
 }
 
-/// Takes the HELLO in on all interfaces; `least` is the key of the link that it came over, and `own` has the router's addresses.
-/// Answers true only where that link isn't SYMMETRIC then, or all rows repeat what was held. After an allocation failure the sets may only be
-/// dropped.
+/// Takes the HELLO in on all interfaces. Answers true only where the link that it came over isn't SYMMETRIC then, or all rows repeat what
+/// was held. After an allocation failure the sets may only be dropped.
 fn hear_interfaces<
     L: Table<LinkKey, Link>,
     H: PlacedTable<TwoHopKey, TwoHop>,
@@ -50,21 +49,21 @@ fn hear_interfaces<
 >(
     alloc: Global,
     hearing: &Hearing,
-    least: LinkKey,
-    hello: &Hello,
-    own: &[Addr4],
+    receipt: &HelloReceipt,
     sets: &mut NeighbourhoodSets<L, H, N, O>,
 ) -> Result<bool, AllocError>
     requires ready { CanHearHello hearing.now.moment hearing.now.hold hearing.now.shown.now }
-    requires least { slice_get hearing.now.shown.now.sending 0 ≡ Some least.addr }
+    requires least { slice_get hearing.now.shown.now.sending 0 ≡ Some receipt.now.telling.now.least.addr }
     requires iface { hearing.now.iface < length sets.old.links }
     requires same { length sets.old.links ≡ length sets.old.two_hops }
-    ensures hears { OnOk result (HearsInterfaces hearing.now.rule.now hearing.now.shown.now least hearing.now.theirs.now hearing.now.listed.now hearing.now.keys.now own.now hearing.now.hold hearing.now.moment hearing.now.iface hello.now
+    ensures hears { OnOk result (HearsInterfaces hearing.now.rule.now hearing.now.shown.now receipt.now.telling.now.least hearing.now.theirs.now hearing.now.listed.now hearing.now.keys.now receipt.now.own.now hearing.now.hold hearing.now.moment hearing.now.iface receipt.now.hello.now
         sets.old sets.new) }
     ensures repeats { IfOk result (λ repeats. IsTrue repeats
-        → is_symmetric_in (base_of sets.new.links hearing.now.iface) hearing.now.moment least ≡ true
-        → RepeatsRows own.now hearing.now.listed.now (base_of sets.old.two_hops hearing.now.iface) least hello.now) }
+        → is_symmetric_in (base_of sets.new.links hearing.now.iface) hearing.now.moment receipt.now.telling.now.least ≡ true
+        → RepeatsRows receipt.now.own.now hearing.now.listed.now (base_of sets.old.two_hops hearing.now.iface)
+        receipt.now.telling.now.least receipt.now.hello.now) }
 {
+    let least = receipt.telling.least;
     let sending = hearing.shown.sending.as_slice();
     let stood = has_link(&sets.links[hearing.iface], least, sending);
     change_all(alloc, hearing, sets)?;
@@ -73,8 +72,8 @@ fn hear_interfaces<
     let rows = TwoHopRows {
         link: least,
         until,
-        hello,
-        own,
+        hello: receipt.hello,
+        own: receipt.own,
         listed: hearing.listed,
     };
     update_two_hops(&mut sets.two_hops[hearing.iface], &rows, stood, symmetric)
@@ -120,14 +119,7 @@ fn hear_links<
         listed,
         keys: &keys,
     };
-    hear_interfaces(
-        alloc,
-        &hearing,
-        telling.least,
-        receipt.hello,
-        receipt.own,
-        sets,
-    )
+    hear_interfaces(alloc, &hearing, receipt, sets)
 }
 
 /// Takes in a HELLO that isn't refused and isn't too much. Answers true only where the link that it came over isn't SYMMETRIC then,
