@@ -1,15 +1,12 @@
 -- What is judged of a HELLO.
-use Rattle.std.proofs.Common.{◌≡◌, ℕ, ◌<◌, ◌≤◌, ◌+◌, ◌⊎◌, ◌↔◌, refl, sym, ◌∙◌, subst, arith, List, length, Contains, IsTrue, None, Some}
-use Rattle.std.specs.Prelude.{Bool, true, false}
-use Rattle.std.proofs.lemmas.Bool.{false≢true}
+use Rattle.std.proofs.Common.{◌≡◌, ℕ, ◌<◌, ◌≤◌, ◌+◌, ◌↔◌, refl, sym, subst, arith, List, length, Contains, None, Some}
 use Rattle.mesh_atoms.specs.declared.addr.Addr4.{Addr4}
 use Rattle.mesh_atoms.specs.declared.hello.Hello.{Hello}
 use Rattle.mesh_atoms.specs.declared.settings.RouterSettings.{RouterSettings}
 use Rattle.mesh_atoms.specs.Base.{base_of}
 use Rattle.mesh_atoms.specs.State.{Neighbourhood, HasAddress}
 use Rattle.mesh_atoms.specs.HelloTold.{Told, Tells}
-use Rattle.mesh_atoms.specs.TakesHello.{IsFault, IsFullOfAddresses, IsFullOfTwoHops, FitsTwoHops, AreTwoHopRows, IsHeld, HelloAnswer, TakesHello, Full_of_addresses, Full_of_two_hops, Overfull, Overfull_two_hops}
-use Rattle.mesh_atoms.specs.Words.{AreMoreThan}
+use Rattle.mesh_atoms.specs.TakesHello.{IsFault, IsFullOfAddresses, IsFullOfTwoHops, FitsTwoHops, AreTwoHopRows, HelloAnswer, TakesHello, Full_of_addresses, Full_of_two_hops, Overfull, Overfull_two_hops}
 use Rattle.mesh_atoms.specs.declared.tuples.Base.{Base}
 use Rattle.mesh_atoms.specs.declared.tuples.Base.TheVariants.{Neighbours, TwoHops}
 use Rattle.mesh_atoms.specs.AfterHello.{AfterHello}
@@ -22,21 +19,6 @@ use Rattle.mesh_nhdp.proofs.HelloSound.{hello_sound}
 -- the router's addresses, said of equal settings and of an equal list
 pub own_at : (settings : RouterSettings) (xs ys : List Addr4) → ys ≡ xs → ((a : Addr4) → Contains xs a ↔ HasAddress settings a) → (a : Addr4) → Contains ys a ↔ HasAddress settings a
 own_at settings xs ys is own = subst (λ (zs : List Addr4). (a : Addr4) → Contains zs a ↔ HasAddress settings a) (sym is) own
-
-module _ (near : Neighbourhood) (told : Told) (listed : List Addr4) (is : listed ≡ told.listed) (full : Bool)
-    (says : IsTrue full ↔ AreMoreThan 1024 (λ a. IsHeld near a ⊎ (Contains listed a ⊎ (a ≡ told.originator)))) where
-  Says : List Addr4 → Type 0
-  Says xs = IsTrue full ↔ AreMoreThan 1024 (λ a. IsHeld near a ⊎ (Contains xs a ⊎ (a ≡ told.originator)))
-
-  said : IsTrue full ↔ IsFullOfAddresses near told
-  unfolding Says
-  said = subst (λ (xs : List Addr4). Says xs) is says
-
-  pub is_full : full ≡ true → IsFullOfAddresses near told
-  is_full h = said.0 h
-
-  pub is_not_full : full ≡ false → IsFullOfAddresses near told → ⊥
-  is_not_full h more = false≢true (sym h ∙ said.1 more)
 
 -- by the count of the rows and of the tuples that stand
 pub overfills : (settings : RouterSettings) (i : ℕ) (near : Neighbourhood) (told : Told) (hello : Hello) (count held : ℕ) → AreTwoHopRows settings told hello count → held ≡ length (base_of near.two_hops i) → held ≤ 16384 →

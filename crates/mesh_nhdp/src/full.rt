@@ -1,14 +1,14 @@
 //! Whether the addresses are too many (RFC 6130, section 12).
-ghost use Rattle.std.specs.Prelude.{◌≡◌, ◌↔◌, ◌⊎◌, ◌++◌, ◌∷◌, [], Contains, IsTrue, IfOk, OnOk};
+ghost use Rattle.std.specs.Prelude.{◌≡◌, ◌↔◌, ◌++◌, ◌∷◌, [], IsTrue, IfOk, OnOk};
 ghost use Rattle.std.specs.Map.{keys_of};
-ghost use Rattle.mesh_atoms.specs.State.{Neighbourhood};
-ghost use Rattle.mesh_atoms.specs.TakesHello.{IsHeld};
-ghost use Rattle.mesh_atoms.specs.Words.{AreMoreThan};
+ghost use Rattle.mesh_atoms.specs.TakesHello.{IsFullOfAddresses};
+ghost use Rattle.mesh_hello.specs.Told.Telling.{told_of};
 
 use crate::near_addresses::{WantedNeighbours, wanted_addresses};
-use mesh_atoms::{Addr4, Lost, Neighbour};
-use mesh_expire::Table;
-use mesh_hello::{ascending, put_table_keys};
+use crate::sets::NeighbourhoodSets;
+use mesh_atoms::{Addr4, Link, LinkKey, Lost, Neighbour, TwoHop, TwoHopKey};
+use mesh_expire::{PlacedTable, Table};
+use mesh_hello::{HelloInfo, ascending, put_table_keys};
 use mesh_nbrs::{LostSet, NeighbourSet};
 use std::alloc::{AllocError, Global};
 
@@ -16,16 +16,17 @@ use std::alloc::{AllocError, Global};
 const MOST_ADDRESSES: usize = 1024;
 
 /// Whether these are at most 1,024 even where no two of them are one. Takes no memory.
-fn are_few<N: Table<Addr4, Neighbour>, O: Table<Addr4, Lost>>(
-    neighbours: &NeighbourSet<N>,
-    losts: &LostSet<O>,
-    listed: &[Addr4],
-) -> bool
-    ensures { IsTrue result → (near : Neighbourhood) (originator : _) → near.neighbours ≡ neighbours.now → near.losts ≡ losts.now
-        → AreMoreThan 1024 (λ a. IsHeld near a ⊎ (Contains listed.now a ⊎ (a ≡ originator))) → ⊥ }
+fn are_few<
+    L: Table<LinkKey, Link>,
+    H: PlacedTable<TwoHopKey, TwoHop>,
+    N: Table<Addr4, Neighbour>,
+    O: Table<Addr4, Lost>,
+>(sets: &NeighbourhoodSets<L, H, N, O>, telling: &HelloInfo) -> bool
+    ensures { IsTrue result → IsFullOfAddresses sets.now (told_of telling.now) → ⊥ }
 {
+    let neighbours = &sets.neighbours;
     let (count, addrs) = (neighbours.table().len(), neighbours.address_count());
-    let (lost, told) = (losts.table().len(), listed.len());
+    let (lost, told) = (sets.losts.table().len(), telling.listed.len());
     if count >= MOST_ADDRESSES
         || addrs >= MOST_ADDRESSES
         || lost >= MOST_ADDRESSES
@@ -54,18 +55,28 @@ fn put_known<N: Table<Addr4, Neighbour>, O: Table<Addr4, Lost>>(
 }
 
 /// The same as `is_full_of_addresses`, by a count of the different ones.
-fn are_many<N: Table<Addr4, Neighbour>, O: Table<Addr4, Lost>>(
+fn are_many<
+    L: Table<LinkKey, Link>,
+    H: PlacedTable<TwoHopKey, TwoHop>,
+    N: Table<Addr4, Neighbour>,
+    O: Table<Addr4, Lost>,
+>(
     alloc: Global,
-    neighbours: &NeighbourSet<N>,
-    losts: &LostSet<O>,
-    originator: Addr4,
-    listed: &[Addr4],
+    sets: &NeighbourhoodSets<L, H, N, O>,
+    telling: &HelloInfo,
 ) -> Result<bool, AllocError>
-    ensures { IfOk result (λ full. (near : Neighbourhood) → near.neighbours ≡ neighbours.now → near.losts ≡ losts.now
-        → IsTrue full ↔ AreMoreThan 1024 (λ a. IsHeld near a ⊎ (Contains listed.now a ⊎ (a ≡ originator)))) }
+    ensures { IfOk result (λ full. IsTrue full ↔ IsFullOfAddresses sets.now (told_of telling.now)) }
 {
+    let neighbours = &sets.neighbours;
+    let listed = telling.listed.as_slice();
     let mut addrs = wanted_addresses(alloc, neighbours.table(), WantedNeighbours::Each)?;
-    put_known(&mut addrs, neighbours, losts, originator, listed)?;
+    put_known(
+        &mut addrs,
+        neighbours,
+        &sets.losts,
+        telling.originator,
+        listed,
+    )?;
     let held = ascending(addrs);
     let count = held.len();
     Ok(count > MOST_ADDRESSES)
@@ -73,19 +84,21 @@ fn are_many<N: Table<Addr4, Neighbour>, O: Table<Addr4, Lost>>(
 
 /// Whether more than 1,024 addresses and originators are held with those that a HELLO tells of. Gathers them and counts the
 /// different ones only where all may be so many; else it looks at the counts alone.
-pub fn is_full_of_addresses<N: Table<Addr4, Neighbour>, O: Table<Addr4, Lost>>(
+pub fn is_full_of_addresses<
+    L: Table<LinkKey, Link>,
+    H: PlacedTable<TwoHopKey, TwoHop>,
+    N: Table<Addr4, Neighbour>,
+    O: Table<Addr4, Lost>,
+>(
     alloc: Global,
-    neighbours: &NeighbourSet<N>,
-    losts: &LostSet<O>,
-    originator: Addr4,
-    listed: &[Addr4],
+    sets: &NeighbourhoodSets<L, H, N, O>,
+    telling: &HelloInfo,
 ) -> Result<bool, AllocError>
-    ensures { IfOk result (λ full. (near : Neighbourhood) → near.neighbours ≡ neighbours.now → near.losts ≡ losts.now
-        → IsTrue full ↔ AreMoreThan 1024 (λ a. IsHeld near a ⊎ (Contains listed.now a ⊎ (a ≡ originator)))) }
+    ensures { IfOk result (λ full. IsTrue full ↔ IsFullOfAddresses sets.now (told_of telling.now)) }
 {
-    if are_few(neighbours, losts, listed) {
+    if are_few(sets, telling) {
         Ok(false)
     } else {
-        are_many(alloc, neighbours, losts, originator, listed)
+        are_many(alloc, sets, telling)
     }
 }

@@ -56,8 +56,7 @@ fn base_to_fill<
 {
     let alloc = telling.listed.allocator();
     let listed = telling.listed.as_slice();
-    let originator = telling.originator;
-    if is_full_of_addresses(alloc, &sets.neighbours, &sets.losts, originator, listed)? {
+    if is_full_of_addresses(alloc, sets, telling)? {
         return Ok(Some(Base::Neighbours));
     }
     let room = MOST_TUPLES - sets.two_hop_count(iface);

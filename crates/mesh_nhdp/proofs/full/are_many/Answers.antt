@@ -1,10 +1,10 @@
-use Rattle.std.proofs.Common.{◌≡◌, ℕ, ◌↔◌, ◌⊎◌, ◌∙◌, refl, ap, sym, subst, Contains, IsTrue}
+use Rattle.std.proofs.Common.{◌≡◌, ℕ, ◌↔◌, ◌⊎◌, ◌++◌, ◌∷◌, [], List, refl, sym, subst, Contains, IsTrue}
 use Rattle.std.specs.Prelude.{nat_lt}
 use Rattle.std.specs.Map.{keys_of}
 use Rattle.mesh_atoms.specs.declared.addr.Addr4.{Addr4}
 use Rattle.mesh_atoms.specs.declared.tuples.Neighbour.{Neighbour}
-use Rattle.mesh_atoms.specs.declared.tuples.Lost.{Lost}
 use Rattle.mesh_atoms.specs.Base.{Base}
+use Rattle.mesh_atoms.specs.State.{Neighbourhood}
 use Rattle.mesh_atoms.specs.TakesHello.{IsHeld}
 use Rattle.mesh_atoms.specs.Words.{AreMoreThan}
 use Rattle.mesh_nhdp.specs.declared.near_addresses.WantedNeighbours.TheVariants.{Each}
@@ -15,10 +15,12 @@ use Rattle.mesh_nhdp.proofs.HeldAddresses.{held_addresses}
 use Rattle.mesh_nhdp.proofs.full.are_many.Goals as goal
 
 pub returns : goal.returns
-returns g c near is_neighbours is_losts =
-    let P : Addr4 → Type 0 = λ a. IsHeld near a ⊎ (Contains c.args.listed.now a ⊎ (a ≡ c.args.originator)) in
-    subst (λ (n : ℕ). IsTrue (nat_lt 1024 n) ↔ AreMoreThan 1024 P) (sym c.len-count.ensures)
+returns g c =
+    let telling = c.args.telling.now in
+    let near : Neighbourhood = record { links = c.sets.inside.links.items; two_hops = c.sets.inside.two_hops.items; neighbours = c.sets.inside.neighbours; losts = c.sets.inside.losts } in
+    let P : Addr4 → Type 0 = λ a. IsHeld near a ⊎ (Contains telling.listed a ⊎ (a ≡ telling.originator)) in
+    rw (← c.sets.view_is) (subst (λ (n : ℕ). IsTrue (nat_lt 1024 n) ↔ AreMoreThan 1024 P) (sym c.len-count.ensures)
     (are_more 1024 P c.ascending-held.result c.ascending-held.ensures.order (λ a. iff_on (c.ascending-held.ensures.same a)
-    (held_addresses near c.args.listed.now c.args.originator c.in_ok-addrs.addrs.items _ _ _ _ _ _
-    (subst (λ (b : Base Addr4 Neighbour). (x : Addr4) → Contains c.in_ok-addrs.addrs.items x ↔ IsWantedAddress b Each x) (c.table.ensures.content ∙ sym is_neighbours) c.in_ok-addrs.ensures)
-    (ap (λ (b : Base Addr4 Neighbour). keys_of b) (sym is_neighbours)) (ap (λ (b : Base Addr4 Lost). keys_of b) (sym is_losts)) refl refl refl c.in_ok-put_known.ensures a)))
+    (held_addresses near telling.listed telling.originator c.in_ok-addrs.addrs.items _ _ _ _ _ _
+    (subst (λ (b : Base Addr4 Neighbour). (x : Addr4) → Contains c.in_ok-addrs.addrs.items x ↔ IsWantedAddress b Each x) c.table.ensures.content c.in_ok-addrs.ensures)
+    refl refl refl refl refl (subst (λ (listed : List Addr4). c.put_known.new.addrs.items ≡ (((c.in_ok-addrs.addrs.items ++ keys_of near.neighbours) ++ keys_of near.losts) ++ listed) ++ telling.originator ∷ []) c.as_slice-listed.ensures c.in_ok-put_known.ensures) a))))

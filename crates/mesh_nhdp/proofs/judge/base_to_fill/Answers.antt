@@ -1,15 +1,12 @@
-use Rattle.std.proofs.Common.{◌<◌, ◌≤◌, ◌+◌, ◌-◌, sym, ap, length, arith}
+use Rattle.std.proofs.Common.{◌<◌, ◌≤◌, ◌+◌, ◌-◌, sym, length, arith}
 use Rattle.mesh_hello.specs.Told.Telling.{told_of}
-use Rattle.mesh_atoms.specs.State.{Neighbourhood}
 use Rattle.mesh_nhdp.proofs.FewRows.{few_rows}
-use Rattle.mesh_nhdp.proofs.Judges.{is_full, is_not_full, overfills, fits}
+use Rattle.std.proofs.lemmas.Bool.{iff_false}
+use Rattle.mesh_nhdp.proofs.Judges.{overfills, fits}
 use Rattle.mesh_nhdp.proofs.judge.base_to_fill.Goals as goal
 
 pub returns-then-branch : goal.returns-then-branch
-returns-then-branch g c settings own =
-    let near = c.args.sets.now in
-    let full = c.in_ok-is_full_of_addresses.ensures near (ap (λ (n : Neighbourhood). n.neighbours) (sym c.sets.view_is)) (ap (λ (n : Neighbourhood). n.losts) (sym c.sets.view_is)) in
-    is_full near (told_of c.args.telling.now) c.as_slice-listed.result.now c.as_slice-listed.ensures _ full c.if-branch.true
+returns-then-branch g c settings own = c.in_ok-is_full_of_addresses.ensures.0 c.if-branch.true
 
 pub overflow_sub-room : goal.overflow_sub-room
 overflow_sub-room g c = omega (arith, c.two_hop_count-room.ensures, c.requires)
@@ -17,22 +14,20 @@ overflow_sub-room g c = omega (arith, c.two_hop_count-room.ensures, c.requires)
 pub returns-then-len-room : goal.returns-then-len-room
 returns-then-len-room g c settings own =
     let near = c.args.sets.now in
-    let full = c.in_ok-is_full_of_addresses.ensures near (ap (λ (n : Neighbourhood). n.neighbours) (sym c.sets.view_is)) (ap (λ (n : Neighbourhood). n.losts) (sym c.sets.view_is)) in
     let (count, most, rows) = few_rows settings (told_of c.args.telling.now) c.args.hello.now c.args.own.now c.as_slice-listed.result.now own (sym c.as_slice-listed.ensures) in
     let few : c.two_hop_count-room.result ≤ 16384 = omega (arith, c.two_hop_count-room.ensures, c.requires) in
     let all : length c.args.hello.now.rows ≤ 16384 - c.two_hop_count-room.result = omega (arith, c.len.ensures, c.if-len-room.true) in
     let room : c.two_hop_count-room.result + count ≤ 16384 = omega (arith, few, most, all) in (
-      is_not_full near (told_of c.args.telling.now) c.as_slice-listed.result.now c.as_slice-listed.ensures _ full c.if-branch.false,
+      iff_false c.in_ok-is_full_of_addresses.ensures c.if-branch.false,
       fits settings c.args.iface near (told_of c.args.telling.now) c.args.hello.now count c.two_hop_count-room.result rows c.two_hop_count-room.ensures room,
     )
 
 pub returns-then-count-room : goal.returns-then-count-room
 returns-then-count-room g c settings own =
     let near = c.args.sets.now in
-    let full = c.in_ok-is_full_of_addresses.ensures near (ap (λ (n : Neighbourhood). n.neighbours) (sym c.sets.view_is)) (ap (λ (n : Neighbourhood). n.losts) (sym c.sets.view_is)) in
     let few : c.two_hop_count-room.result ≤ 16384 = omega (arith, c.two_hop_count-room.ensures, c.requires) in
     let more : 16384 < c.two_hop_count-room.result + c.in_ok-count.count = omega (arith, few, c.if-count-room.true) in (
-      is_not_full near (told_of c.args.telling.now) c.as_slice-listed.result.now c.as_slice-listed.ensures _ full c.if-branch.false,
+      iff_false c.in_ok-is_full_of_addresses.ensures c.if-branch.false,
       overfills settings c.args.iface near (told_of c.args.telling.now) c.args.hello.now c.in_ok-count.count c.two_hop_count-room.result (c.in_ok-count.ensures settings (told_of c.args.telling.now) own (sym c.as_slice-listed.ensures))
           c.two_hop_count-room.ensures few more,
     )
@@ -40,10 +35,9 @@ returns-then-count-room g c settings own =
 pub returns-else-count-room : goal.returns-else-count-room
 returns-else-count-room g c settings own =
     let near = c.args.sets.now in
-    let full = c.in_ok-is_full_of_addresses.ensures near (ap (λ (n : Neighbourhood). n.neighbours) (sym c.sets.view_is)) (ap (λ (n : Neighbourhood). n.losts) (sym c.sets.view_is)) in
     let few : c.two_hop_count-room.result ≤ 16384 = omega (arith, c.two_hop_count-room.ensures, c.requires) in
     let room : c.two_hop_count-room.result + c.in_ok-count.count ≤ 16384 = omega (arith, few, c.if-count-room.false) in (
-      is_not_full near (told_of c.args.telling.now) c.as_slice-listed.result.now c.as_slice-listed.ensures _ full c.if-branch.false,
+      iff_false c.in_ok-is_full_of_addresses.ensures c.if-branch.false,
       fits settings c.args.iface near (told_of c.args.telling.now) c.args.hello.now c.in_ok-count.count c.two_hop_count-room.result (c.in_ok-count.ensures settings (told_of c.args.telling.now) own (sym c.as_slice-listed.ensures))
           c.two_hop_count-room.ensures room,
     )
