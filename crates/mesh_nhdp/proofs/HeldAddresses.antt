@@ -1,5 +1,5 @@
 -- The addresses that a router holds, with those that a HELLO tells of.
-use Rattle.std.proofs.Common.{◌≡◌, ℕ, ◌+◌, ◌≤◌, ◌⊎◌, ◌↔◌, inl, inr, refl, sym, ◌∙◌, ap, subst, arith, List, [], ◌∷◌, ◌++◌, length, length-append, Contains, Some}
+use Rattle.std.proofs.Common.{◌≡◌, ℕ, ◌+◌, ◌≤◌, ◌⊎◌, ◌↔◌, inl, inr, sym, ◌∙◌, ap, subst, arith, List, [], ◌∷◌, ◌++◌, length, length-append, Contains, Some}
 use Rattle.std.specs.Prelude.{option_map}
 use Rattle.std.specs.Map.{keys_of}
 use Rattle.std.proofs.lemmas.Option.{slice_get-map}
@@ -30,50 +30,41 @@ keys_found {V} base a = (
       contains_at (keys_of base) k a (slice_get-map (λ (x : Addr4 × (V × ℕ)). x.0) base k ∙ (ap (option_map (λ (x : Addr4 × (V × ℕ)). x.0)) at ∙ ap (λ (x : Addr4). Some x) (sym (same_addr a key test)))),
 )
 
-joined : (all xs ys : List Addr4) → all ≡ xs ++ ys → (a : Addr4) → Contains all a ↔ (Contains xs a ⊎ Contains ys a)
-joined all xs ys is a = (
-  λ c. Contains-append_cases xs ys a (subst (λ (zs : List Addr4). Contains zs a) is c),
-  λ h. subst (λ (zs : List Addr4). Contains zs a) (sym is) (elim h [ inl c ↦ Contains-append_left xs ys a c | inr c ↦ Contains-append_right xs ys a c ]),
-)
+-- addresses of neighbours, with the originators and the lost addresses
+abbrev gathered : Neighbourhood → List Addr4 → List Addr4
+gathered near wanted = (wanted ++ keys_of near.neighbours) ++ keys_of near.losts
 
-pub held_addresses : (near : Neighbourhood) (listed : List Addr4) (originator : Addr4) (wanted originators losts one two three four : List Addr4) → ((a : Addr4) → Contains wanted a ↔ IsWantedAddress near.neighbours Each a) →
-    originators ≡ keys_of near.neighbours → losts ≡ keys_of near.losts → one ≡ wanted ++ originators → two ≡ one ++ losts → three ≡ two ++ listed → four ≡ three ++ originator ∷ [] →
-    (a : Addr4) → Contains four a ↔ IsKnown near listed originator a
-held_addresses near listed originator wanted originators losts one two three four wanted_is originators_is losts_is is_one is_two is_three is_four a = (to, from)
+pub held_addresses : (near : Neighbourhood) (listed : List Addr4) (originator : Addr4) (wanted : List Addr4) → ((a : Addr4) → Contains wanted a ↔ IsWantedAddress near.neighbours Each a) →
+    (a : Addr4) → Contains ((gathered near wanted ++ listed) ++ originator ∷ []) a ↔ IsKnown near listed originator a
+held_addresses near listed originator wanted wanted_is a = (to, from)
   where
-    keys : Contains originators a → (n : Neighbour × ℕ) × (find addr_eq near.neighbours a ≡ Some n)
-    keys c = (keys_found near.neighbours a).0 (subst (λ (xs : List Addr4). Contains xs a) originators_is c)
-
-    to : Contains four a → IsKnown near listed originator a
-    to c = elim (Contains-push_cases three originator a (subst (λ (zs : List Addr4). Contains zs a) is_four c)) [
+    to : Contains ((gathered near wanted ++ listed) ++ originator ∷ []) a → IsKnown near listed originator a
+    to c = elim (Contains-push_cases (gathered near wanted ++ listed) originator a c) [
       | inr same ↦ inr (inr (sym same))
-      | inl c3 ↦ elim ((joined three two listed is_three a).0 c3) [
+      | inl told ↦ elim (Contains-append_cases (gathered near wanted) listed a told) [
         | inr has ↦ inr (inl has)
-        | inl c2 ↦ elim ((joined two one losts is_two a).0 c2) [
-          | inr lost ↦ inl (inr (inr ((keys_found near.losts a).0 (subst (λ (xs : List Addr4). Contains xs a) losts_is lost))))
-          | inl c1 ↦ elim ((joined one wanted originators is_one a).0 c1) [
+        | inl held ↦ elim (Contains-append_cases (wanted ++ keys_of near.neighbours) (keys_of near.losts) a held) [
+          | inr lost ↦ inl (inr (inr ((keys_found near.losts a).0 lost)))
+          | inl first ↦ elim (Contains-append_cases wanted (keys_of near.neighbours) a first) [
             | inl w ↦ let (o, n, until, is, any, has) = (wanted_is a).0 w in inl (inr (inl (o, n, until, is, has)))
-            | inr k ↦ inl (inl (keys k))
+            | inr key ↦ inl (inl ((keys_found near.neighbours a).0 key))
           ]
         ]
       ]
     ]
 
-    in_three : Contains three a → Contains four a
-    in_three c = subst (λ (zs : List Addr4). Contains zs a) (sym is_four) (Contains-append_left three (originator ∷ []) a c)
+    in_all : Contains (gathered near wanted) a → Contains ((gathered near wanted ++ listed) ++ originator ∷ []) a
+    in_all c = Contains-append_left (gathered near wanted ++ listed) (originator ∷ []) a (Contains-append_left (gathered near wanted) listed a c)
 
-    in_two : Contains two a → Contains four a
-    in_two c = in_three ((joined three two listed is_three a).1 (inl c))
+    of_neighbours : Contains (wanted ++ keys_of near.neighbours) a → Contains ((gathered near wanted ++ listed) ++ originator ∷ []) a
+    of_neighbours c = in_all (Contains-append_left (wanted ++ keys_of near.neighbours) (keys_of near.losts) a c)
 
-    in_one : Contains one a → Contains four a
-    in_one c = in_two ((joined two one losts is_two a).1 (inl c))
-
-    from : IsKnown near listed originator a → Contains four a
-    from (inl (inl held)) = in_one ((joined one wanted originators is_one a).1 (inr (subst (λ (xs : List Addr4). Contains xs a) (sym originators_is) ((keys_found near.neighbours a).1 held))))
-    from (inl (inr (inl held))) = let (o, n, until, is, has) = held in in_one ((joined one wanted originators is_one a).1 (inl ((wanted_is a).1 (o, n, until, is, tt, has))))
-    from (inl (inr (inr held))) = in_two ((joined two one losts is_two a).1 (inr (subst (λ (xs : List Addr4). Contains xs a) (sym losts_is) ((keys_found near.losts a).1 held))))
-    from (inr (inl has)) = in_three ((joined three two listed is_three a).1 (inr has))
-    from (inr (inr same)) = subst (λ (zs : List Addr4). Contains zs a) (sym is_four) (subst (λ (b : Addr4). Contains (three ++ originator ∷ []) b) (sym same) (Contains-push three originator))
+    from : IsKnown near listed originator a → Contains ((gathered near wanted ++ listed) ++ originator ∷ []) a
+    from (inl (inl held)) = of_neighbours (Contains-append_right wanted (keys_of near.neighbours) a ((keys_found near.neighbours a).1 held))
+    from (inl (inr (inl held))) = let (o, n, until, is, has) = held in of_neighbours (Contains-append_left wanted (keys_of near.neighbours) a ((wanted_is a).1 (o, n, until, is, tt, has)))
+    from (inl (inr (inr held))) = in_all (Contains-append_right (wanted ++ keys_of near.neighbours) (keys_of near.losts) a ((keys_found near.losts a).1 held))
+    from (inr (inl has)) = Contains-append_left (gathered near wanted ++ listed) (originator ∷ []) a (Contains-append_right (gathered near wanted) listed a has)
+    from (inr (inr same)) = subst (λ (b : Addr4). Contains ((gathered near wanted ++ listed) ++ originator ∷ []) b) (sym same) (Contains-push (gathered near wanted ++ listed) originator)
 
 -- where all that is held and told is few, each as often as it stands somewhere, the different ones are no more than so many
 pub few_held : (near : Neighbourhood) (listed : List Addr4) (originator : Addr4) (theirs : List Addr4) →
@@ -84,7 +75,7 @@ few_held near listed originator theirs are few (some, different, all, many) =
     let two = one ++ keys_of near.losts in
     let three = two ++ listed in
     let whole = three ++ originator ∷ [] in
-    let fits = distinct_fits addr_equiv same_addr some whole different (λ a c. (held_addresses near listed originator theirs (keys_of near.neighbours) (keys_of near.losts) one two three whole wanted refl refl refl refl refl refl a).1 (all a c)) in
+    let fits = distinct_fits addr_equiv same_addr some whole different (λ a c. (held_addresses near listed originator theirs wanted a).1 (all a c)) in
     let last : length whole ≡ length three + 1 = length-append three (originator ∷ []) in
     absurd (omega (arith, fits, few, many, last, length-append two listed, length-append one (keys_of near.losts), length-append theirs (keys_of near.neighbours), length-keys_of near.neighbours, length-keys_of near.losts))
   where

@@ -12,8 +12,8 @@ use Rattle.mesh_nhdp.specs.declared.near_addresses.WantedNeighbours.TheVariants.
 use Rattle.mesh_nhdp.specs.Calls.{TellsLinks, TellsLinksOf}
 use Rattle.mesh_nhdp.specs.Wanted.{IsWantedAddress, symmetric_at}
 
--- neighbours are as the links have them, and an address that was a symmetric neighbour's, and is none's now, is lost
--- (RFC 6130, sections 12.4 and 13)
+-- neighbours are as the links have them, and an address that was a symmetric neighbour's, and is none's now, is lost (RFC 6130, sections
+-- 12.4 and 13); links and 2-hop tuples stay
 pub record FollowsLinks (now : ℕ) (before : List Addr4) (until : ℕ) (old new : Neighbourhood) : Type 0 where
   pub rest : new ≡ record old { neighbours = new.neighbours; losts = new.losts }
   pub distinct : HasDistinctKeys addr_eq new.neighbours
@@ -26,7 +26,7 @@ pub record FollowsLinks (now : ℕ) (before : List Addr4) (until : ℕ) (old new
   pub losts : SettlesAll before after until old.losts new.losts
 
 -- the neighbour with the originator, which has these addresses, is as the links have it, and all others are as they were; an address
--- that was a symmetric neighbour's, and isn't this one's now, is lost
+-- that was a symmetric neighbour's, and isn't this one's now, is lost; links and 2-hop tuples stay
 pub record FollowsLinksOf (now : ℕ) (originator : Addr4) (addrs before : List Addr4) (until : ℕ) (old new : Neighbourhood) : Type 0 where
   pub rest : new ≡ record old { neighbours = new.neighbours; losts = new.losts }
   pub distinct : HasDistinctKeys addr_eq new.neighbours

@@ -28,7 +28,7 @@ pub record UpdatesTwoHops (stood symmetric : Bool) (own listed : List Addr4) (he
       TellsTwoHops settings told hello link until started new
   pub no_rows : symmetric ≡ false → new ≡ started
 
--- each interface hears the HELLO, and then the tuples of its link are brought up to date
+-- each interface hears the HELLO, and then the tuples of its link are brought up to date; neighbours and lost addresses stay
 pub record HearsInterfaces (rule : Admit) (shown : Shown) (least : LinkKey) (theirs listed : List Addr4) (keys : List LinkKey) (own : List Addr4) (hold now i : ℕ) (hello : Hello)
     (old new : Neighbourhood) : Type 0 where
   pub rest : new ≡ record old { links = new.links; two_hops = new.two_hops }

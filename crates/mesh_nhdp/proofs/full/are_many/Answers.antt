@@ -1,6 +1,5 @@
-use Rattle.std.proofs.Common.{◌≡◌, ℕ, ◌↔◌, ◌⊎◌, ◌++◌, ◌∷◌, [], List, refl, sym, subst, Contains, IsTrue}
+use Rattle.std.proofs.Common.{◌≡◌, ℕ, ◌↔◌, ◌⊎◌, sym, subst, Contains, IsTrue}
 use Rattle.std.specs.Prelude.{nat_lt}
-use Rattle.std.specs.Map.{keys_of}
 use Rattle.mesh_atoms.specs.declared.addr.Addr4.{Addr4}
 use Rattle.mesh_atoms.specs.declared.tuples.Neighbour.{Neighbour}
 use Rattle.mesh_atoms.specs.Base.{Base}
@@ -21,6 +20,5 @@ returns g c =
     let P : Addr4 → Type 0 = λ a. IsHeld near a ⊎ (Contains telling.listed a ⊎ (a ≡ telling.originator)) in
     rw (← c.sets.view_is) (subst (λ (n : ℕ). IsTrue (nat_lt 1024 n) ↔ AreMoreThan 1024 P) (sym c.len-count.ensures)
     (are_more 1024 P c.ascending-held.result c.ascending-held.ensures.order (λ a. iff_on (c.ascending-held.ensures.same a)
-    (held_addresses near telling.listed telling.originator c.in_ok-addrs.addrs.items _ _ _ _ _ _
-    (subst (λ (b : Base Addr4 Neighbour). (x : Addr4) → Contains c.in_ok-addrs.addrs.items x ↔ IsWantedAddress b Each x) c.table.ensures.content c.in_ok-addrs.ensures)
-    refl refl refl refl refl (subst (λ (listed : List Addr4). c.put_known.new.addrs.items ≡ (((c.in_ok-addrs.addrs.items ++ keys_of near.neighbours) ++ keys_of near.losts) ++ listed) ++ telling.originator ∷ []) c.as_slice-listed.ensures c.in_ok-put_known.ensures) a))))
+    (rw (c.in_ok-put_known.ensures, c.as_slice-listed.ensures) (held_addresses near telling.listed telling.originator c.in_ok-addrs.addrs.items
+    (subst (λ (b : Base Addr4 Neighbour). (x : Addr4) → Contains c.in_ok-addrs.addrs.items x ↔ IsWantedAddress b Each x) c.table.ensures.content c.in_ok-addrs.ensures) a)))))
