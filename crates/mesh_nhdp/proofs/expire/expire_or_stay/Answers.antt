@@ -2,12 +2,6 @@ use Rattle.std.proofs.lemmas.Bool.{false≢true, iff_false}
 use Rattle.mesh_nhdp.proofs.Unchanged.{as_it_was, beside_live, beside_sound}
 use Rattle.mesh_nhdp.proofs.expire.expire_or_stay.Goals as goal
 
-pub are_links_unchanged-requires-clause-now : goal.are_links_unchanged-requires-clause-now
-are_links_unchanged-requires-clause-now g c = c.requires.now
-
-pub are_links_unchanged-requires-clause-same : goal.are_links_unchanged-requires-clause-same
-are_links_unchanged-requires-clause-same g c = c.requires.sound.interfaces
-
 pub returns-then-are_links_unchanged : goal.returns-then-are_links_unchanged
 returns-then-are_links_unchanged g c =
     let settings = c.args.settings.now in
@@ -21,9 +15,6 @@ returns-then-are_links_unchanged g c =
       same = c.expire_beside.ensures.unchanged;
       when = as_it_was settings c.args.last c.args.now same before after c.requires.sound stay c.expire_beside.ensures;
     }
-
-pub expire_all-requires-clause-now : goal.expire_all-requires-clause-now
-expire_all-requires-clause-now g c = c.requires.now
 
 pub expire_all-requires-clause-sound : goal.expire_all-requires-clause-sound
 expire_all-requires-clause-sound g c = (c.args.last, c.requires.sound)

@@ -12,15 +12,6 @@ use Rattle.mesh_nhdp.proofs.hearing.hear.Goals as goal
 pub overflow_add-until : goal.overflow_add-until
 overflow_add-until g c = let most = c.args.settings.now.times.sound.neighbour_hold_range.most in omega (arith, c.requires.ready.now_range, most)
 
-pub hear_links-requires-clause-iface : goal.hear_links-requires-clause-iface
-hear_links-requires-clause-iface g c = c.requires.ready.is_interface
-
-pub hear_links-requires-clause-links : goal.hear_links-requires-clause-links
-hear_links-requires-clause-links g c = c.requires.sound.interfaces
-
-pub hear_links-requires-clause-two_hops : goal.hear_links-requires-clause-two_hops
-hear_links-requires-clause-two_hops g c = c.requires.sound.two_hop_interfaces
-
 pub hear_links-requires-clause-ready : goal.hear_links-requires-clause-ready
 hear_links-requires-clause-ready g c =
     let (sender, told, fault) = c.requires.told in

@@ -15,12 +15,6 @@ use Rattle.mesh_atoms.proofs.Options.{if_ok_weaker as if_ok}
 pub index-requires : goal.index-requires
 index-requires g c = let within = subst (λ (n : Neighbourhood). c.args.hearing.now.iface < length n.links) (sym c.sets.view_is) c.requires.iface in omega (arith, within)
 
-pub change_all-requires-clause-ready : goal.change_all-requires-clause-ready
-change_all-requires-clause-ready g c = c.requires.ready
-
-pub change_all-requires-clause-length : goal.change_all-requires-clause-length
-change_all-requires-clause-length g c = c.requires.same
-
 pub overflow_add-until : goal.overflow_add-until
 overflow_add-until g c = omega (arith, c.requires.ready.now_range, c.requires.ready.validity_range)
 

@@ -10,12 +10,6 @@ use Rattle.mesh_nhdp.proofs.Receipt.{links_heard}
 use Rattle.mesh_nhdp.proofs.hearing.hear_links.Goals as goal
 use Rattle.mesh_atoms.proofs.Options.{if_ok_weaker as if_ok}
 
-pub hear_interfaces-requires-clause-ready : goal.hear_interfaces-requires-clause-ready
-hear_interfaces-requires-clause-ready g c = c.requires.ready
-
-pub hear_interfaces-requires-clause-least : goal.hear_interfaces-requires-clause-least
-hear_interfaces-requires-clause-least g c = c.requires.least
-
 pub hear_interfaces-requires-clause-iface : goal.hear_interfaces-requires-clause-iface
 hear_interfaces-requires-clause-iface g c = omega (arith, c.requires.links, c.requires.iface)
 

@@ -9,12 +9,6 @@ use Rattle.mesh_links.specs.Links.{AdmitsLinks}
 use Rattle.mesh_nhdp.proofs.interfaces.admit_on.Goals as goal
 use Rattle.mesh_atoms.proofs.Options.{same_some}
 
-pub admit-requires-clause-now : goal.admit-requires-clause-now
-admit-requires-clause-now g c = c.requires.now
-
-pub admit-requires-clause-hold : goal.admit-requires-clause-hold
-admit-requires-clause-hold g c = c.requires.hold
-
 pub returns-in-Some : goal.returns-in-Some
 returns-in-Some g c =
     let lookup = c.in-Some.ensures.lookup in

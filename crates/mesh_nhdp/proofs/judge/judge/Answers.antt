@@ -15,9 +15,6 @@ returns-in-Some g c =
 pub tell-requires-clause-own : goal.tell-requires-clause-own
 tell-requires-clause-own g c = own_at c.args.settings.now c.in_ok-own.own.items c.deref-2.result.now c.deref-2.ensures.value c.in_ok-own.ensures
 
-pub base_to_fill-requires : goal.base_to_fill-requires
-base_to_fill-requires g c = c.requires.few
-
 pub returns-in-Some-2 : goal.returns-in-Some-2
 returns-in-Some-2 g c =
     let fault = fault_at c.args.settings.now c.deref.result.now c.args.arrival.now.sender c.args.arrival.now.hello.now (own_at c.args.settings.now c.in_ok-own.own.items c.deref.result.now c.deref.ensures.value c.in_ok-own.ensures) None c.in-None.ensures in

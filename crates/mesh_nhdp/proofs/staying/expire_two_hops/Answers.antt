@@ -26,17 +26,11 @@ loop-i-preserved g c =
     (get_or_default c.loop-i.sets c.loop-i.i [] c.index-sets-i.result within) c.expire_and_count-gone.ensures.expired c.expire_and_count-gone.ensures.distinct c.expire_and_count-gone.ensures.count c.expire_and_count-gone.ensures.none c.is_none_gone-same.ensures in
     record { lengths = step.lengths; done = step.done; distinct = step.distinct; left = step.left; same = step.unchanged; changed = step.changed }
 
-pub returns-clause-length : goal.returns-clause-length
-returns-clause-length g c = c.loop-i.invariant.lengths
-
 pub returns-clause-each : goal.returns-clause-each
 returns-clause-each g c i lt = c.loop-i.invariant.done i (omega (arith, lt, c.loop-i-test.false))
 
 pub returns-clause-distinct : goal.returns-clause-distinct
 returns-clause-distinct g c i lt = c.loop-i.invariant.distinct i (omega (arith, lt, c.loop-i-test.false))
-
-pub returns-clause-same : goal.returns-clause-same
-returns-clause-same g c = c.loop-i.invariant.same
 
 pub returns-clause-changed : goal.returns-clause-changed
 returns-clause-changed g c h = let (k, less, fewer) = c.loop-i.invariant.changed h in (k, fewer)

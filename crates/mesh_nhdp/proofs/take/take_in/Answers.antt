@@ -8,9 +8,6 @@ use Rattle.mesh_nhdp.proofs.RowsRepeat.{both_true}
 use Rattle.mesh_nhdp.proofs.RepeatsLaw.{repeats_same, unchanged_same}
 use Rattle.mesh_nhdp.proofs.take.take_in.Goals as goal
 
-pub judge-requires-clause-iface : goal.judge-requires-clause-iface
-judge-requires-clause-iface g c = c.requires.ready.is_interface
-
 pub judge-requires-clause-few : goal.judge-requires-clause-few
 judge-requires-clause-few g c = (c.requires.sound.two_hops c.args.arrival.now.iface).limit
 
@@ -30,9 +27,6 @@ returns-in-Overfills g c =
       sound = c.requires.sound;
     }
 
-pub hear-requires-clause-ready : goal.hear-requires-clause-ready
-hear-requires-clause-ready g c = c.requires.ready
-
 pub hear-requires-clause-own : goal.hear-requires-clause-own
 hear-requires-clause-own g c =
     let arrival = c.args.arrival.now in
@@ -44,9 +38,6 @@ hear-requires-clause-told g c =
     let arrival = c.args.arrival.now in
     let judged = subst (Judges c.args.settings.now arrival.iface arrival.sender arrival.hello.now c.args.sets.now) c.in-Fits.is c.in_ok-number.ensures in
     (arrival.sender, judged.1, judged.0)
-
-pub hear-requires-clause-sound : goal.hear-requires-clause-sound
-hear-requires-clause-sound g c = c.requires.sound
 
 pub returns-in_ok-rows-in-Fits : goal.returns-in_ok-rows-in-Fits
 returns-in_ok-rows-in-Fits g c =

@@ -3,9 +3,6 @@ use Rattle.mesh_atoms.specs.Sound.{SoundNeighbourhood}
 use Rattle.mesh_nhdp.specs.NhdpState.{NhdpState}
 use Rattle.mesh_nhdp.proofs.nhdp.Nhdp.expire.Goals as goal
 
-pub expire_all-requires-clause-now : goal.expire_all-requires-clause-now
-expire_all-requires-clause-now g c = c.requires.now
-
 pub expire_all-requires-clause-sound : goal.expire_all-requires-clause-sound
 expire_all-requires-clause-sound g c = subst (λ (h : NhdpState). (moment : ℕ) × SoundNeighbourhood h.settings moment h.near) (sym c.self.view_is) c.requires.sound
 

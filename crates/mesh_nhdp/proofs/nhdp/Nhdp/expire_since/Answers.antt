@@ -3,9 +3,6 @@ use Rattle.mesh_atoms.specs.Sound.{SoundNeighbourhood}
 use Rattle.mesh_nhdp.specs.NhdpState.{NhdpState}
 use Rattle.mesh_nhdp.proofs.nhdp.Nhdp.expire_since.Goals as goal
 
-pub expire_or_stay-requires-clause-now : goal.expire_or_stay-requires-clause-now
-expire_or_stay-requires-clause-now g c = c.requires.now
-
 pub expire_or_stay-requires-clause-sound : goal.expire_or_stay-requires-clause-sound
 expire_or_stay-requires-clause-sound g c = subst (λ (h : NhdpState). SoundNeighbourhood h.settings c.args.last h.near) (sym c.self.view_is) c.requires.sound
 

@@ -4,9 +4,6 @@ use Rattle.mesh_nhdp.specs.NhdpState.{empty_near}
 use Rattle.mesh_nhdp.proofs.Empty.{empty_sound}
 use Rattle.mesh_nhdp.proofs.nhdp.Nhdp.new.Goals as goal
 
-pub returns-clause-settings : goal.returns-clause-settings
-returns-clause-settings g c = c.in_ok-settings.ensures
-
 pub returns-clause-empty : goal.returns-clause-empty
 returns-clause-empty g c = c.in_ok-sets.ensures ∙ ap empty_near (c.len.ensures ∙ ap (λ (s : RouterSettings). length s.interfaces) c.in_ok-settings.ensures)
 

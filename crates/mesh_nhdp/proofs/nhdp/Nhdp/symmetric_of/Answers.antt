@@ -2,8 +2,5 @@ use Rattle.std.proofs.lemmas.Option.{none-some}
 use Rattle.mesh_links.specs.Links.{Unlinked}
 use Rattle.mesh_nhdp.proofs.nhdp.Nhdp.symmetric_of.Goals as goal
 
-pub returns-in-Some : goal.returns-in-Some
-returns-in-Some g c = rw (← c.self.view_is, ← c.in-Some.ensures) c.symmetric_of.ensures
-
 pub returns-in-None : goal.returns-in-None
 returns-in-None g c = rw (← c.self.view_is, ← c.in-None.ensures) (Unlinked (λ link w. none-some (link, w.1) w.2))

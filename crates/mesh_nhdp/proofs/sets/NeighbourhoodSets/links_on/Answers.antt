@@ -1,5 +1,0 @@
-use Rattle.std.proofs.Common.{[], arith}
-use Rattle.mesh_nhdp.proofs.sets.NeighbourhoodSets.links_on.Goals as goal
-
-pub returns : goal.returns
-returns g c = rw (← c.self.view_is, ← c.as_slice.ensures.value) (c.get.ensures.lookup.4 (omega arith) [])
