@@ -2,12 +2,9 @@ use Rattle.std.proofs.Common.{◌≡◌, length, subst, arith}
 use Rattle.mesh_atoms.specs.Base.{find, two_hop_eq}
 use Rattle.mesh_atoms.specs.Words.{IsKept}
 use Rattle.mesh_nhdp.specs.Calls.{is_symmetric_in}
-use Rattle.mesh_nhdp.proofs.Ends.{IsEndedBelow, ended_more, ended_none, ended_all}
+use Rattle.mesh_nhdp.proofs.Ends.{IsEndedBelow, ended_more, ended_all}
 use Rattle.std.proofs.lemmas.Option.{slice_get-get_or}
 use Rattle.mesh_nhdp.proofs.drops.drop_ended.Goals as goal
-
-pub loop-key-init : goal.loop-key-init
-loop-key-init g c q = ended_none c.args.keys.now (is_symmetric_in c.args.links.now c.args.now) q.link (find two_hop_eq c.args.two_hops.now q)
 
 pub loop-key-preserved : goal.loop-key-preserved
 loop-key-preserved g c q =

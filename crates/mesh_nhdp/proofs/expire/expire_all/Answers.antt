@@ -1,18 +1,9 @@
 use Rattle.std.proofs.lemmas.Result.{on_ok_weaker}
-use Rattle.std.proofs.Common.{◌∙◌, ap, sym, subst, arith}
+use Rattle.std.proofs.Common.{◌∙◌, ap, sym, subst}
 use Rattle.mesh_atoms.specs.State.{Neighbourhood}
 use Rattle.mesh_nhdp.specs.Interfaces.{ChangesEach}
 use Rattle.mesh_nhdp.proofs.Expiry.{expiry_runs}
 use Rattle.mesh_nhdp.proofs.expire.expire_all.Goals as goal
-
-pub overflow_add-until : goal.overflow_add-until
-overflow_add-until g c = let most = c.args.settings.now.times.sound.neighbour_hold_range.most in omega (arith, c.requires.now, most)
-
-pub change_all-requires-clause-ready : goal.change_all-requires-clause-ready
-change_all-requires-clause-ready g c = let most = c.args.settings.now.times.sound.link_hold_range.most in (c.requires.now, omega (arith, most))
-
-pub change_all-requires-clause-length : goal.change_all-requires-clause-length
-change_all-requires-clause-length g c = let (moment, sound) = c.requires.sound in sound.interfaces ∙ sym sound.two_hop_interfaces
 
 pub returns : goal.returns
 returns g c =

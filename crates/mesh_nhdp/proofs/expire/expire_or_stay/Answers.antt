@@ -16,9 +16,6 @@ returns-then-are_links_unchanged g c =
       when = as_it_was settings c.args.last c.args.now same before after c.requires.sound stay c.expire_beside.ensures;
     }
 
-pub expire_all-requires-clause-sound : goal.expire_all-requires-clause-sound
-expire_all-requires-clause-sound g c = (c.args.last, c.requires.sound)
-
 pub returns-in_ok-expire_all : goal.returns-in_ok-expire_all
 returns-in_ok-expire_all g c = record {
   live = c.in_ok-expire_all.ensures.live;

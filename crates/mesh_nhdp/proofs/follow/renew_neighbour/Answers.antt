@@ -4,12 +4,6 @@ use Rattle.mesh_atoms.specs.declared.addr.Addr4.{Addr4}
 use Rattle.mesh_nbrs.specs.Neighbours.{Replaces}
 use Rattle.mesh_nhdp.proofs.follow.renew_neighbour.Goals as goal
 
-pub replace-requires-clause-ascending : goal.replace-requires-clause-ascending
-replace-requires-clause-ascending g c = rw c.as_slice.ensures c.requires.ascending
-
-pub replace-requires-clause-some : goal.replace-requires-clause-some
-replace-requires-clause-some g c = rw c.as_slice.ensures c.requires.some
-
 pub returns : goal.returns
 returns g c =
     rw (← c.sets.view_is) (on_ok_weaker c.follow_links_of.result (λ F. record {

@@ -1,4 +1,4 @@
-use Rattle.std.proofs.Common.{◌<◌, ◌^◌, ◌↔◌, Contains, sym, subst, inl, arith}
+use Rattle.std.proofs.Common.{◌<◌, ◌↔◌, Contains, sym, subst, inl}
 use Rattle.mesh_atoms.specs.declared.addr.Addr4.{Addr4}
 use Rattle.mesh_atoms.specs.declared.hello.LocalIf.TheVariants.{This}
 use Rattle.mesh_atoms.specs.HelloTold.{TellsLocal}
@@ -8,28 +8,6 @@ use Rattle.mesh_atoms.specs.State.{Neighbourhood}
 use Rattle.mesh_nhdp.specs.Wanted.{IsSpokenAddress, IsSymmetricSpokenAddress}
 use Rattle.mesh_nhdp.proofs.Receipt.{receipt_runs}
 use Rattle.mesh_nhdp.proofs.hearing.hear.Goals as goal
-
-pub overflow_add-until : goal.overflow_add-until
-overflow_add-until g c = let most = c.args.settings.now.times.sound.neighbour_hold_range.most in omega (arith, c.requires.ready.now_range, most)
-
-pub hear_links-requires-clause-ready : goal.hear_links-requires-clause-ready
-hear_links-requires-clause-ready g c =
-    let (sender, told, fault) = c.requires.told in
-    let most = c.args.settings.now.times.sound.link_hold_range.most in
-    record {
-      now_range = c.requires.ready.now_range;
-      hold_range = omega (arith, most);
-      lasts = subst (λ n. 0 < n) (sym told.validity) c.requires.ready.lasts;
-      validity_range = subst (λ n. n < 2 ^ 62) (sym told.validity) c.requires.ready.validity_range;
-      ascending = told.sending.0;
-      some = sending_some c.args.receipt.now.telling.now.shown.sending (λ b. TellsLocal c.args.receipt.now.hello.now b This) sender told.sending.1;
-    }
-
-pub hear_links-requires-clause-least : goal.hear_links-requires-clause-least
-hear_links-requires-clause-least g c = let (sender, told, fault) = c.requires.told in told.least
-
-pub renew_neighbour-requires-clause-ascending : goal.renew_neighbour-requires-clause-ascending
-renew_neighbour-requires-clause-ascending g c = let (sender, told, fault) = c.requires.told in told.listed.0
 
 pub renew_neighbour-requires-clause-some : goal.renew_neighbour-requires-clause-some
 renew_neighbour-requires-clause-some g c =

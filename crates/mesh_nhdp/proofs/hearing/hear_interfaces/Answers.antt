@@ -12,12 +12,6 @@ use Rattle.mesh_nhdp.proofs.RowsRepeat.{repeated_before}
 use Rattle.mesh_nhdp.proofs.hearing.hear_interfaces.Goals as goal
 use Rattle.mesh_atoms.proofs.Options.{if_ok_weaker as if_ok}
 
-pub index-requires : goal.index-requires
-index-requires g c = let within = subst (λ (n : Neighbourhood). c.args.hearing.now.iface < length n.links) (sym c.sets.view_is) c.requires.iface in omega (arith, within)
-
-pub overflow_add-until : goal.overflow_add-until
-overflow_add-until g c = omega (arith, c.requires.ready.now_range, c.requires.ready.validity_range)
-
 pub returns : goal.returns
 returns g c =
     let hearing = c.args.hearing.now in

@@ -1,5 +1,5 @@
 use Rattle.std.proofs.lemmas.Result.{on_ok_weaker}
-use Rattle.std.proofs.Common.{List, subst, arith}
+use Rattle.std.proofs.Common.{List, subst}
 use Rattle.mesh_atoms.specs.declared.addr.Addr4.{Addr4}
 use Rattle.mesh_atoms.specs.Base.{base_of}
 use Rattle.mesh_atoms.specs.Quality.{rule_of}
@@ -9,12 +9,6 @@ use Rattle.mesh_nhdp.proofs.Expiry.{face_rule}
 use Rattle.mesh_nhdp.proofs.Receipt.{links_heard}
 use Rattle.mesh_nhdp.proofs.hearing.hear_links.Goals as goal
 use Rattle.mesh_atoms.proofs.Options.{if_ok_weaker as if_ok}
-
-pub hear_interfaces-requires-clause-iface : goal.hear_interfaces-requires-clause-iface
-hear_interfaces-requires-clause-iface g c = omega (arith, c.requires.links, c.requires.iface)
-
-pub hear_interfaces-requires-clause-same : goal.hear_interfaces-requires-clause-same
-hear_interfaces-requires-clause-same g c = omega (arith, c.requires.links, c.requires.two_hops)
 
 pub returns-clause-hears : goal.returns-clause-hears
 returns-clause-hears g c =

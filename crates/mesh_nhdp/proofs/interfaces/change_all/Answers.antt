@@ -4,12 +4,6 @@ use Rattle.mesh_atoms.specs.State.{Neighbourhood}
 use Rattle.mesh_nhdp.proofs.AllHears.{is_base, written_other, changed_more}
 use Rattle.mesh_nhdp.proofs.interfaces.change_all.Goals as goal
 
-pub loop-i-init : goal.loop-i-init
-loop-i-init g c = record { neighbours = refl; losts = refl; links = refl; two_hops = refl; done = λ k lt. absurd (omega (arith, lt)); links_left = λ k past. refl; two_hops_left = λ k past. refl }
-
-pub change-requires : goal.change-requires
-change-requires g c = record { ready = c.requires.ready }
-
 pub loop-i-preserved : goal.loop-i-preserved
 loop-i-preserved g c =
     let old = c.loop-i.invariant in

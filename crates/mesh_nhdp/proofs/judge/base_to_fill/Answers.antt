@@ -8,9 +8,6 @@ use Rattle.mesh_nhdp.proofs.judge.base_to_fill.Goals as goal
 pub returns-then-branch : goal.returns-then-branch
 returns-then-branch g c settings own = c.in_ok-is_full_of_addresses.ensures.0 c.if-branch.true
 
-pub overflow_sub-room : goal.overflow_sub-room
-overflow_sub-room g c = omega (arith, c.two_hop_count-room.ensures, c.requires)
-
 pub returns-then-len-room : goal.returns-then-len-room
 returns-then-len-room g c settings own =
     let near = c.args.sets.now in

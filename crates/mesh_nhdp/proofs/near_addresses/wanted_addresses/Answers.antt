@@ -1,16 +1,11 @@
-use Rattle.std.proofs.Common.{◌≡◌, ◌↔◌, ℕ, List, length, Contains, sym, subst, arith}
+use Rattle.std.proofs.Common.{◌≡◌, ℕ, length, Contains, sym, subst, arith}
 use Rattle.mesh_atoms.specs.declared.addr.Addr4.{Addr4}
 use Rattle.mesh_atoms.specs.declared.tuples.Neighbour.{Neighbour}
 use Rattle.mesh_atoms.proofs.Lookups.{addr_equiv, same_addr}
 use Rattle.mesh_nhdp.specs.Wanted.{IsWanted}
-use Rattle.mesh_hello.proofs.Collect.{gathers_more, gathers_none, found_below, below_found, SomeBelow}
+use Rattle.mesh_hello.proofs.Collect.{gathers_more, found_below, below_found, SomeBelow}
 use Rattle.mesh_atoms.proofs.Lists.{none_within}
 use Rattle.mesh_nhdp.proofs.near_addresses.wanted_addresses.Goals as goal
-
-pub loop-place-init : goal.loop-place-init
-loop-place-init g c a =
-    subst (λ (xs : List Addr4). Contains xs a ↔ SomeBelow (g.T.Table.content c.args.table.now) 0 (λ (e : Addr4 × (Neighbour × ℕ)). IsWanted c.args.wanted e.1.0 × Contains e.1.0.addrs a)) (sym c.new-addrs.ensures.items)
-    (gathers_none (g.T.Table.content c.args.table.now) (λ (e : Addr4 × (Neighbour × ℕ)) b. IsWanted c.args.wanted e.1.0 × Contains e.1.0.addrs b) a)
 
 pub returns-in-None : goal.returns-in-None
 returns-in-None g c = none_within (g.T.Table.content c.args.table.now) c.loop-place.place (omega arith) c.in-None.ensures

@@ -4,12 +4,9 @@ use Rattle.mesh_atoms.specs.declared.tuples.Link.{Link}
 use Rattle.mesh_atoms.specs.Base.{find, link_eq}
 use Rattle.mesh_nbrs.specs.declared.neighbours.LinkNote.{LinkNote}
 use Rattle.mesh_nhdp.specs.Calls.{key_at, note_of}
-use Rattle.mesh_hello.proofs.Collect.{SomeBelow, adds_none, adds_more, adds_so, below_contains}
+use Rattle.mesh_hello.proofs.Collect.{SomeBelow, adds_more, adds_so, below_contains}
 use Rattle.std.proofs.lemmas.Option.{slice_get-get_or}
 use Rattle.mesh_nhdp.proofs.notes.add_notes_among.Goals as goal
-
-pub loop-addr-init : goal.loop-addr-init
-loop-addr-init g c = adds_none c.args.addrs.now (λ (a : Addr4) (note : LinkNote). (e : Link × ℕ) × (find link_eq (g.T.Table.content c.args.table.now) (key_at a) ≡ Some e) × (note ≡ note_of c.args.now (key_at a) e)) c.args.notes.now.items
 
 pub loop-addr-preserved : goal.loop-addr-preserved
 loop-addr-preserved g c =

@@ -1,21 +1,7 @@
-use Rattle.std.proofs.Common.{◌<◌, [], length, refl, sym, arith, get_or}
-use Rattle.std.proofs.lemmas.Bool.{false≢true}
+use Rattle.std.proofs.Common.{◌<◌, [], length, arith, get_or}
 use Rattle.std.proofs.lemmas.List.{get_or_default}
 use Rattle.mesh_nhdp.proofs.BesideWalk.{goes_over_one}
 use Rattle.mesh_nhdp.proofs.staying.expire_two_hops.Goals as goal
-
-pub loop-i-init : goal.loop-i-init
-loop-i-init g c = record {
-  lengths = refl;
-  done = λ k lt. absurd (omega (arith, lt));
-  distinct = λ k lt. absurd (omega (arith, lt));
-  left = λ k past. refl;
-  same = λ h. refl;
-  changed = λ h. absurd (false≢true (sym h));
-}
-
-pub bounds-sets-i : goal.bounds-sets-i
-bounds-sets-i g c = omega (arith, c.loop-i-test.true, c.loop-i.invariant.lengths)
 
 pub loop-i-preserved : goal.loop-i-preserved
 loop-i-preserved g c =

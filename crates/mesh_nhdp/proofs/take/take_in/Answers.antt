@@ -8,9 +8,6 @@ use Rattle.mesh_nhdp.proofs.RowsRepeat.{both_true}
 use Rattle.mesh_nhdp.proofs.RepeatsLaw.{repeats_same, unchanged_same}
 use Rattle.mesh_nhdp.proofs.take.take_in.Goals as goal
 
-pub judge-requires-clause-few : goal.judge-requires-clause-few
-judge-requires-clause-few g c = (c.requires.sound.two_hops c.args.arrival.now.iface).limit
-
 pub returns-in-Breaks : goal.returns-in-Breaks
 returns-in-Breaks g c =
     let arrival = c.args.arrival.now in
@@ -32,12 +29,6 @@ hear-requires-clause-own g c =
     let arrival = c.args.arrival.now in
     own_at c.args.settings.now c.in-Fits.own c.as_slice.result.now c.as_slice.ensures
     (subst (Judges c.args.settings.now arrival.iface arrival.sender arrival.hello.now c.args.sets.now) c.in-Fits.is c.in_ok-number.ensures).4
-
-pub hear-requires-clause-told : goal.hear-requires-clause-told
-hear-requires-clause-told g c =
-    let arrival = c.args.arrival.now in
-    let judged = subst (Judges c.args.settings.now arrival.iface arrival.sender arrival.hello.now c.args.sets.now) c.in-Fits.is c.in_ok-number.ensures in
-    (arrival.sender, judged.1, judged.0)
 
 pub returns-in_ok-rows-in-Fits : goal.returns-in_ok-rows-in-Fits
 returns-in_ok-rows-in-Fits g c =

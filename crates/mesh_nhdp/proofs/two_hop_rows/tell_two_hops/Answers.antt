@@ -1,17 +1,9 @@
-use Rattle.std.proofs.Common.{◌≡◌, length, slice_get, Some, ap, ◌∙◌, subst, refl, arith}
+use Rattle.std.proofs.Common.{◌≡◌, length, slice_get, Some, ap, ◌∙◌, subst, arith}
 use Rattle.mesh_atoms.specs.Base.{find, two_hop_eq}
 use Rattle.mesh_hello.proofs.Collect.{item_at}
-use Rattle.mesh_nhdp.proofs.RowWalks.{RowsTell, one_more, others_more, rows_none, rows_all}
+use Rattle.mesh_nhdp.proofs.RowWalks.{RowsTell, one_more, others_more, rows_all}
 use Rattle.mesh_nhdp.proofs.RowsRepeat.{RowsRepeat, both_true, row_same, repeat_more, repeat_all}
 use Rattle.mesh_nhdp.proofs.two_hop_rows.tell_two_hops.Goals as goal
-
-pub loop-row-init : goal.loop-row-init
-loop-row-init g c = record {
-  one = λ a. rows_none c.args.rows.now.own.now c.args.rows.now.listed.now c.args.rows.now.hello.now.rows c.args.rows.now.until a _;
-  others = λ key other. refl;
-  same = λ is q. refl;
-  repeats = λ is row below looks. absurd (omega (arith, below.2));
-}
 
 pub loop-row-preserved : goal.loop-row-preserved
 loop-row-preserved g c =
