@@ -5,9 +5,6 @@ use Rattle.std.proofs.lemmas.Bool.{iff_false}
 use Rattle.mesh_nhdp.proofs.Judges.{overfills, fits}
 use Rattle.mesh_nhdp.proofs.judge.base_to_fill.Goals as goal
 
-pub returns-then-branch : goal.returns-then-branch
-returns-then-branch g c settings own = c.in_ok-is_full_of_addresses.ensures.0 c.if-branch.true
-
 pub returns-then-len-room : goal.returns-then-len-room
 returns-then-len-room g c settings own =
     let near = c.args.sets.now in

@@ -11,12 +11,3 @@ loop-i-preserved g c =
     (record { lengths = old.lengths; done = old.done; distinct = old.distinct; left = old.left; unchanged = old.same; changed = old.changed }) within
     (get_or_default c.loop-i.sets c.loop-i.i [] c.index-sets-i.result within) c.expire_and_count-gone.ensures.expired c.expire_and_count-gone.ensures.distinct c.expire_and_count-gone.ensures.count c.expire_and_count-gone.ensures.none c.is_none_gone-same.ensures in
     record { lengths = step.lengths; done = step.done; distinct = step.distinct; left = step.left; same = step.unchanged; changed = step.changed }
-
-pub returns-clause-each : goal.returns-clause-each
-returns-clause-each g c i lt = c.loop-i.invariant.done i (omega (arith, lt, c.loop-i-test.false))
-
-pub returns-clause-distinct : goal.returns-clause-distinct
-returns-clause-distinct g c i lt = c.loop-i.invariant.distinct i (omega (arith, lt, c.loop-i-test.false))
-
-pub returns-clause-changed : goal.returns-clause-changed
-returns-clause-changed g c h = let (k, less, fewer) = c.loop-i.invariant.changed h in (k, fewer)
