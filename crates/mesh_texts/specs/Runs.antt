@@ -75,8 +75,3 @@ pub record FirstEvents (s : Scenario) : Type 0 where
   pub stopped : NetState
   pub is_opening : IsOpeningNet s opening
   pub runs : NetRun opening events stopped
-
--- what is told before the run is over: the trace of its first events where it is asked for, and nothing where it isn't
-abbrev pub IsFirstTrace : Bool → {s : Scenario} → FirstEvents s → List ℕ → Type 0
-IsFirstTrace false first text = text ≡ []
-IsFirstTrace true first text = Traces first.opening first.events first.stopped text
