@@ -1,5 +1,7 @@
 -- What interfaces admit, by tests of arcs; and that admitted arcs each way join two interfaces from both sides.
-use Rattle.std.proofs.Common.{◌≡◌, ℕ, ◌≤◌, refl, ◌∙◌, ap, Option, Some, None, true, false, slice_get}
+use Rattle.std.proofs.Common.{arith}
+use Rattle.std.proofs.lemmas.Grind.{common_steps}
+use Rattle.std.proofs.Common.{◌≡◌, ℕ, ◌≤◌, refl, Option, Some, None, true, false, slice_get}
 use Rattle.std.proofs.lemmas.Bool.{leb-true, le-leb}
 use Rattle.mesh_atoms.specs.declared.codes.metric.Metric.{Metric}
 use Rattle.mesh_atoms.specs.declared.settings.Interface.{Interface}
@@ -37,12 +39,7 @@ pub admitted_arc : (s : Scenario) (x i y j : ℕ) (arc : RadioArc) → arc.from 
 admitted_arc s x i y j arc from from_iface to to_iface e = rw (← from, ← from_iface, ← to, ← to_iface) (admitted_by s arc e)
 
 admits : (s : Scenario) (x i y j : ℕ) → IsAdmitted s x i y j → can_accept s.end (face_of s.routers y j) (face_of s.routers x i) ≡ true
-admits s x i y j a =
-    let to : face_of s.routers y j ≡ Some a.to = ap (λ (o : Option RouterSettings). face_in o j) a.receives ∙ a.is_to in
-    let from : face_of s.routers x i ≡ Some a.from = ap (λ (o : Option RouterSettings). face_in o i) a.sends ∙ a.is_from in
-    ap (λ (o : Option Interface). can_accept s.end o (face_of s.routers x i)) to
-    ∙ ap (λ (o : Option Interface). can_accept s.end (Some a.to) o) from
-    ∙ le-leb a.to.admit.accept (quality_at a.to.admit a.from.addrs s.end) a.accepted
+admits s x i y j a = grind (arith, common_steps, le-leb)
 
 pub admits_arc : (s : Scenario) (x i y j : ℕ) (arc : RadioArc) → arc.from ≡ x → arc.from_iface ≡ i → arc.to ≡ y → arc.to_iface ≡ j →
     IsAdmitted s x i y j → is_admitted s.routers s.end arc ≡ true

@@ -1,4 +1,5 @@
 -- A step that is taken keeps the state of a search by a frontier, and one that has ended has met what each arc offers.
+use Rattle.std.proofs.lemmas.Grind.{common_steps}
 use Rattle.std.proofs.Common.{◌≡◌, ◌≢◌, ℕ, ◌+◌, ◌<◌, ◌≤◌, ◌⊎◌, inl, inr, refl, sym, ◌∙◌, ap, subst, arith, List, [], ◌∷◌, length, Contains, Some, slice_index_or}
 use Rattle.std.specs.List.{AllWithin, slice_range}
 use Rattle.std.specs.BTreeMap as tree
@@ -22,21 +23,13 @@ use Rattle.mesh_atoms.proofs.Lists.{contains_cases}
 
 -- a node has one row
 one_row : (map : RowMap) (r t : PathRow) → IsSettledRow map r → IsSettledRow map t → r.node ≡ t.node → r ≡ t
-one_row map r t has_r has_t e =
-    let at : tree.get net_cmp map t.node ≡ Some r = subst (λ (n : NetAddr). tree.get net_cmp map n ≡ Some r) e has_r in
-    let h : Some r ≡ Some t = sym at ∙ has_t in
-    (cc)
+one_row map r t has_r has_t e = grind (arith, common_steps)
 
 -- what is better than a row is as good as what that is as good as
 as_good_still : (row q : PathRow) (metric : ℕ) (parent : NetAddr) →
     (row.metric < q.metric) ⊎ ((row.metric ≡ q.metric) × IsBefore row.parent q.parent) → IsAsGood q metric parent →
     IsAsGood row metric parent
-as_good_still row q metric parent better good =
-    let no_worse : IsAsGood row q.metric q.parent = elim better [
-      | inl less ↦ inl less
-      | inr (same, before) ↦ inr (same, at_most_of_before row.parent q.parent before)
-    ] in
-    as_good_trans row q metric parent no_worse good
+as_good_still row q metric parent better good = grind (arith, common_steps, at_most_of_before, as_good_trans)
 
 one_done : (arc : Arc4) (map : RowMap) (steps : List SearchStep) → IsMetOrWaits map steps arc → (a : Arc4) → Contains (arc ∷ []) a → IsMetOrWaits map steps a
 one_done arc map steps state a has = elim (contains_cases arc [] a has) [

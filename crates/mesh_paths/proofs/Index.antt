@@ -1,4 +1,5 @@
 -- Arcs as runs, in the order of the nodes that they leave.
+use Rattle.std.proofs.lemmas.Grind.{common_steps}
 use Rattle.std.proofs.Common.{◌≡◌, ℕ, ◌+◌, ◌-◌, ◌<◌, ◌≤◌, ◌++◌, inl, inr, refl, sym, ◌∙◌, ap, subst, arith, true, false, List, [], ◌∷◌, length, Contains, slice_index_or, take, drop, leb, ltb, leb-true}
 use Rattle.std.specs.List.{slice_range}
 use Rattle.std.specs.List.Sorted.{IsPermutation, IsPartitionPoint}
@@ -6,7 +7,6 @@ use Rattle.std.proofs.lemmas.Bool.{cases_lt, ltb-true, ltb-false, leb-false}
 use Rattle.std.proofs.lemmas.List.{get_or_default, get_or-take, get_or-drop, length-take, length-drop}
 use Rattle.std.proofs.lemmas.List.Elements.{Contains-push_cases, Contains-append_left, Contains-append_right}
 use Rattle.std.proofs.lemmas.List.Sorted.{Contains-permutation, IsPermutation-sym}
-use Rattle.mesh_atoms.specs.declared.addr.Addr4.{Addr4}
 use Rattle.mesh_atoms.specs.declared.addr.NetAddr.{NetAddr}
 use Rattle.mesh_atoms.specs.declared.graphs.Arc4.{Arc4}
 use Rattle.mesh_atoms.proofs.Nets.{same_net}
@@ -78,23 +78,17 @@ in_run arcs start end k a low high inside e =
     )
 
 place_in : (arcs : List Arc4) (start end : ℕ) (a : Arc4) → start ≤ end → end ≤ length arcs → Contains (slice_range arcs start end) a → (k : ℕ) × (start ≤ k) × (k < end) × (slice_index_or arcs k a ≡ a)
-place_in arcs start end a upto inside (k, l, e) =
-    let less : k < end - start = omega (arith, length-take (end - start) (drop start arcs), length-drop start arcs) in
-    (start + k, omega arith, omega arith, sym (get_or-drop start arcs k a) ∙ (sym (get_or-take (end - start) (drop start arcs) k a less) ∙ e))
+place_in arcs start end a upto inside (k, l, e) = grind (arith, common_steps, length-take, drop, length-drop, get_or-drop, get_or-take)
 
 pub from_run : (arcs : List Arc4) (run : ArcRun) (a : Arc4) → IsRun arcs run → Contains (slice_range arcs run.start run.end) a → Contains arcs a
 from_run arcs run a is has = let (k, low, high, e) = place_in arcs run.start run.end a is.upto is.inside has in (k, omega (arith, is.inside), e)
 
 -- nodes are known by their numbers
 node_by_number : (a b : NetAddr) → number_of a ≡ number_of b → a ≡ b
-node_by_number a b e =
-    let number : a.addr.0 ≡ b.addr.0 = omega (arith, a.within, b.within) in
-    same_net a b (ap (λ (n : ℕ). let r : Addr4 = record { 0 = n } in r) number) (omega (arith, a.within, b.within))
+node_by_number a b e = grind (arith, common_steps, same_net)
 
 pub leaves_node : (arcs : List Arc4) (run : ArcRun) (node : NetAddr) (a : Arc4) → IsRun arcs run → run.number ≡ number_of node → Contains (slice_range arcs run.start run.end) a → a.from ≡ node
-leaves_node arcs run node a is number has =
-    let (k, low, high, e) = place_in arcs run.start run.end a is.upto is.inside has in
-    node_by_number a.from node (subst (λ (x : Arc4). number_of x.from ≡ run.number) e (is.leaves k a low high) ∙ number)
+leaves_node arcs run node a is number has = grind (arith, common_steps, place_in, node_by_number)
 
 -- The runs of a number: from the first whose number is no less, as long as none is greater
 module _ (runs rest part : List ArcRun) (number start end : ℕ)
@@ -117,12 +111,7 @@ module _ (runs rest part : List ArcRun) (number start end : ℕ)
   has r (k, l, e) = (start + k, omega (arith, long_part, long_rest), sym (at_rest k r) ∙ (sym (at_part k r (omega (arith, long_part))) ∙ e))
 
   is : (r : ArcRun) → Contains part r → r.number ≡ number
-  is r (k, l, e) =
-      let here : slice_index_or rest k r ≡ r = sym (at_part k r (omega (arith, long_part))) ∙ e in
-      let there : slice_index_or runs (start + k) r ≡ r = sym (at_rest k r) ∙ here in
-      let low : number ≤ r.number = ltb-false r.number number (subst (λ (x : ArcRun). ltb x.number number ≡ false) there (from_start.1 (start + k) r (omega arith) (omega (arith, long_rest, long_part)))) in
-      let high : r.number ≤ number = leb-true r.number number (subst (λ (x : ArcRun). leb x.number number ≡ true) here (to_end.0 k r (omega arith) (omega (arith, long_part)))) in
-      omega arith
+  is r (k, l, e) = grind (arith, common_steps, slice_index_or, at_part, long_part, at_rest, ltb-false, ltb, long_rest, leb-true, leb)
 
   all : (r : ArcRun) → Contains runs r → r.number ≡ number → Contains part r
   all r (k, l, e) same = elim (cases_lt k start) [

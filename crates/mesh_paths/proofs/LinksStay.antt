@@ -1,7 +1,8 @@
 -- At the moment of the last event neither the quality rule nor expiry changes a link, so that links stay as they are.
-use Rattle.std.proofs.Common.{◌≡◌, ℕ, refl, sym, ◌∙◌, ap, Option, Some, None}
-use Rattle.std.specs.Prelude.{Bool, true, false, cond, nat_lt}
-use Rattle.mesh_atoms.specs.declared.codes.metric.Metric.{Metric}
+use Rattle.std.proofs.Common.{arith}
+use Rattle.std.proofs.lemmas.Grind.{common_steps}
+use Rattle.std.proofs.Common.{◌≡◌, ℕ, refl, ◌∙◌, ap, Option, Some, None}
+use Rattle.std.specs.Prelude.{Bool, true, cond, nat_lt}
 use Rattle.mesh_atoms.specs.declared.tuples.LinkKey.{LinkKey}
 use Rattle.mesh_atoms.specs.declared.tuples.Link.{Link}
 use Rattle.mesh_atoms.specs.declared.settings.RouterSettings.{RouterSettings}
@@ -9,19 +10,13 @@ use Rattle.mesh_atoms.specs.Base.{if_live}
 use Rattle.mesh_atoms.specs.Live.{LiveNeighbourhood, trim, trimmed}
 use Rattle.mesh_atoms.specs.Quality.{admit_on}
 use Rattle.mesh_atoms.specs.Sound.{SoundNeighbourhood, IsSoundLink}
-use Rattle.mesh_atoms.specs.State.{Neighbourhood, link_at, is_symmetric}
+use Rattle.mesh_atoms.specs.State.{Neighbourhood, link_at}
 
 abbrev entry : Link → ℕ → Link × ℕ
 entry link until = (link, until)
 
 trimmed_sound : (now : ℕ) (key : LinkKey) (link : Link) (until : ℕ) → IsSoundLink now key link → trimmed now (entry link until) ≡ entry link until
-trimmed_sound now key link until sound = by_case (is_symmetric link now) refl
-  where
-    by_case : (b : Bool) → is_symmetric link now ≡ b → cond b (entry link until) (entry (record link { link_out = None; selector = false }) until) ≡ entry link until
-    by_case true e = refl
-    by_case false e =
-        ap (λ (o : Option Metric). entry (record link { link_out = o; selector = false }) until) (sym (sound.link_out e))
-        ∙ ap (λ (b : Bool). entry (record link { selector = b }) until) (sym (sound.selector e))
+trimmed_sound now key link until sound = grind (arith, common_steps)
 
 -- what isn't expired stays
 live_link : (settings : RouterSettings) (now : ℕ) (near : Neighbourhood) → SoundNeighbourhood settings now near → (i : ℕ) (key : LinkKey) →

@@ -1,4 +1,5 @@
 -- The order of nodes and of offers, and ascending rows.
+use Rattle.std.proofs.lemmas.Grind.{common_steps}
 use Rattle.std.proofs.Common.{◌≡◌, ℕ, zero, suc, ◌+◌, ◌-◌, ◌<◌, ◌≤◌, ◌⊎◌, inl, inr, refl, sym, ◌∙◌, ap, subst, arith, Some}
 use Rattle.std.proofs.Common.{List, ◌∷◌, length, Contains, slice_index_or}
 use Rattle.std.proofs.lemmas.Bool.{cases_eq, cases_lt}
@@ -25,40 +26,13 @@ same_node a b = elim (cases_eq a.addr.0 b.addr.0) [
 ]
 
 pub at_most_or_before : (a b : NetAddr) → IsAtMost a b ⊎ IsBefore b a
-at_most_or_before a b = elim (cases_lt b.addr.0 a.addr.0) [
-  | inl less ↦ inr (inl less)
-  | inr more ↦ elim (cases_eq b.addr.0 a.addr.0) [
-    | inl same ↦ elim (cases_lt b.prefix a.prefix) [
-      | inl less ↦ inr (inr (same, less))
-      | inr upto ↦ inl (inr (sym same, omega arith))
-    ]
-    | inr off ↦ inl (inl (omega arith))
-  ]
-]
+at_most_or_before a b = grind (arith, common_steps, cases_lt, cases_eq)
 
 pub at_most_trans : (a b c : NetAddr) → IsAtMost a b → IsAtMost b c → IsAtMost a c
-at_most_trans a b c f g = elim f [
-  | inl x ↦ elim g [
-    | inl y ↦ inl (omega arith)
-    | inr (e, y) ↦ inl (omega arith)
-  ]
-  | inr (d, x) ↦ elim g [
-    | inl y ↦ inl (omega arith)
-    | inr (e, y) ↦ inr (omega arith, omega arith)
-  ]
-]
+at_most_trans a b c f g = grind (arith, common_steps)
 
 pub at_most_both : (a b : NetAddr) → IsAtMost a b → IsAtMost b a → a ≡ b
-at_most_both a b f g = elim f [
-  | inl x ↦ elim g [
-    | inl y ↦ absurd (omega arith)
-    | inr (e, y) ↦ absurd (omega arith)
-  ]
-  | inr (d, x) ↦ elim g [
-    | inl y ↦ absurd (omega arith)
-    | inr (e, y) ↦ same_net a b (ap (λ (n : ℕ). let r : Addr4 = record { 0 = n } in r) d) (omega arith)
-  ]
-]
+at_most_both a b f g = grind (arith, common_steps, same_net)
 
 -- Offers
 
@@ -67,29 +41,11 @@ as_good_itself row = inr (refl, at_most_itself row.parent row.parent refl)
 
 pub as_good_trans : (a b : PathRow) (metric : ℕ) (parent : NetAddr) → IsAsGood a b.metric b.parent → IsAsGood b metric parent →
     IsAsGood a metric parent
-as_good_trans a b metric parent f g = elim f [
-  | inl x ↦ elim g [
-    | inl y ↦ inl (omega arith)
-    | inr (e, y) ↦ inl (omega arith)
-  ]
-  | inr (d, x) ↦ elim g [
-    | inl y ↦ inl (omega arith)
-    | inr (e, y) ↦ inr (omega arith, at_most_trans a.parent b.parent parent x y)
-  ]
-]
+as_good_trans a b metric parent f g = grind (arith, common_steps, at_most_trans)
 
 -- one of two rows is as good as the other
 pub one_as_good : (a b : PathRow) → IsAsGood a b.metric b.parent ⊎ IsAsGood b a.metric a.parent
-one_as_good a b = elim (cases_lt a.metric b.metric) [
-  | inl less ↦ inl (inl less)
-  | inr more ↦ elim (cases_lt b.metric a.metric) [
-    | inl less ↦ inr (inl less)
-    | inr upto ↦ elim (at_most_or_before a.parent b.parent) [
-      | inl at_most ↦ inl (inr (omega arith, at_most))
-      | inr before ↦ inr (inr (omega arith, at_most_of_before b.parent a.parent before))
-    ]
-  ]
-]
+one_as_good a b = grind (arith, common_steps, cases_lt, at_most_or_before, at_most_of_before)
 
 pub no_dearer : (row : PathRow) (metric : ℕ) (parent : NetAddr) → IsAsGood row metric parent → row.metric ≤ metric
 no_dearer row metric parent good = elim good [ inl less ↦ omega arith | inr (same, _) ↦ omega arith ]
@@ -99,10 +55,7 @@ no_dearer row metric parent good = elim good [ inl less ↦ omega arith | inr (s
 -- each row stands before all later ones
 pub before_later : (rows : List PathRow) → AreAscendingRows rows → (k n : ℕ) (d : PathRow) → k + (n + 1) < length rows → IsBefore (slice_index_or rows k d).node (slice_index_or rows (k + (n + 1)) d).node
 before_later rows up k zero d l = up k d l
-before_later rows up k (suc n) d l =
-    let same : k + (suc n + 1) ≡ (k + (n + 1)) + 1 = omega arith in
-    let next : IsBefore (slice_index_or rows (k + (n + 1)) d).node (slice_index_or rows (k + (suc n + 1)) d).node = rw same (up (k + (n + 1)) d (omega arith)) in
-    before_trans (slice_index_or rows k d).node (slice_index_or rows (k + (n + 1)) d).node (slice_index_or rows (k + (suc n + 1)) d).node (before_later rows up k n d (omega arith)) next
+before_later rows up k (suc n) d l = grind (arith, common_steps, slice_index_or, before_trans, before_later rows up k n d (omega arith))
 
 -- rows at two places, of which the first is the lesser, have different nodes
 apart : (rows : List PathRow) → AreAscendingRows rows → (r t : PathRow) (i j : ℕ) → i < j → j < length rows → slice_index_or rows i r ≡ r → slice_index_or rows j t ≡ t → r.node ≡ t.node → ⊥

@@ -1,4 +1,5 @@
 -- A row that gets better keeps the state of a search and brings it nearer to its end; when none does any more, it has found a tree.
+use Rattle.std.proofs.lemmas.Grind.{common_steps}
 use Rattle.std.proofs.Common.{◌≡◌, ◌≢◌, ◌↔◌, ℕ, ◌+◌, ◌*◌, ◌<◌, ◌≤◌, ◌⊎◌, inl, inr, refl, sym, ◌∙◌, ap, subst, arith, Bool, true, false, cond, IsTrue, List, [], ◌∷◌, length, Contains, Option, Some, None}
 use Rattle.std.specs.List.{sum_by}
 use Rattle.std.specs.Ordering.{is_eq}
@@ -6,7 +7,7 @@ use Rattle.std.specs.BTreeMap as tree
 use Rattle.std.proofs.lemmas.Bool.{cases_lt, cases_Bool}
 use Rattle.std.proofs.lemmas.Cmp.{tied_itself}
 use Rattle.std.proofs.lemmas.List.Sums.{sum_by-cons}
-use Rattle.std.specs.Map.{lookup, values_of}
+use Rattle.std.specs.Map.{values_of}
 use Rattle.mesh_atoms.specs.declared.addr.NetAddr.{NetAddr}
 use Rattle.mesh_atoms.specs.declared.graphs.Arc4.{Arc4}
 use Rattle.mesh_atoms.specs.declared.graphs.Graph.{Graph}
@@ -55,32 +56,16 @@ module _ (old new : RowMap) (arc : Arc4) (row : PathRow) (betters : Betters old 
 
   lighter : (before : Option PathRow) → tree.get net_cmp old row.node ≡ before → weight_of (Some row) < weight_of before
   lighter None e = omega (arith, row.parent.within)
-  lighter (Some b) e = elim (betters.better b e) [
-    | inl less ↦ omega (arith, row.parent.within)
-    | inr (same, below) ↦ elim below [
-      | inl number ↦ omega (arith, row.parent.within)
-      | inr (number, prefix) ↦ omega arith
-    ]
-  ]
+  lighter (Some b) e = grind (arith, common_steps)
 
   lighter_at : (node : NetAddr) → node ≡ row.node → tree.get net_cmp new node ≡ Some row → weight_of (tree.get net_cmp new node) < weight_of (tree.get net_cmp old node)
-  lighter_at node same is =
-      let here : weight_of (tree.get net_cmp new node) ≡ weight_of (Some row) = ap weight_of is in
-      let before : weight_of (tree.get net_cmp old node) ≡ weight_of (tree.get net_cmp old row.node) = ap (λ (n : NetAddr). weight_of (tree.get net_cmp old n)) same in
-      let less : weight_of (Some row) < weight_of (tree.get net_cmp old row.node) = lighter (tree.get net_cmp old row.node) refl in
-      subst (λ (n : ℕ). n < weight_of (tree.get net_cmp old node)) (sym here) (subst (λ (n : ℕ). weight_of (Some row) < n) (sym before) less)
+  lighter_at node same is = grind (arith, common_steps, lighter)
 
   no_heavier : (node : NetAddr) → weight_of (tree.get net_cmp new node) ≤ weight_of (tree.get net_cmp old node)
-  no_heavier node = elim (at node) [
-    | inl (same, is) ↦ let less : weight_of (tree.get net_cmp new node) < weight_of (tree.get net_cmp old node) = lighter_at node same is in omega arith
-    | inr is ↦ let same : weight_of (tree.get net_cmp new node) ≡ weight_of (tree.get net_cmp old node) = ap weight_of is in omega arith
-  ]
+  no_heavier node = grind (arith, common_steps, lighter_at)
 
   no_more : (node : NetAddr) → missing_of (tree.get net_cmp new node) ≤ missing_of (tree.get net_cmp old node)
-  no_more node = elim (at node) [
-    | inl (same, is) ↦ let none : missing_of (tree.get net_cmp new node) ≡ 0 = ap missing_of is in omega arith
-    | inr is ↦ let same : missing_of (tree.get net_cmp new node) ≡ missing_of (tree.get net_cmp old node) = ap missing_of is in omega arith
-  ]
+  no_more node = grind (arith, common_steps)
 
   -- each node keeps a row, no dearer
   lower : (r : PathRow) → IsSettledRow old r → (p : PathRow) × IsSettledRow new p × (p.node ≡ r.node) × (p.metric ≤ r.metric)
@@ -190,13 +175,7 @@ met_already map arc first metric keyed found sum (b, at, good) r has begins =
     (b, settled_at map arc.to b keyed at, e, subst (λ (n : NetAddr). IsAsGood b (r.metric + arc.metric) n) (sym begins) two)
 
 better_of : (before : PathRow) (metric : ℕ) (parent : NetAddr) → (IsAsGood before metric parent → ⊥) → (metric < before.metric) ⊎ ((metric ≡ before.metric) × IsBefore parent before.parent)
-better_of before metric parent not = elim (cases_lt metric before.metric) [
-  | inl less ↦ inl less
-  | inr upto ↦ elim (cases_lt before.metric metric) [
-    | inl less ↦ absurd (not (inl less))
-    | inr more ↦ inr (omega arith, not_at_most before.parent parent (λ at_most. not (inr (omega arith, at_most))))
-  ]
-]
+better_of before metric parent not = grind (arith, common_steps, cases_lt, not_at_most)
 
 -- a row goes in where none is as good
 pub betters_by : (map new : RowMap) (row : PathRow) (b : Bool) → IsTrue b ↔ HasAsGood map row.node row.metric row.parent → b ≡ false →
@@ -217,30 +196,10 @@ betters_by map new row b test not updates = record {
 
 -- an empty map has no row
 pub none_settled : (map : RowMap) → map.entries ≡ [] → (r : PathRow) → IsSettledRow map r → ⊥
-none_settled map empty r has =
-    let none : tree.get net_cmp map r.node ≡ None = ap (λ (entries : List (NetAddr × PathRow)). lookup (λ k. is_eq (net_cmp r.node k)) entries) empty in
-    (cc)
+none_settled map empty r has = grind (arith, common_steps)
 
 pub reached_start : (old new : RowMap) (arcs : List Arc4) (from : NetAddr) → ((r : PathRow) → IsSettledRow old r → ⊥) → Settles (IsSettledRow old) (record { node = from; metric = 0; parent = from }) (IsSettledRow new) → IsKeyed new → HasLedRows new arcs from
-reached_start old new arcs from none settles keyed = record {
-  keyed = keyed;
-  start = settles.new;
-  led = λ r has. elim (settles.cases r has) [
-    | inl same ↦ inl (ap (λ (x : PathRow). x.node) same, ap (λ (x : PathRow). x.metric) same, ap (λ (x : PathRow). x.parent) same)
-    | inr before ↦ absurd (none r before)
-  ];
-  small = λ r has. elim (settles.cases r has) [
-    | inl same ↦ let e : 0 ≡ r.metric = ap (λ (x : PathRow). x.metric) same in omega (arith, few)
-    | inr before ↦ absurd (none r before)
-  ];
-}
-  where
-    one : (o : Option PathRow) → missing_of o ≤ 1
-    one None = omega arith
-    one (Some _) = omega arith
-
-    few : missing_in new arcs ≤ length arcs
-    few = sums_short (λ (a : Arc4). missing_of (tree.get net_cmp new a.to)) arcs (λ a. one (tree.get net_cmp new a.to))
+reached_start old new arcs from none settles keyed = grind (arith, common_steps, length, sums_short)
 
 -- The search ends
 module _ (m : RowMap) (arcs : List Arc4) (from : NetAddr) (now : HasLedRows m arcs from) (met : (arc : Arc4) → Contains arcs arc → IsMetIn m arc) where

@@ -1,4 +1,5 @@
 -- Each scenario is sound: its type keeps that addresses are distinct, that no network is a router's address, and what arcs join.
+use Rattle.std.proofs.lemmas.Grind.{common_steps}
 use Rattle.std.proofs.Common.{◌≡◌, ◌≢◌, ℕ, zero, suc, ◌<◌, ◌≤◌, inl, inr, refl, sym, ◌∙◌, ap, subst, arith, List, [], ◌∷◌, map, length, Contains, slice_get, Some}
 use Rattle.std.specs.Prelude.{Bool, true, not, nat_eq, nat_lt, slice_index}
 use Rattle.std.specs.List.{flat_map, list_all, list_any}
@@ -23,10 +24,7 @@ use Rattle.mesh_atoms.proofs.Options.{not_both, none_is_some}
 
 all_of : {A : Type 0} (p : A → Bool) (xs : List A) (a : A) → list_all p xs ≡ true → Contains xs a → p a ≡ true
 all_of p [] a h c = absurd (none_of a c)
-all_of p (x ∷ xs) a h c = elim (contains_cases x xs a c) [
-  | inl e ↦ subst (λ b. p b ≡ true) e (and_parts (p x) (list_all p xs) h).0
-  | inr more ↦ all_of p xs a (and_parts (p x) (list_all p xs) h).1 more
-]
+all_of p (x ∷ xs) a h c = grind (arith, common_steps, contains_cases, and_parts, all_of p xs a)
 
 pub any_of : {A : Type 0} (p : A → Bool) (xs : List A) (a : A) → p a ≡ true → Contains xs a → list_any p xs ≡ true
 any_of p [] a h c = absurd (none_of a c)

@@ -1,5 +1,6 @@
 -- The order of steps, and what a change of a set or of a map says of its elements.
-use Rattle.std.proofs.Common.{◌≡◌, ◌↔◌, ℕ, ◌+◌, ◌≤◌, ◌⊎◌, inl, inr, refl, sym, ◌∙◌, ap, subst, arith, Bool, true, false, cond, IsTrue, length, Contains, Some, None}
+use Rattle.std.proofs.lemmas.Grind.{common_steps}
+use Rattle.std.proofs.Common.{◌≡◌, ◌↔◌, ℕ, ◌+◌, ◌≤◌, ◌⊎◌, inl, inr, refl, sym, ◌∙◌, ap, arith, Bool, true, false, cond, IsTrue, length, Contains, Some, None}
 use Rattle.std.specs.Ordering.{nat_cmp, ordering_then, is_eq}
 use Rattle.std.specs.declared.cmp.Ordering.{Ordering}
 use Rattle.std.specs.Cmp.{IsTotalOrder}
@@ -76,26 +77,13 @@ module _ (m n : BTreeMap NetAddr PathRow) (step : SearchStep) (at : (q : NetAddr
   there q e = at q ∙ ap (λ (b : Bool). cond b (Some (row_of step)) (tree.get net_cmp m q)) e
 
   kept_at : tree.get net_cmp m step.node ≡ None → (r : PathRow) → IsSettledRow m r → IsSettledRow n r
-  kept_at fresh r has = elim (cases_Bool (is_eq (net_cmp step.node r.node))) [
-    | inl e ↦
-        let same : step.node ≡ r.node = net_exact step.node r.node (is_equal (net_cmp step.node r.node) e) in
-        let old : tree.get net_cmp m step.node ≡ Some r = subst (λ (q : NetAddr). tree.get net_cmp m q ≡ Some r) (sym same) has in
-        absurd (cc)
-    | inr e ↦ there r.node e ∙ has
-  ]
+  kept_at fresh r has = grind (arith, common_steps, cases_Bool, net_exact, is_equal, there)
 
   cases_at : (r : PathRow) → IsSettledRow n r → (row_of step ≡ r) ⊎ IsSettledRow m r
-  cases_at r has = elim (cases_Bool (is_eq (net_cmp step.node r.node))) [
-    | inl e ↦ let h : Some (row_of step) ≡ Some r = sym (here r.node e) ∙ has in inl (cc)
-    | inr e ↦ inr (sym (there r.node e) ∙ has)
-  ]
+  cases_at r has = grind (arith, common_steps, cases_Bool, here, there)
 
   pub settles_of : tree.get net_cmp m step.node ≡ None → Settles (IsSettledRow m) (row_of step) (IsSettledRow n)
-  settles_of fresh = record {
-    new = here step.node (ap is_eq (tied_itself net_total step.node));
-    kept = kept_at fresh;
-    cases = cases_at;
-  }
+  settles_of fresh = grind (arith, common_steps, here, tied_itself, net_total, kept_at, cases_at)
 
   pub keyed_of : IsKeyed m → IsKeyed n
   keyed_of keyed node row has = elim (cases_Bool (is_eq (net_cmp step.node node))) [

@@ -1,4 +1,5 @@
 -- What a settled network says of each router's relays and TCs, in the terms of the radio graph.
+use Rattle.std.proofs.lemmas.Grind.{common_steps}
 use Rattle.std.proofs.Common.{◌≡◌, ℕ, ◌+◌, ◌≤◌, ◌⊎◌, inl, inr, refl, sym, ◌∙◌, ap, subst, arith, List, Contains, Some, IsTrue}
 use Rattle.mesh_atoms.specs.declared.addr.Addr4.{Addr4}
 use Rattle.mesh_atoms.specs.declared.codes.metric.Metric.{Metric}
@@ -8,7 +9,6 @@ use Rattle.mesh_atoms.specs.declared.tuples.Neighbour.{Neighbour}
 use Rattle.mesh_atoms.specs.declared.graphs.Near.{Near}
 use Rattle.mesh_atoms.specs.declared.graphs.Direct.{Direct}
 use Rattle.mesh_atoms.specs.declared.graphs.Far.{Far}
-use Rattle.mesh_atoms.specs.declared.settings.RouterSettings.{RouterSettings}
 use Rattle.mesh_atoms.specs.declared.settings.Scenario.{Scenario}
 use Rattle.mesh_atoms.specs.declared.hello.Willing.{Willing as Wills}
 use Rattle.mesh_atoms.specs.Advertised.{GivesAsSelector, Advertises}
@@ -82,9 +82,7 @@ module _ (s : Scenario) (states : List State) (now : ℕ) (S : IsSettledNetwork 
       }
 
   pub willing_at : {v : ℕ} {q : State} → At states v q → IsWillingRouter s v → q.settings.willing.routing ≡ 0 → ⊥
-  willing_at {v} {q} at wills none =
-      let (r, is, positive) = wills in
-      positive (ap (λ (b : RouterSettings). b.willing.routing) (same_settings s states now S r at is) ∙ none)
+  willing_at {v} {q} at wills none = grind (arith, common_steps, same_settings)
 
   -- what a direct entry offers is one hop
   pub by_direct : (u z : ℕ) (q : State) (at : At states z q) (a : Addr4) (e most : ℕ) →

@@ -1,4 +1,5 @@
 -- Short lists, and bases of one tuple and of none.
+use Rattle.std.proofs.lemmas.Grind.{common_steps}
 use Rattle.std.proofs.Common.{◌≡◌, ℕ, zero, suc, ◌<◌, ◌⊎◌, inl, inr, refl, sym, arith, List, [], ◌∷◌, Contains, slice_get, slice_index_or, length, Some, None}
 use Rattle.std.specs.Prelude.{Bool, true, false, cond, nat_eq}
 use Rattle.std.specs.List.{IsDistinct}
@@ -34,11 +35,7 @@ pub same_number : (n : ℕ) → nat_eq n n ≡ true
 same_number n = eq-eqb n n refl
 
 pub found_one : {K V : Type 0} (eq : K → K → Bool) (k q : K) (e f : V) → cond (eq q k) (Some e) None ≡ Some f → (eq q k ≡ true) × (f ≡ e)
-found_one eq k q e f h = by_case (eq q k) h
-  where
-    by_case : (b : Bool) → cond b (Some e) None ≡ Some f → (b ≡ true) × (f ≡ e)
-    by_case true h = (refl, (cc))
-    by_case false h = absurd (cc)
+found_one eq k q e f h = grind (arith, common_steps)
 
 pub empty_within : {K V : Type 0} (eq : K → K → Bool) (now : ℕ) → IsWithin {K = K} {V = V} eq now 16384 []
 unfolding IsDistinct

@@ -1,5 +1,6 @@
 -- A graph has one certificate from a node.
-use Rattle.std.proofs.Common.{◌≡◌, ℕ, ◌⊎◌, inl, inr, refl, sym, ◌∙◌, ap, subst, arith, List, [], ◌∷◌, Contains}
+use Rattle.std.proofs.lemmas.Grind.{common_steps}
+use Rattle.std.proofs.Common.{◌≡◌, ◌⊎◌, inl, inr, refl, sym, ◌∙◌, ap, subst, arith, List, [], ◌∷◌, Contains}
 use Rattle.mesh_atoms.specs.declared.addr.NetAddr.{NetAddr}
 use Rattle.mesh_atoms.specs.Walk.{Least, Fits}
 use Rattle.mesh_atoms.specs.declared.graphs.Graph.{Graph}
@@ -38,10 +39,7 @@ same_rows (x ∷ xs) (y ∷ ys) up_x up_y to back =
     ap (λ (r : PathRow). r ∷ xs) head ∙ ap (λ (rs : List PathRow). y ∷ rs) tails
 
 row_from : (r t : PathRow) → r.node ≡ t.node → r.metric ≡ t.metric → r.parent ≡ t.parent → r ≡ t
-row_from r t a b c =
-    ap (λ (n : NetAddr). let x : PathRow = record { node = n; metric = r.metric; parent = r.parent } in x) a
-    ∙ ap (λ (m : ℕ). let x : PathRow = record { node = t.node; metric = m; parent = r.parent } in x) b
-    ∙ ap (λ (p : NetAddr). let x : PathRow = record { node = t.node; metric = t.metric; parent = p } in x) c
+row_from r t a b c = grind (arith, common_steps)
 
 -- a node has one row
 one_row : (g : Graph) (from : NetAddr) (r t : PathRow) → IsPathRow g from r → IsPathRow g from t → r.node ≡ t.node → r ≡ t

@@ -1,4 +1,5 @@
 -- Wherever lines lead, neighbours have addresses of 32 bits: HELLOs in the air name their senders so.
+use Rattle.std.proofs.lemmas.Grind.{common_steps}
 use Rattle.std.proofs.Common.{◌≡◌, ◌⊎◌, ℕ, zero, suc, ◌+◌, ◌%◌, ◌<◌, ◌^◌, inl, inr, refl, sym, ◌∙◌, ap, subst, arith, List, [], ◌∷◌, ◌++◌, length, map, Option, Some, None, Contains, Bool}
 use Rattle.std.specs.Prelude.{slice_get, slice_set, nat_eq}
 use Rattle.std.specs.List.{enumerate_from}
@@ -68,10 +69,7 @@ other_was near now told o x y (Joins f is matches none) e at = absurd (let no : 
 other_was near now told o x y (Remains apart restores) e at = restored_was near now x y restores e at
 
 after_bound : (settings : RouterSettings) (now i : ℕ) (told : Told) (hello : Hello) (old new : Neighbourhood) → AfterHello settings now i told hello old new → told.originator.0 < 2 ^ 32 → HasBound old → HasBound new
-after_bound settings now i told hello old new after below bound o e at = elim (same_or_other told.originator.0 o.0) [
-  | inl same ↦ omega (arith, same, below)
-  | inr other ↦ let (f, was) = other_was new now told o (neighbour_at old o) (neighbour_at new o) (after.other_neighbours o (λ e. other (ap (λ (a : Addr4). a.0) e))) e at in bound o f was
-]
+after_bound settings now i told hello old new after below bound o e at = grind (arith, common_steps, same_or_other, other_was)
 
 originator_number : (x : Option RawAddr) (y : Option Addr4) (raw : RawAddr) (o : Addr4) → OriginatorIs x y → x ≡ Some raw → y ≡ Some o → o.0 ≡ number_of raw.octets
 originator_number x y raw o h e f = subst (λ (z : Option Addr4). OriginatorIs (Some raw) z) f (subst (λ (z : Option RawAddr). OriginatorIs z y) e h)
@@ -201,10 +199,7 @@ tcs_left old new items (Tcs_due due next has parts are sequence) = parts_left (n
 
 set_bound : (routers : List State) (x : ℕ) (new : State) → ((y : ℕ) (s : State) → slice_get routers y ≡ Some s → HasBound s.bases.neighbourhood) → HasBound new.bases.neighbourhood →
     (y : ℕ) (s : State) → slice_get (slice_set routers x new) y ≡ Some s → HasBound s.bases.neighbourhood
-set_bound routers x new all is y s at = elim (set_at routers x new y s at) [
-  | inl (here, same) ↦ subst (λ (z : State). HasBound z.bases.neighbourhood) (sym same) is
-  | inr (there, stood) ↦ all y s stood
-]
+set_bound routers x new all is y s at = grind (arith, common_steps, set_at)
 
 -- ---- one event
 

@@ -1,4 +1,5 @@
 -- Bases that are alike, and what expiry leaves of them.
+use Rattle.std.proofs.lemmas.Grind.{common_steps}
 use Rattle.std.proofs.Common.{◌≡◌, ◌↔◌, ℕ, ◌≤◌, ◌+◌, ◌&&◌, refl, sym, ◌∙◌, ap, subst, arith, List, Option, Some, None}
 use Rattle.std.specs.Prelude.{Bool, true, false, cond, IsTrue, Contains}
 use Rattle.mesh_atoms.specs.declared.addr.Addr4.{Addr4}
@@ -9,103 +10,40 @@ use Rattle.mesh_atoms.specs.declared.tuples.Lost.{Lost}
 use Rattle.mesh_atoms.specs.declared.tuples.Neighbour.{Neighbour}
 use Rattle.mesh_atoms.specs.declared.tuples.TwoHop.{TwoHop}
 use Rattle.mesh_atoms.specs.Base.{Base, Expires, Same, if_live, base_of, addr_eq, router_eq, address_eq, network_eq, flood_eq}
-use Rattle.mesh_atoms.specs.Live.{HasLinkOf, HasSymmetricOf, KeepsNeighbour, Restores, IsSymmetricAddress, SettlesLost, Back, Gone, Stays, LiveNeighbourhood, LiveTopology, LiveNoted, Live, trim, is_symmetric_at, is_symmetric_entry}
+use Rattle.mesh_atoms.specs.Live.{HasLinkOf, HasSymmetricOf, KeepsNeighbour, Restores, IsSymmetricAddress, SettlesLost, Back, Gone, Stays, LiveNeighbourhood, LiveTopology, LiveNoted, Live, trim, is_symmetric_at}
 use Rattle.mesh_atoms.specs.Quality.{admit_on}
-use Rattle.mesh_atoms.specs.State.{Neighbourhood, TopologyBase, NotedMessages, Bases, link_at, two_hop_at, neighbour_at, lost_at}
+use Rattle.mesh_atoms.specs.State.{Neighbourhood, TopologyBase, NotedMessages, Bases, link_at, neighbour_at, lost_at}
 use Rattle.mesh_atoms.proofs.Equal.{least_only, same_neighbour}
 use Rattle.mesh_trace.specs.Positions.Alike.{AlikeNear, AlikeTopology, AlikeNoted, AlikeBases}
 
 -- ---- alike is alike both ways, and each is alike itself
 
 pub near_back : (a b : Neighbourhood) → AlikeNear a b → AlikeNear b a
-near_back a b h = record {
-  interfaces = sym h.interfaces;
-  two_hop_interfaces = sym h.two_hop_interfaces;
-  links = λ i key. sym (h.links i key);
-  two_hops = λ i key. sym (h.two_hops i key);
-  neighbours = λ o. sym (h.neighbours o);
-  losts = λ o. sym (h.losts o);
-}
+near_back a b h = grind (arith, common_steps)
 
 pub topology_back : (a b : TopologyBase) → AlikeTopology a b → AlikeTopology b a
-topology_back a b h = record {
-  advertisers = λ o. sym (h.advertisers o);
-  routers = λ key. sym (h.routers key);
-  addresses = λ key. sym (h.addresses key);
-  networks = λ key. sym (h.networks key);
-}
+topology_back a b h = grind (arith, common_steps)
 
 pub noted_back : (a b : NotedMessages) → AlikeNoted a b → AlikeNoted b a
-noted_back a b h = record {
-  interfaces = sym h.interfaces;
-  received = λ i key. sym (h.received i key);
-  processed = λ key. sym (h.processed key);
-  forwarded = λ key. sym (h.forwarded key);
-}
+noted_back a b h = grind (arith, common_steps)
 
 pub bases_back : (a b : Bases) → AlikeBases a b → AlikeBases b a
-bases_back a b h = record {
-  neighbourhood = near_back a.neighbourhood b.neighbourhood h.neighbourhood;
-  topology = topology_back a.topology b.topology h.topology;
-  noted = noted_back a.noted b.noted h.noted;
-}
+bases_back a b h = grind (arith, common_steps, near_back, topology_back, noted_back)
 
 pub near_itself : (a : Neighbourhood) → AlikeNear a a
-near_itself a = record {
-  interfaces = refl;
-  two_hop_interfaces = refl;
-  links = λ i key. refl;
-  two_hops = λ i key. refl;
-  neighbours = λ o. refl;
-  losts = λ o. refl;
-}
+near_itself a = grind (arith, common_steps)
 
 pub topology_itself : (a : TopologyBase) → AlikeTopology a a
-topology_itself a = record {
-  advertisers = λ o. refl;
-  routers = λ key. refl;
-  addresses = λ key. refl;
-  networks = λ key. refl;
-}
+topology_itself a = grind (arith, common_steps)
 
 pub noted_itself : (a : NotedMessages) → AlikeNoted a a
-noted_itself a = record {
-  interfaces = refl;
-  received = λ i key. refl;
-  processed = λ key. refl;
-  forwarded = λ key. refl;
-}
+noted_itself a = grind (arith, common_steps)
 
 pub bases_itself : (a : Bases) → AlikeBases a a
-bases_itself a = record {
-  neighbourhood = near_itself a.neighbourhood;
-  topology = topology_itself a.topology;
-  noted = noted_itself a.noted;
-}
+bases_itself a = grind (arith, common_steps, near_itself, topology_itself, noted_itself)
 
 pub bases_on : (a b c : Bases) → AlikeBases a b → AlikeBases b c → AlikeBases a c
-bases_on a b c h k = record {
-  neighbourhood = record {
-    interfaces = k.neighbourhood.interfaces ∙ h.neighbourhood.interfaces;
-    two_hop_interfaces = k.neighbourhood.two_hop_interfaces ∙ h.neighbourhood.two_hop_interfaces;
-    links = λ i key. k.neighbourhood.links i key ∙ h.neighbourhood.links i key;
-    two_hops = λ i key. k.neighbourhood.two_hops i key ∙ h.neighbourhood.two_hops i key;
-    neighbours = λ o. k.neighbourhood.neighbours o ∙ h.neighbourhood.neighbours o;
-    losts = λ o. k.neighbourhood.losts o ∙ h.neighbourhood.losts o;
-  };
-  topology = record {
-    advertisers = λ o. k.topology.advertisers o ∙ h.topology.advertisers o;
-    routers = λ key. k.topology.routers key ∙ h.topology.routers key;
-    addresses = λ key. k.topology.addresses key ∙ h.topology.addresses key;
-    networks = λ key. k.topology.networks key ∙ h.topology.networks key;
-  };
-  noted = record {
-    interfaces = k.noted.interfaces ∙ h.noted.interfaces;
-    received = λ i key. k.noted.received i key ∙ h.noted.received i key;
-    processed = λ key. k.noted.processed key ∙ h.noted.processed key;
-    forwarded = λ key. k.noted.forwarded key ∙ h.noted.forwarded key;
-  };
-}
+bases_on a b c h k = grind (arith, common_steps)
 
 -- ---- what is the only one
 
@@ -209,16 +147,7 @@ module _ (settings : RouterSettings) (now : ℕ) where
       (subst (λ (e : Option (Lost × ℕ)). SettlesLost (IsSymmetricAddress b x) (IsSymmetricAddress b' x) (now + settings.times.neighbour_hold) (if_live now e) (lost_at b' x)) (alike.losts x) (k.losts x)))
 
   pub live_near_only : (a b a' b' : Neighbourhood) → AlikeNear a b → LiveNeighbourhood settings now a a' → LiveNeighbourhood settings now b b' → AlikeNear a' b'
-  live_near_only a b a' b' alike h k = record {
-    interfaces = k.interfaces ∙ (alike.interfaces ∙ sym h.interfaces);
-    two_hop_interfaces = k.two_hop_interfaces ∙ (alike.two_hop_interfaces ∙ sym h.two_hop_interfaces);
-    links = live_links a b a' b' alike h k;
-    two_hops = λ i key.
-        k.two_hops i key ∙ (ap (λ (e : Option (Link × ℕ)). cond (is_symmetric_entry now e) (if_live now (two_hop_at b i key)) None) (live_links a b a' b' alike h k i key.link)
-        ∙ (ap (λ (e : Option (TwoHop × ℕ)). cond (is_symmetric_at a' now i key.link) (if_live now e) None) (alike.two_hops i key) ∙ sym (h.two_hops i key)));
-    neighbours = live_neighbours a b a' b' alike h k;
-    losts = live_losts a b a' b' alike h k;
-  }
+  live_near_only a b a' b' alike h k = grind (arith, common_steps, live_links, live_neighbours, live_losts)
 
   pub live_near_from : (a b a' : Neighbourhood) → AlikeNear a b → LiveNeighbourhood settings now a a' → LiveNeighbourhood settings now b a'
   live_near_from a b a' alike h = record {
@@ -242,20 +171,10 @@ expires_from : {K V : Type 0} (eq : K → K → Bool) (now : ℕ) (a b a' : Base
 expires_from eq now a b a' alike h q = h q ∙ sym (ap (if_live now) (alike q))
 
 pub live_topology_only : (now : ℕ) (a b a' b' : TopologyBase) → AlikeTopology a b → LiveTopology now a a' → LiveTopology now b b' → AlikeTopology a' b'
-live_topology_only now a b a' b' alike h k = record {
-  advertisers = expires_only addr_eq now a.advertisers b.advertisers a'.advertisers b'.advertisers alike.advertisers h.advertisers k.advertisers;
-  routers = expires_only router_eq now a.routers b.routers a'.routers b'.routers alike.routers h.routers k.routers;
-  addresses = expires_only address_eq now a.addresses b.addresses a'.addresses b'.addresses alike.addresses h.addresses k.addresses;
-  networks = expires_only network_eq now a.networks b.networks a'.networks b'.networks alike.networks h.networks k.networks;
-}
+live_topology_only now a b a' b' alike h k = grind (arith, common_steps, expires_only)
 
 pub live_noted_only : (now : ℕ) (a b a' b' : NotedMessages) → AlikeNoted a b → LiveNoted now a a' → LiveNoted now b b' → AlikeNoted a' b'
-live_noted_only now a b a' b' alike h k = record {
-  interfaces = k.interfaces ∙ (alike.interfaces ∙ sym h.interfaces);
-  received = λ i. expires_only flood_eq now (base_of a.received i) (base_of b.received i) (base_of a'.received i) (base_of b'.received i) (alike.received i) (h.received i) (k.received i);
-  processed = expires_only flood_eq now a.processed b.processed a'.processed b'.processed alike.processed h.processed k.processed;
-  forwarded = expires_only flood_eq now a.forwarded b.forwarded a'.forwarded b'.forwarded alike.forwarded h.forwarded k.forwarded;
-}
+live_noted_only now a b a' b' alike h k = grind (arith, common_steps, expires_only)
 
 -- expiry of alike bases leaves alike bases
 pub live_only : (settings : RouterSettings) (now : ℕ) (a b a' b' : Bases) → AlikeBases a b → Live settings now a a' → Live settings now b b' → AlikeBases a' b'

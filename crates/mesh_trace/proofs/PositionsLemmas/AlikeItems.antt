@@ -1,4 +1,6 @@
 -- One line tells one thing of an item, and tells the same from networks that are alike.
+use Rattle.std.proofs.Common.{arith}
+use Rattle.std.proofs.lemmas.Grind.{common_steps}
 use Rattle.std.proofs.Common.{◌≡◌, ℕ, ◌+◌, ◌<◌, ◌^◌, refl, sym, ◌∙◌, ap, subst, List, [], ◌∷◌, ◌++◌, length, map, drop, Some, Bool, codes, decimal, Ok}
 use Rattle.std.specs.Prelude.{slice_get}
 use Rattle.std.proofs.lemmas.List.{append_cancel_left, append_cancel_right}
@@ -15,7 +17,7 @@ use Rattle.mesh_atoms.specs.State.{State}
 use Rattle.mesh_texts.specs.machine.declared.frame.Frame.{Frame}
 use Rattle.mesh_texts.specs.machine.Frames.{on_each}
 use Rattle.mesh_texts.specs.machine.Sending.{IsHelloFrame}
-use Rattle.mesh_texts.specs.machine.Traffic.{Traffic, Spreads, No_arcs, Loses, Carries, with_loss, with_delivery, with_sent, leaving}
+use Rattle.mesh_texts.specs.machine.Traffic.{Traffic, Spreads, No_arcs, Loses, Carries, with_loss, with_delivery}
 use Rattle.mesh_texts.proofs.machine.packet.Encodable.{AreOctets}
 use Rattle.mesh_texts.proofs.machine.Places.{same_at}
 use Rattle.mesh_texts.specs.Lines.Marks.{face_name}
@@ -24,7 +26,7 @@ use Rattle.mesh_texts.specs.machine.Net.{NetState}
 use Rattle.mesh_trace.specs.Positions.Alike.{HasAddresses}
 use Rattle.mesh_trace.specs.Positions.Items.{TellsItem, Tells_flooding, Tells_routing, Tells_hello, Tells_tc, TellsFrame, AreTcFrames, with_flooding, with_routing}
 use Rattle.mesh_trace.specs.Reading.Lines.{IsLineOf}
-use Rattle.mesh_trace.specs.Positions.Standing.{Item, Flooding, Routing, Hello, Tc, Sent, Lost, with_state, with_traffic}
+use Rattle.mesh_trace.specs.Positions.Standing.{Item, Flooding, Routing, Hello, Tc, Sent, Lost, with_state}
 use Rattle.mesh_trace.proofs.PositionsLemmas.Leading.{tells_loss, tells_frame}
 use Rattle.mesh_trace.proofs.PositionsLemmas.RelayTexts.{AreAddresses, same_flooding, same_routing}
 use Rattle.mesh_trace.proofs.PositionsLemmas.TcFrames.{one_part, first_is, further_is}
@@ -92,9 +94,7 @@ spreads_once s now frame (a ∷ arcs) lost lost' old new new' (Carries carries r
 
 frame_once : (net : NetState) (x : ℕ) (s : State) (frame : Frame) (line : List ℕ) (new new' : NetState) (losses losses' : List Item) → TellsFrame net x s frame line new losses → TellsFrame net x s frame line new' losses' →
     (new ≡ new') × (losses ≡ losses')
-frame_once net x s frame line new new' losses losses' one other =
-    let (lost, traffic) = spreads_once net.scenario s.last frame.bytes (leaving net.scenario.arcs x frame.iface) one.lost other.lost (with_sent net.traffic) one.traffic other.traffic one.sends other.sends in
-    (one.leads ∙ (ap (λ (t : Traffic). with_traffic net t) traffic ∙ sym other.leads), one.losses_are ∙ (ap (λ (l : List ℕ). map Lost l) lost ∙ sym other.losses_are))
+frame_once net x s frame line new new' losses losses' one other = grind (arith, common_steps, spreads_once, frame, map)
 
 -- ---- octets are read back from their line
 
@@ -177,7 +177,4 @@ tells_once net x s line (Tc complete sequence rows) new new' more more' known on
     (nets, a.more_is ∙ (ap (λ (l : List Item). l ++ map Sent a.further) losses ∙ (ap (λ (l : List Frame). b.losses ++ map Sent l) (sym further) ∙ sym b.more_is)))
 tells_once net x s line (Sent frame) new new' more more' known one other =
     frame_once net x s frame line new new' more more' (tells_frame net x s line frame new more one) (tells_frame net x s line frame new' more' other)
-tells_once net x s line (Lost n) new new' more more' known one other =
-    let (a, net_is, none) = tells_loss net x s line n new more one in
-    let (b, net_is', none') = tells_loss net x s line n new' more' other in
-    (net_is ∙ sym net_is', none ∙ sym none')
+tells_once net x s line (Lost n) new new' more more' known one other = grind (arith, common_steps, tells_loss)

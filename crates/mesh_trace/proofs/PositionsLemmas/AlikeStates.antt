@@ -1,4 +1,5 @@
 -- Routers that are alike hold the same tuples, say the same, and have the same graphs and rows.
+use Rattle.std.proofs.lemmas.Grind.{common_steps}
 use Rattle.std.proofs.Common.{◌≡◌, ◌↔◌, ℕ, suc, inl, inr, refl, sym, ◌∙◌, ap, subst, arith, List, [], ◌∷◌, Option, Some, None, Contains, slice_get}
 use Rattle.std.specs.Prelude.{Bool, true, ◌⊎◌}
 use Rattle.std.specs.Cmp.{IsEquivalence}
@@ -36,18 +37,7 @@ use Rattle.mesh_trace.proofs.PositionsLemmas.AlikeBases.{bases_back}
 use Rattle.mesh_atoms.proofs.Lists.{contains_cases}
 
 pub states_back : (s t : State) → AlikeStates s t → AlikeStates t s
-states_back s t h = record {
-  settings = sym h.settings;
-  bases = bases_back s.bases t.bases h.bases;
-  relays = sym h.relays;
-  rows = sym h.rows;
-  ansn = sym h.ansn;
-  emptied = sym h.emptied;
-  sequence = sym h.sequence;
-  next_hello = sym h.next_hello;
-  next_tc = sym h.next_tc;
-  last = sym h.last;
-}
+states_back s t h = grind (arith, common_steps, bases_back)
 
 -- ---- the same tuples
 

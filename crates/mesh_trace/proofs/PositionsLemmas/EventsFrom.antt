@@ -1,4 +1,5 @@
 -- The event that comes next at a network comes next at each that is alike, and does the same to its router.
+use Rattle.std.proofs.lemmas.Grind.{common_steps}
 use Rattle.std.proofs.Common.{◌≡◌, ℕ, ◌+◌, ◌%◌, ◌<◌, ◌≤◌, min, inl, inr, refl, sym, ◌∙◌, ap, subst, arith, List, length, Some, All}
 use Rattle.std.specs.Prelude.{slice_get, nat_eq}
 use Rattle.std.proofs.lemmas.Option.{slice_get_within, get_or_from_slice_get}
@@ -108,15 +109,7 @@ module _ (s t : State) (h : AlikeStates s t) where
   emptied_from new (inr (inr none, emptied)) = inr (inr (h.rows ∙ none), emptied ∙ sym h.emptied)
 
   follows_from : (now : ℕ) (bases : Bases) (new : State) → Follows s now bases new → Follows t now bases new
-  follows_from now bases new f = record {
-    settings = f.settings ∙ sym h.settings;
-    bases_are = f.bases_are;
-    last = f.last;
-    relays = f.relays;
-    rows = f.rows;
-    ansn = ansn_from new f.ansn;
-    emptied = emptied_from new f.emptied;
-  }
+  follows_from now bases new f = grind (arith, common_steps, ansn_from, emptied_from)
 
   live_too : (now : ℕ) (live : Bases) → Live s.settings now s.bases live → Live t.settings now t.bases live
   live_too now live is = subst (λ (r : RouterSettings). Live r now t.bases live) (sym h.settings) (live_from s.settings now s.bases t.bases live h.bases is)

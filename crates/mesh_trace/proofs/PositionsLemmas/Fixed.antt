@@ -1,4 +1,5 @@
 -- All else of a run than what its lines tell is fixed.
+use Rattle.std.proofs.lemmas.Grind.{common_steps}
 use Rattle.std.proofs.Common.{inr, inl, ◌≡◌, ℕ, ◌<◌, refl, sym, ◌∙◌, ap, subst, arith, List, [], ◌∷◌, ◌++◌, length, Some}
 use Rattle.std.proofs.lemmas.Bool.{cases_lt}
 use Rattle.std.specs.Prelude.{slice_get}
@@ -78,15 +79,7 @@ item_also p q line s item rest more after sound sound' alike left stands tells =
 
 as_same : (m n : NetState) (x y : ℕ) (one other : List Item) → AlikeNets m n → y ≡ x → other ≡ one →
     Alike (record { net = m; router = x; left = one }) (record { net = n; router = y; left = other })
-as_same m n x y one other h router left = record {
-  scenario = h.scenario;
-  count = h.count;
-  routers = h.routers;
-  traffic = h.traffic;
-  last_ticks = h.last_ticks;
-  router = router;
-  left = left;
-}
+as_same m n x y one other h router left = grind (arith, common_steps, left)
 
 -- a line that leads on from the one leads on from the other, to where it is alike
 pub leads_along : (p q after : TracePosition) (line : List ℕ) → IsSoundPosition p → IsSoundPosition q → Alike p q → LineLeads p line after →
@@ -254,8 +247,4 @@ pub none_is_longer : NoneIsLonger
 none_is_longer s lines line more whole (q, there, done) = nothing_follows s lines line whole (fits_within s (lines ++ line ∷ more) lines line more q refl there)
 
 pub has_some_line : HasSomeLine
-has_some_line s some (p, (first, is, same), done) =
-    let none : first.net.last_ticks ≡ 0 = is.opening.last_ticks in
-    let all : first.net.last_ticks ≡ length first.net.routers = subst (λ (z : TracePosition). z.net.last_ticks ≡ length z.net.routers) same done.over.last_ticks in
-    let count = is.opening.count in
-    omega (arith, some, none, all, count)
+has_some_line s some (p, (first, is, same), done) = grind (arith, common_steps, length)

@@ -1,4 +1,5 @@
 -- What is made of a HELLO is fixed but for the order of tuples.
+use Rattle.std.proofs.lemmas.Grind.{common_steps}
 use Rattle.std.proofs.Common.{◌≡◌, ◌≢◌, ◌⊎◌, ℕ, ◌+◌, ◌<◌, ◌≤◌, inl, inr, refl, sym, ◌∙◌, ap, subst, arith, List, [], ◌∷◌, length, map, Option, Some, None, Contains, slice_get}
 use Rattle.std.specs.Prelude.{Bool, true, false, cond}
 use Rattle.std.specs.List.{AllPairs, list_any}
@@ -22,12 +23,11 @@ use Rattle.mesh_atoms.specs.declared.tuples.Lost.{Lost}
 use Rattle.mesh_atoms.specs.declared.tuples.Neighbour.{Neighbour}
 use Rattle.mesh_atoms.specs.declared.tuples.TwoHop.{TwoHop}
 use Rattle.mesh_atoms.specs.declared.tuples.TwoHopKey.{TwoHopKey}
-use Rattle.mesh_atoms.specs.AfterHello.{by_status, by_hearing, renewed, LinkKeptOrMade, Stood, Made, IsTheirs, GoesOn, announced, BecomesOther, Joins, Remains, row_makes, StoodOn, Same_link, New_link, TellsTwoHop, By_row, By_none, AfterHello}
+use Rattle.mesh_atoms.specs.AfterHello.{by_status, renewed, LinkKeptOrMade, Stood, Made, IsTheirs, GoesOn, announced, BecomesOther, Joins, Remains, row_makes, StoodOn, Same_link, New_link, TellsTwoHop, By_row, By_none, AfterHello}
 use Rattle.mesh_atoms.specs.Base.{Base, base_of, find, addr_eq, link_eq}
 use Rattle.mesh_atoms.specs.HelloTold.{IsSending, IsListed, IsMyStatus, IsHandedIn, Told, Tells, LooksAt}
-use Rattle.mesh_atoms.specs.Live.{trimmed, Restores, IsSymmetricAddress, SettlesLost, is_symmetric_at, is_symmetric_entry}
+use Rattle.mesh_atoms.specs.Live.{Restores, IsSymmetricAddress, SettlesLost, is_symmetric_at, is_symmetric_entry}
 use Rattle.mesh_atoms.specs.Nodes.{IsBefore}
-use Rattle.mesh_atoms.specs.Quality.{rule_of}
 use Rattle.mesh_atoms.specs.Settings.{are_distinct}
 use Rattle.mesh_atoms.specs.Sound.{SoundNeighbourhood}
 use Rattle.mesh_atoms.specs.State.{Neighbourhood, link_at, two_hop_at, neighbour_at, lost_at}
@@ -163,23 +163,10 @@ looks_back settings told status hello x r looks = record { stands = looks.stands
 -- ---- the neighbourhood after it
 
 kept_once : {A : Type 0} (P Q : A → Type 0) (old old' new new' : Option A) → old' ≡ old → ((e : A) → P e → Q e) → ((e : A) → Q e → P e) → IsKept P old new → IsKept Q old' new' → new' ≡ new
-kept_once {A} P Q old old' new new' same to back h k = by old h (subst (λ (o : Option A). IsKept Q o new') same k)
-  where
-    by : (o : Option A) → IsKept P o new → IsKept Q o new' → new' ≡ new
-    by None h k = k ∙ sym h
-    by (Some e) (inl (stays, is)) (inl (stays', is')) = is' ∙ sym is
-    by (Some e) (inl (stays, is)) (inr (goes, is')) = absurd (goes (to e stays))
-    by (Some e) (inr (goes, is)) (inl (stays, is')) = absurd (goes (back e stays))
-    by (Some e) (inr (goes, is)) (inr (goes', is')) = is' ∙ sym is
+kept_once {A} P Q old old' new new' same to back h k = grind (arith, common_steps)
 
 key_cases : (i j : ℕ) (least key : LinkKey) → ((j ≡ i) × (key ≡ least)) ⊎ ((j ≢ i) ⊎ (key ≢ least))
-key_cases i j least key = elim (same_or_other i j) [
-  | inr other ↦ inr (inl other)
-  | inl same ↦ elim (same_or_other least.addr.0 key.addr.0) [
-    | inl is ↦ inl (same, ap (λ (n : ℕ). let a : Addr4 = record { 0 = n } in let k : LinkKey = record { addr = a } in k) is)
-    | inr other ↦ inr (inr (λ e. other (ap (λ (k : LinkKey). k.addr.0) e)))
-  ]
-]
+key_cases i j least key = grind (arith, common_steps, same_or_other)
 
 module _ (settings : RouterSettings) (now i : ℕ) (told : Told) (status : Option LinkStatus) (hello : Hello) (a b a' b' : Neighbourhood) (alike : AlikeNear a b)
     (ordered : AllPairs (λ (r : HelloRow) (t : HelloRow). IsBefore r.addr t.addr) hello.rows)
@@ -192,13 +179,7 @@ module _ (settings : RouterSettings) (now i : ℕ) (told : Told) (status : Optio
   begins_once rule x y (Made other) (Made other') = refl
 
   least_once : link_at b' i told.least ≡ link_at a' i told.least
-  least_once =
-      let (x, begins, is) = h.link in
-      let (y, begins', is') = k.link in
-      let start : y ≡ x = begins_once (rule_of settings i) x y begins begins' in
-      let hold = settings.times.link_hold in
-      is' ∙ (ap (λ (e : Link × ℕ). Some (by_hearing told.shown hold now (trimmed now (by_status told.shown hold now status e)))) start
-      ∙ (ap (λ (e : Link × ℕ). Some (by_hearing told.shown hold now (trimmed now e))) (says hold x) ∙ sym is))
+  least_once = grind (arith, common_steps, begins_once)
 
   theirs_by : (m n : Neighbourhood) → SameNeighbours m n → (x : Addr4) → IsTheirs m told x → IsTheirs n told x
   theirs_by m n same x (o, e, until, at, matches, among) = (o, e, until, same o ∙ at, matches, among)
@@ -282,14 +263,7 @@ module _ (settings : RouterSettings) (now i : ℕ) (told : Told) (status : Optio
       (subst (λ (e : Option (Lost × ℕ)). SettlesLost (IsSymmetricAddress b x) (IsSymmetricAddress b' x) (now + settings.times.neighbour_hold) e (lost_at b' x)) (alike.losts x) (k.losts x)))
 
   after_once : AlikeNear a' b'
-  after_once = record {
-    interfaces = k.interfaces ∙ (alike.interfaces ∙ sym h.interfaces);
-    two_hop_interfaces = k.two_hop_interfaces ∙ (alike.two_hop_interfaces ∙ sym h.two_hop_interfaces);
-    links = links_once;
-    two_hops = two_hops_once;
-    neighbours = neighbours_once;
-    losts = losts_once;
-  }
+  after_once = grind (arith, common_steps, links_once, two_hops_once, neighbours_once, losts_once)
 
 -- ---- the taking of it
 

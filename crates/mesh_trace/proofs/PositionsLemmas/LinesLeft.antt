@@ -1,4 +1,5 @@
 -- The lines of an event behind its first one: the relays and frames that they tell, and the lines that they leave.
+use Rattle.std.proofs.lemmas.Grind.{common_steps}
 use Rattle.std.proofs.Common.{◌≡◌, ℕ, zero, suc, ◌+◌, ◌%◌, ◌<◌, ◌≤◌, List, [], ◌∷◌, ◌++◌, length, length-append, map}
 use Rattle.std.proofs.Common.{Some, Bool, codes, refl, sym, ap, ◌∙◌, subst, append_assoc, arith, All}
 use Rattle.std.specs.Prelude.{slice_get}
@@ -98,9 +99,7 @@ next_line net x s item left end (line ∷ lines) done stood (mid, one, more) =
 
 onward : (x : ℕ) (left : List Item) (end : TracePosition) (lines : List (List ℕ)) (m n : NetState) (more items : List Item) → m ≡ n →
     more ≡ items → LeadsBy (at m x (more ++ left)) lines end → LeadsBy (at n x (items ++ left)) lines end
-onward x left end lines m n more items net same leads =
-    subst (λ (k : NetState). LeadsBy (at k x (items ++ left)) lines end) net
-    (subst (λ (l : List Item). LeadsBy (at m x (l ++ left)) lines end) same leads)
+onward x left end lines m n more items net same leads = grind (arith, common_steps, leads)
 
 -- ---- relays
 

@@ -1,5 +1,6 @@
 -- HELLOs that are in the air name their sender by an address of 32 bits.
-use Rattle.std.proofs.Common.{◌≡◌, ℕ, zero, suc, ◌-◌, ◌<◌, ◌^◌, inl, inr, refl, sym, ◌∙◌, ap, subst, arith, List, [], ◌∷◌, ◌++◌, length, Option, Some, None, Contains, Bool, true, false}
+use Rattle.std.proofs.lemmas.Grind.{common_steps}
+use Rattle.std.proofs.Common.{◌≡◌, ℕ, zero, suc, ◌<◌, ◌^◌, inl, inr, refl, sym, ◌∙◌, ap, subst, arith, List, [], ◌∷◌, ◌++◌, length, Option, Some, None, Contains, Bool, true, false}
 use Rattle.std.specs.Prelude.{slice_index, replicate}
 use Rattle.mesh_atoms.specs.declared.addr.Addr4.{Addr4}
 use Rattle.mesh_atoms.specs.declared.hello.Hello.{Hello}
@@ -58,17 +59,13 @@ raw_of None (Some a) o h e = absurd h
 raw_of (Some raw) None o h e = absurd h
 
 raw_octets : (set : Bool) (width : ℕ) (x : Option RawAddr) (text : List ℕ) (raw : RawAddr) → SpellsOriginator set width x text → x ≡ Some raw → AreOctets text → AreOctets raw.octets
-raw_octets true width (Some a) text raw h e octets =
-    let same : a ≡ raw = cc in
-    subst (λ (z : RawAddr). AreOctets z.octets) same (subst AreOctets (sym h.1) (octets_both text (replicate (16 - length text) 0) octets (zeros (16 - length text))))
+raw_octets true width (Some a) text raw h e octets = grind (arith, common_steps, raw, octets_both, length, zeros)
 raw_octets true width None text raw h e octets = absurd h
 raw_octets false width (Some a) text raw h e octets = absurd h
 raw_octets false width None text raw h e octets = absurd cc
 
 number_below : (octets : List ℕ) → AreOctets octets → number_of octets < 2 ^ 32
-number_below octets h =
-    let a = h 0 in let b = h 1 in let c = h 2 in let d = h 3 in
-    omega (arith, a, b, c, d)
+number_below octets h = grind (arith, common_steps)
 
 message_octets : (m : MessageFields) (bytes : List ℕ) → IsSoleMessage m bytes → (raw : RawAddr) → m.originator ≡ Some raw → AreOctets raw.octets
 message_octets m bytes h raw is =

@@ -1,4 +1,5 @@
 -- Where a run is over no event comes next.
+use Rattle.std.proofs.lemmas.Grind.{common_steps}
 use Rattle.std.proofs.Common.{◌≡◌, ℕ, ◌<◌, List, [], ◌∷◌, ◌++◌, Some, subst, arith, All}
 use Rattle.std.specs.Prelude.{slice_get}
 use Rattle.std.proofs.lemmas.List.Elements.{All-head, All-tail}
@@ -33,6 +34,4 @@ over_opens net line after over (By_tick x moment next opens) =
     let early = next.in_time in
     let is = next.first.is in
     absurd (omega (arith, late, early, is))
-over_opens net line after over (By_last_tick only some opens) =
-    let all = over.last_ticks in
-    absurd (omega (arith, some, all))
+over_opens net line after over (By_last_tick only some opens) = grind (arith, common_steps)

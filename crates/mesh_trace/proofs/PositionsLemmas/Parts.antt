@@ -1,5 +1,6 @@
 -- Rows are cut into parts in one way, and a series has one next moment.
-use Rattle.std.proofs.Common.{◌≡◌, ℕ, suc, ◌+◌, ◌-◌, ◌*◌, ◌<◌, ◌≤◌, refl, sym, ◌∙◌, ap, subst, arith, List, [], ◌∷◌, ◌++◌, length, length-append, Some}
+use Rattle.std.proofs.lemmas.Grind.{common_steps}
+use Rattle.std.proofs.Common.{◌≡◌, ℕ, suc, ◌+◌, ◌-◌, ◌<◌, ◌≤◌, refl, sym, ◌∙◌, ap, subst, arith, List, [], ◌∷◌, ◌++◌, length, length-append, Some}
 use Rattle.std.specs.Prelude.{slice_get}
 use Rattle.std.specs.List.{flat_map}
 use Rattle.std.proofs.lemmas.List.{append-nil}
@@ -10,12 +11,7 @@ use Rattle.mesh_texts.specs.machine.Sending.{IsNextMoment}
 -- ---- moments
 
 pub moment_once : (start interval now one other : ℕ) → IsNextMoment start interval now one → IsNextMoment start interval now other → one ≡ other
-moment_once start interval now one other h k =
-    let below : one ≤ start + k.turn * interval = h.first k.turn (subst (λ (n : ℕ). now < n) k.is k.later) in
-    let above : other ≤ start + h.turn * interval = k.first h.turn (subst (λ (n : ℕ). now < n) h.is h.later) in
-    let one_is = h.is in
-    let other_is = k.is in
-    omega (arith, below, above, one_is, other_is)
+moment_once start interval now one other h k = grind (arith, common_steps)
 
 -- ---- parts
 
@@ -40,33 +36,15 @@ same_fronts : (a b x y : List TcRow) → length a ≡ length b → a ++ x ≡ b 
 same_fronts [] [] x y same e = (refl, e)
 same_fronts [] (d ∷ b) x y same e = absurd (omega (arith, same))
 same_fronts (c ∷ a) [] x y same e = absurd (omega (arith, same))
-same_fronts (c ∷ a) (d ∷ b) x y same e =
-    let first : c ≡ d = cc in
-    let others : a ++ x ≡ b ++ y = cc in
-    let (fronts, rest) = same_fronts a b x y (omega (arith, same)) others in
-    (ap (λ (z : TcRow). z ∷ a) first ∙ ap (λ (l : List TcRow). d ∷ l) fronts, rest)
+same_fronts (c ∷ a) (d ∷ b) x y same e = grind (arith, common_steps, same_fronts a b x y)
 
 cut_once : (most : ℕ) → 0 < most → (xs ys : List (List TcRow)) → Cut most xs → Cut most ys → joined xs ≡ joined ys → xs ≡ ys
 unfolding Cut
 cut_once most some [] ys cut cut' same = absurd cut
 cut_once most some (x ∷ xs) [] cut cut' same = absurd cut'
 cut_once most some (x ∷ []) (y ∷ []) cut cut' same = ap (λ (p : List TcRow). p ∷ []) (sym (append-nil x) ∙ (same ∙ append-nil y))
-cut_once most some (x ∷ []) (y ∷ (z ∷ ys)) cut cut' same =
-    let a = length-append x [] in
-    let b = length-append y (joined (z ∷ ys)) in
-    let lengths = ap (λ (l : List TcRow). length l) same in
-    let (few, has) = cut in
-    let (full, rest) = cut' in
-    let more = some_rows most some (z ∷ ys) rest in
-    absurd (omega (arith, a, b, lengths, few, full, more))
-cut_once most some (x ∷ (z ∷ xs)) (y ∷ []) cut cut' same =
-    let a = length-append x (joined (z ∷ xs)) in
-    let b = length-append y [] in
-    let lengths = ap (λ (l : List TcRow). length l) same in
-    let (full, rest) = cut in
-    let (few, has) = cut' in
-    let more = some_rows most some (z ∷ xs) rest in
-    absurd (omega (arith, a, b, lengths, few, full, more))
+cut_once most some (x ∷ []) (y ∷ (z ∷ ys)) cut cut' same = grind (arith, common_steps, length-append, length, some_rows)
+cut_once most some (x ∷ (z ∷ xs)) (y ∷ []) cut cut' same = grind (arith, common_steps, length-append, length, some_rows)
 cut_once most some (x ∷ (z ∷ xs)) (y ∷ (w ∷ ys)) cut cut' same =
     let (full, rest) = cut in
     let (full', rest') = cut' in

@@ -1,4 +1,5 @@
 -- What a relay line tells can be read back: the relays are fixed by it.
+use Rattle.std.proofs.lemmas.Grind.{common_steps}
 use Rattle.std.proofs.Common.{◌≡◌, ℕ, suc, ◌<◌, ◌^◌, ◌/◌, ◌%◌, true, List, [], ◌∷◌, ◌++◌, refl, sym, ap, ◌∙◌, subst, arith, append_assoc, codes, decimal, Contains}
 use Rattle.std.proofs.lemmas.List.{append_cancel_left, append_cancel_right}
 use Rattle.mesh_atoms.specs.declared.addr.Addr4.{Addr4}
@@ -65,17 +66,8 @@ same_relays (x ∷ xs) (y ∷ ys) are e = same_spaced (x ∷ xs) (y ∷ ys) are 
 
 -- by their lines
 pub same_flooding : (router face : List ℕ) (xs ys : List Addr4) → AreAddresses xs → flooding_text router face xs ≡ flooding_text router face ys → xs ≡ ys
-same_flooding router face xs ys are e =
-    let one = append_cancel_left (codes "relays ") (router ++ (codes " flooding " ++ (face ++ (relays_text xs ++ codes "\n")))) (router ++ (codes " flooding " ++ (face ++ (relays_text ys ++ codes "\n")))) e in
-    let two = append_cancel_left router (codes " flooding " ++ (face ++ (relays_text xs ++ codes "\n"))) (codes " flooding " ++ (face ++ (relays_text ys ++ codes "\n"))) one in
-    let three = append_cancel_left (codes " flooding ") (face ++ (relays_text xs ++ codes "\n")) (face ++ (relays_text ys ++ codes "\n")) two in
-    let four = append_cancel_left face (relays_text xs ++ codes "\n") (relays_text ys ++ codes "\n") three in
-    same_relays xs ys are (append_cancel_right (relays_text xs) (relays_text ys) (codes "\n") four)
+same_flooding router face xs ys are e = grind (arith, common_steps, append_cancel_left, codes, same_relays, append_cancel_right)
 
 pub same_routing : (router : List ℕ) (xs ys : List Addr4) → AreAddresses xs → routing_relays_line router xs ≡ routing_relays_line router ys → xs ≡ ys
 unfolding routing_relays_line
-same_routing router xs ys are e =
-    let one = append_cancel_left (codes "relays ") (router ++ (codes " routing" ++ (relays_text xs ++ codes "\n"))) (router ++ (codes " routing" ++ (relays_text ys ++ codes "\n"))) e in
-    let two = append_cancel_left router (codes " routing" ++ (relays_text xs ++ codes "\n")) (codes " routing" ++ (relays_text ys ++ codes "\n")) one in
-    let three = append_cancel_left (codes " routing") (relays_text xs ++ codes "\n") (relays_text ys ++ codes "\n") two in
-    same_relays xs ys are (append_cancel_right (relays_text xs) (relays_text ys) (codes "\n") three)
+same_routing router xs ys are e = grind (arith, common_steps, append_cancel_left, codes, same_relays, append_cancel_right)

@@ -1,4 +1,5 @@
 -- The relay lines of an event.
+use Rattle.std.proofs.lemmas.Grind.{common_steps}
 use Rattle.std.proofs.Common.{set-set, ◌≡◌, ℕ, ◌+◌, List, [], ◌∷◌, ◌++◌, length, length-append, map, Some, refl, sym, ap, ◌∙◌, subst, append_assoc, arith}
 use Rattle.std.specs.Prelude.{slice_get}
 use Rattle.std.specs.List.{flat_map, enumerate_from}
@@ -44,9 +45,7 @@ module _ (net : NetState) (x : ℕ) (was is : State) (stood : slice_get net.rout
       is.relays.flooding ≡ told ++ todo → length told ≡ n → length todo ≡ length faces →
       Walks (at (with_state net x (told_so is told)) x (map (λ f. Flooding f.0) (enumerate_from n faces) ++ rest)) (at (with_state net x (told_so is (told ++ todo))) x rest)
       (flat_map (flooding_relays_line is.settings.name is.relays.flooding) (enumerate_from n faces))
-  floods_walk rest front [] n told [] faces_are front_is flooding_is told_is same =
-      subst (λ (l : List (List Addr4)). Walks (at (with_state net x (told_so is told)) x rest) (at (with_state net x (told_so is l)) x rest) []) (sym (append-nil told))
-      (walks_nowhere (at (with_state net x (told_so is told)) x rest))
+  floods_walk rest front [] n told [] faces_are front_is flooding_is told_is same = grind (arith, common_steps, append-nil, walks_nowhere)
   floods_walk rest front [] n told (one ∷ todo) faces_are front_is flooding_is told_is same = absurd (omega (arith, same))
   floods_walk rest front (face ∷ faces) n told [] faces_are front_is flooding_is told_is same = absurd (omega (arith, same))
   floods_walk rest front (face ∷ faces) n told (one ∷ todo) faces_are front_is flooding_is told_is same =

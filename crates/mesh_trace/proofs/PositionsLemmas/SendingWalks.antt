@@ -1,4 +1,6 @@
 -- Frames that are told, with their losses.
+use Rattle.std.proofs.Common.{arith}
+use Rattle.std.proofs.lemmas.Grind.{common_steps}
 use Rattle.std.proofs.Common.{◌≡◌, ℕ, ◌<◌, List, [], ◌∷◌, ◌++◌, length, map, Some, refl, sym, subst, append_assoc, All}
 use Rattle.std.specs.Prelude.{slice_get}
 use Rattle.std.specs.List.{flat_map}
@@ -63,9 +65,7 @@ frame_walk net x s item e after more rest stood sends told =
 pub frames_walk : (net : NetState) (x : ℕ) (s : State) (rest : List Item) (es : List Emission) (fs : List Frame) (before after : Traffic) → slice_get net.routers x ≡ Some s →
     map frame_of es ≡ fs → SendsAll net.scenario s.last x es before after →
     Walks (at (with_traffic net before) x (map Sent fs ++ rest)) (at (with_traffic net after) x rest) (flat_map (sent_lines net.scenario s.last s.settings) es)
-frames_walk net x s rest [] fs before after stood are same =
-    subst (λ (l : List Frame). Walks (at (with_traffic net before) x (map Sent l ++ rest)) (at (with_traffic net after) x rest) []) are
-    (subst (λ (t : Traffic). Walks (at (with_traffic net before) x rest) (at (with_traffic net t) x rest) []) (sym same) (walks_nowhere _))
+frames_walk net x s rest [] fs before after stood are same = grind (arith, common_steps, map, walks_nowhere)
 frames_walk net x s rest (e ∷ es) fs before after stood are (mid, one, more) =
     subst (λ (l : List Frame). Walks (at (with_traffic net before) x (map Sent l ++ rest)) (at (with_traffic net after) x rest) (flat_map (sent_lines net.scenario s.last s.settings) (e ∷ es))) are
     (walks_on _ (at (with_traffic net mid) x (map Sent (map frame_of es) ++ rest)) _ (sent_lines net.scenario s.last s.settings e) (flat_map (sent_lines net.scenario s.last s.settings) es)

@@ -1,4 +1,5 @@
 -- The frames of one TC: the same octets on each interface.
+use Rattle.std.proofs.lemmas.Grind.{common_steps}
 use Rattle.std.proofs.Common.{◌≡◌, ℕ, zero, suc, ◌<◌, List, [], ◌∷◌, ◌++◌, length, drop, Bool, refl, sym, ap, ◌∙◌, subst, arith}
 use Rattle.std.proofs.lemmas.List.{append-nil}
 use Rattle.mesh_atoms.specs.declared.tc.Tc.{Tc}
@@ -42,9 +43,7 @@ first_of (frame ∷ more) other = frame
 
 -- the first frame and the further ones, by their octets
 pub first_is : (s : State) (bytes : List ℕ) (first : Frame) (further : List Frame) → first ∷ further ≡ on_each (length s.settings.interfaces) bytes → first ≡ record { iface = 0; bytes = bytes }
-first_is s bytes first further are =
-    let whole = are ∙ on_first (length s.settings.interfaces) bytes (some_interface s.settings) in
-    ap (λ (l : List Frame). first_of l first) whole
+first_is s bytes first further are = grind (arith, common_steps, are, on_first, length, bytes, some_interface)
 
 pub further_is : (s : State) (bytes : List ℕ) (first : Frame) (further : List Frame) → first ∷ further ≡ on_each (length s.settings.interfaces) bytes → further ≡ drop 1 (on_each (length s.settings.interfaces) bytes)
 further_is s bytes first further are = ap (drop 1) are

@@ -1,4 +1,5 @@
 -- What is made of a flooded message and of a TC is fixed but for the order of tuples.
+use Rattle.std.proofs.lemmas.Grind.{common_steps}
 use Rattle.std.proofs.Common.{◌≡◌, ◌≢◌, ◌⊎◌, ℕ, ◌+◌, inl, inr, refl, sym, ◌∙◌, ap, subst, arith, List, length, Option, Some, None, Contains}
 use Rattle.std.specs.Prelude.{Bool, true, false, cond, nat_le, nat_lt, not, count_by, ◌&&◌, if◌then◌else◌}
 use Rattle.std.specs.Option.{is_some}
@@ -73,9 +74,7 @@ forwarded_by own heading link received most forwarded many =
 
 module _ (settings : RouterSettings) (now : ℕ) (a b : NotedMessages) (sound : SoundNoted settings now a) (sound' : SoundNoted settings now b) (alike : AlikeNoted a b) where
   pub process_once : (own : Addr4) (heading : Heading) → process_of own heading b ≡ process_of own heading a
-  process_once own heading =
-      ap (λ (e : Option (Noted × ℕ)). process_by own heading e (length b.processed)) (alike.processed (key_of heading))
-      ∙ ap (λ (n : ℕ). process_by own heading (find flood_eq a.processed (key_of heading)) n) (same_size flood_equiv a.processed b.processed sound.processed.distinct sound'.processed.distinct alike.processed)
+  process_once own heading = grind (arith, common_steps, length, same_size, flood_equiv)
 
   pub forward_once : (i : ℕ) (own : Addr4) (heading : Heading) (link : Option Bool) → forward_of i own heading link b ≡ forward_of i own heading link a
   forward_once i own heading link =
@@ -92,10 +91,7 @@ notes_once true key until a b a' b' alike h k = λ q. k q ∙ (ap (λ (e : Optio
 notes_once false key until a b a' b' alike h k = λ q. k q ∙ (alike q ∙ sym (h q))
 
 pub same_or_other : (i j : ℕ) → (j ≡ i) ⊎ (j ≢ i)
-same_or_other i j = elim (cases_lt i j) [
-  | inl less ↦ inr (λ e. omega (arith, e, less))
-  | inr most ↦ elim (cases_lt j i) [ inl less ↦ inr (λ e. omega (arith, e, less)) | inr least ↦ inl (omega (arith, most, least)) ]
-]
+same_or_other i j = grind (arith, common_steps, cases_lt)
 
 after_note_once : (times : Times) (now i : ℕ) (heading : Heading) (processed : Bool) (answer : Forward) (a b a' b' : NotedMessages) → AlikeNoted a b →
     AfterNote times now i heading processed answer a a' → AfterNote times now i heading processed answer b b' → AlikeNoted a' b'

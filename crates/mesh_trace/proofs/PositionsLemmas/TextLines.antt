@@ -1,5 +1,6 @@
 -- Texts of whole lines, and the lines that they have.
-use Rattle.std.proofs.Common.{◌≡◌, ℕ, true, false, eqb, List, [], ◌∷◌, ◌++◌, refl, sym, ap, ◌∙◌, arith, append_assoc, codes, decimal}
+use Rattle.std.proofs.lemmas.Grind.{common_steps}
+use Rattle.std.proofs.Common.{◌≡◌, ℕ, true, eqb, List, [], ◌∷◌, ◌++◌, refl, sym, ap, ◌∙◌, arith, append_assoc, codes, decimal}
 use Rattle.std.specs.Prelude.{slice_index_or}
 use Rattle.std.proofs.lemmas.Bool.{ne_eqb}
 use Rattle.mesh_atoms.specs.declared.addr.Addr4.{Addr4}
@@ -12,7 +13,7 @@ use Rattle.mesh_texts.specs.Trace.{tick_line, heard_line, flooding_relays_line, 
 use Rattle.mesh_texts.proofs.Cuts.{lacks, lacks_both, lacks_rest, not_here}
 use Rattle.mesh_texts.proofs.Marked.{relays_lack, own_name_lacks, router_name_lacks, hex_lacks, name_lacks}
 use Rattle.mesh_texts.proofs.LineTexts.{address, number, face}
-use Rattle.mesh_trace.specs.Reading.Lines.{lines_of, begun}
+use Rattle.mesh_trace.specs.Reading.Lines.{lines_of}
 
 -- a text that is one line
 pub record OneLine (text : List ℕ) : Type 0 where
@@ -23,9 +24,7 @@ pub record OneLine (text : List ℕ) : Type 0 where
 -- the first line
 lines_front : (inside rest : List ℕ) → lacks 10 inside ≡ true → lines_of (inside ++ 10 ∷ rest) ≡ inside ∷ lines_of rest
 lines_front [] rest h = refl
-lines_front (x ∷ xs) rest h =
-    let other : eqb x 10 ≡ false = ne_eqb x 10 (not_here 10 x xs h) in
-    rw other (ap (begun x) (lines_front xs rest (lacks_rest 10 x xs h)))
+lines_front (x ∷ xs) rest h = grind (arith, common_steps, eqb, ne_eqb, not_here, lacks_rest, lines_front xs rest (lacks_rest 10 x xs h))
 
 -- a text of such a line and more
 pub lines_more : (text rest : List ℕ) → (one : OneLine text) → lines_of (text ++ rest) ≡ one.inside ∷ lines_of rest

@@ -1,5 +1,7 @@
 -- What a reading of a HELLO looks at, by its rows.
-use Rattle.std.proofs.Common.{◌≡◌, ℕ, eqb, inl, inr, Bool, true, false, List, [], ◌∷◌, refl, sym, subst}
+use Rattle.std.proofs.Common.{arith}
+use Rattle.std.proofs.lemmas.Grind.{common_steps}
+use Rattle.std.proofs.Common.{◌≡◌, ℕ, eqb, inl, inr, List, [], ◌∷◌, refl, sym, subst}
 use Rattle.std.specs.Prelude.{Option, Some, None, IsSome, ◌≢◌}
 use Rattle.std.specs.Option.{option_map}
 use Rattle.std.proofs.lemmas.Bool.{eqb-true, eqb-false}
@@ -19,10 +21,7 @@ use Rattle.mesh_trace.proofs.SpellingLemmas.OneMessage.{IsSole}
 
 -- a message that keeps the rules has addresses of IPv4
 pub four_octets : (width : ℕ) → (width ≢ 4 → ⊥) → width ≡ 4
-four_octets width keeps = at (eqb width 4) refl where
-  at : (t : Bool) → eqb width 4 ≡ t → width ≡ 4
-  at true e = eqb-true width 4 e
-  at false e = absurd (keeps (eqb-false width 4 e))
+four_octets width keeps = grind (arith, common_steps, eqb, eqb-true, eqb-false)
 
 pub hello_width : (m : MessageFields) → Keeps (BreaksHello m) → m.width ≡ 4
 hello_width m keeps = four_octets m.width (λ not. keeps _ None (AddressWidth not))
@@ -73,22 +72,7 @@ module _ (m : MessageFields) (hello : Hello) (is : HelloIs m hello) where
 
 -- octets may be sent for the HELLO where they are a packet of one message alone that says it
 pub writes_of : (hello : Hello) (bytes : List ℕ) → IsSole (SaysHello hello) bytes → WritesHello hello bytes
-writes_of hello bytes (m, packet, says) = record {
-  message = m;
-  packet = packet;
-  kind = says.header.kind;
-  limit = says.header.limit;
-  count = says.header.count;
-  sequence = says.header.sequence;
-  reads = says.reads;
-  keeps = says.keeps;
-  tlvs = says.tlvs;
-  parts = says.parts;
-}
+writes_of hello bytes (m, packet, says) = grind (arith, common_steps)
 
 pub sole_of : (hello : Hello) (bytes : List ℕ) → WritesHello hello bytes → IsSole (SaysHello hello) bytes
-sole_of hello bytes w = (
-  w.message,
-  w.packet,
-  record { header = record { kind = w.kind; limit = w.limit; count = w.count; sequence = w.sequence }; reads = w.reads; keeps = w.keeps; tlvs = w.tlvs; parts = w.parts },
-)
+sole_of hello bytes w = grind (arith, common_steps)

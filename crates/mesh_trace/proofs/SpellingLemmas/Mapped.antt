@@ -1,5 +1,6 @@
 -- Items of a list one after the other, and by their fields.
-use Rattle.std.proofs.Common.{◌≡◌, ℕ, ◌+◌, ◌<◌, ◌≤◌, ◌⊎◌, inl, inr, Bool, true, false, refl, ltb, List, ◌∷◌, length, map, sym, subst, ap, ◌∙◌, arith, slice_index_or}
+use Rattle.std.proofs.lemmas.Grind.{common_steps}
+use Rattle.std.proofs.Common.{◌≡◌, ℕ, ◌+◌, ◌<◌, ◌≤◌, ltb, List, ◌∷◌, length, map, sym, subst, ap, ◌∙◌, arith, slice_index_or}
 use Rattle.std.specs.Prelude.{All, Contains, Some, drop, slice_get}
 use Rattle.std.proofs.lemmas.List.{at_drop_more, drop-map}
 use Rattle.std.proofs.lemmas.List.Elements.{All-contains}
@@ -18,16 +19,7 @@ module _ {X : Type 0} (P : ℕ → X → Type 0) (xs : List X) where
   HoldsBefore i = (j : ℕ) (x : X) → j < i → slice_get xs j ≡ Some x → P j x
 
   pub before_more : (i : ℕ) (x : X) → slice_get xs i ≡ Some x → P i x → HoldsBefore i → HoldsBefore (i + 1)
-  before_more i x here holds before j y lt is = elim (lt_or_eq j i (omega (arith, lt))) [
-    | inl less ↦ before j y less is
-    | inr same ↦ subst (λ (n : ℕ). P n y) (sym same) (subst (P i) (some_equal x y (sym here ∙ ap (slice_get xs) (sym same) ∙ is)) holds)
-  ]
-    where
-      lt_or_eq : (a b : ℕ) → a ≤ b → (a < b) ⊎ (a ≡ b)
-      lt_or_eq a b le = at (ltb a b) refl where
-        at : (t : Bool) → ltb a b ≡ t → (a < b) ⊎ (a ≡ b)
-        at true e = inl (ltb-true a b e)
-        at false e = inr (omega (arith, le, ltb-false a b e))
+  before_more i x here holds before j y lt is = grind (arith, common_steps, some_equal, ltb, ltb-true, ltb-false)
 
   pub before_all : (i : ℕ) → length xs ≤ i → HoldsBefore i → (j : ℕ) (x : X) → slice_get xs j ≡ Some x → P j x
   before_all i most before j x is = before j x (let lt = slice_get_within xs j x is in omega (arith, lt, most)) is

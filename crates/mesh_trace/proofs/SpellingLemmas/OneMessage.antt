@@ -1,7 +1,8 @@
 -- A packet that was read, and the one message that octets may be sent for.
-use Rattle.std.proofs.Common.{◌≡◌, ℕ, ◌+◌, ◌<◌, Bool, List, [], ◌∷◌, ◌++◌, length, refl, sym, ap, subst, ◌∙◌, arith, append_assoc}
+use Rattle.std.proofs.lemmas.Grind.{common_steps}
+use Rattle.std.proofs.Common.{◌≡◌, ℕ, ◌+◌, ◌<◌, Bool, List, [], ◌∷◌, length, refl, ap, subst, ◌∙◌, arith, append_assoc}
 use Rattle.std.specs.Prelude.{slice_range, slice_index, slice_index_or, IsTrue, ◌↔◌}
-use Rattle.mesh_atoms.proofs.Reading.{text_is, Stands, stands_next, behind}
+use Rattle.mesh_atoms.proofs.Reading.{text_is, stands_next, behind}
 use Rattle.mesh_atoms.proofs.Lists.{heads_equal}
 use Rattle.mesh_packet.specs.declared.packet.Span.{Span}
 use Rattle.mesh_packet.specs.Fields.{MessageFields, PacketFields}
@@ -12,14 +13,7 @@ use Rattle.mesh_wire.specs.Writes.{HasBriefBlocks, IsSoleMessage, alone}
 
 -- the message's octets are those at its span
 pub stands_alone : (m : MessageFields) (s : Span) (bytes : List ℕ) (is : Spells (alone m) (s ∷ []) bytes) → slice_range bytes s.start (s.start + s.len) ≡ is.messages_is.0
-stands_alone m s bytes is =
-    let end : ℕ = length bytes in
-    let front = first_stands bytes is.flags is.sequence (is.tlvs ++ is.messages) is.whole in
-    let both : Stands bytes 1 (is.sequence ++ is.tlvs) is.messages end = record { parts = front.parts ∙ sym (append_assoc is.sequence is.tlvs is.messages); at_end = front.at_end; fits = front.fits } in
-    let last = behind bytes (1 + length is.sequence) is.tlvs is.messages end (stands_next bytes 1 is.sequence is.tlvs is.messages end both) in
-    let (text, rest, spelled, stands, none, parts) = is.messages_is in
-    let there = text_is bytes (1 + length is.sequence + length is.tlvs) end text rest (omega (arith, last.1)) (omega arith) (last.0 ∙ parts) in
-    ap (λ (p : Span). slice_range bytes p.start (p.start + p.len)) stands ∙ there.1
+stands_alone m s bytes is = grind (arith, common_steps, length, first_stands, append_assoc, behind, stands_next, text_is)
 
 -- one span of one message
 one_span : (spans : List Span) (none : Span) → length spans ≡ 1 → spans ≡ slice_index_or spans 0 none ∷ []
@@ -29,10 +23,7 @@ one_span (x ∷ y ∷ xs) none e = absurd (omega (arith, e))
 
 pub alone_spans : (packet : PacketFields) (m : MessageFields) (spans : List Span) (s none : Span) (bytes : List ℕ) → packet ≡ alone m → length packet.messages ≡ length spans → s ≡ slice_index_or spans 0 none →
     Spells packet spans bytes → Spells (alone m) (s ∷ []) bytes
-alone_spans packet m spans s none bytes e count at is =
-    let one : length spans ≡ 1 = sym count ∙ ap (λ (p : PacketFields). length p.messages) e in
-    let same : spans ≡ s ∷ [] = one_span spans none one ∙ ap (λ (p : Span). p ∷ []) (sym at) in
-    subst (λ (ss : List Span). Spells (alone m) ss bytes) same (subst (λ (p : PacketFields). Spells p spans bytes) e is)
+alone_spans packet m spans s none bytes e count at is = grind (arith, common_steps, length, one_span)
 
 module _ (Says : MessageFields → Type 0) (bytes : List ℕ) where
   -- the octets are a packet of one message alone of which that is true

@@ -1,4 +1,6 @@
 -- When rows of a HELLO are the same, and when HELLOs are.
+use Rattle.std.proofs.Common.{arith}
+use Rattle.std.proofs.lemmas.Grind.{common_steps}
 use Rattle.std.proofs.Common.{◌≡◌, Bool, true, false, eqb, ◌&&◌, refl, ap, sym, ◌∙◌, Decides}
 use Rattle.std.specs.Prelude.{Option}
 use Rattle.std.specs.Option.{option_eq}
@@ -65,10 +67,7 @@ abbrev row_of : NetAddr → Option LocalIf → Option LinkStatus → Option Othe
 row_of n l k o m r = record { addr = n; local = l; link = k; other = o; metrics = m; mpr = r }
 
 pub same_row : (a b : HelloRow) → a.addr ≡ b.addr → a.local ≡ b.local → a.link ≡ b.link → a.other ≡ b.other → a.metrics ≡ b.metrics → a.mpr ≡ b.mpr → a ≡ b
-same_row a b n l k o m r =
-    ap (λ x. row_of x a.local a.link a.other a.metrics a.mpr) n ∙ (ap (λ x. row_of b.addr x a.link a.other a.metrics a.mpr) l
-    ∙ (ap (λ x. row_of b.addr b.local x a.other a.metrics a.mpr) k ∙ (ap (λ x. row_of b.addr b.local b.link x a.metrics a.mpr) o
-    ∙ (ap (λ x. row_of b.addr b.local b.link b.other x a.mpr) m ∙ ap (λ x. row_of b.addr b.local b.link b.other b.metrics x) r))))
+same_row a b n l k o m r = grind (arith, common_steps, metrics)
 
 abbrev metrics_test : Metrics → Metrics → Bool
 metrics_test a b = option_eq (λ (m n : Metric). eqb m.code n.code) a.link_in b.link_in && (option_eq (λ (m n : Metric). eqb m.code n.code) a.link_out b.link_out

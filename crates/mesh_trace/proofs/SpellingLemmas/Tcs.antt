@@ -1,4 +1,6 @@
 -- What a reading of a TC looks at, and what octets may be sent for one.
+use Rattle.std.proofs.Common.{arith}
+use Rattle.std.proofs.lemmas.Grind.{common_steps}
 use Rattle.std.proofs.Common.{◌≡◌, ℕ, List}
 use Rattle.std.specs.Prelude.{None}
 use Rattle.mesh_atoms.specs.declared.addr.NetAddr.{NetAddr}
@@ -23,22 +25,7 @@ pub parts_looked : (m : MessageFields) → ((net : NetAddr) (part : TlvFields) �
 parts_looked m read net part p = let r = read net part p in (r.ext, r.kind)
 
 pub writes_of : (tc : Tc) (hop_limit : ℕ) (validity bytes : List ℕ) → IsSole (SaysTc tc hop_limit validity) bytes → WritesTc tc hop_limit validity bytes
-writes_of tc hop_limit validity bytes (m, packet, says) = record {
-  message = m;
-  packet = packet;
-  kind = says.header.kind;
-  limit = says.header.limit;
-  count = says.header.count;
-  reads = says.reads;
-  validity_is = says.validity_is;
-  keeps = says.keeps;
-  tlvs = says.tlvs;
-  parts = says.parts;
-}
+writes_of tc hop_limit validity bytes (m, packet, says) = grind (arith, common_steps)
 
 pub sole_of : (tc : Tc) (hop_limit : ℕ) (validity bytes : List ℕ) → WritesTc tc hop_limit validity bytes → IsSole (SaysTc tc hop_limit validity) bytes
-sole_of tc hop_limit validity bytes w = (
-  w.message,
-  w.packet,
-  record { header = record { kind = w.kind; limit = w.limit; count = w.count }; reads = w.reads; validity_is = w.validity_is; keeps = w.keeps; tlvs = w.tlvs; parts = w.parts },
-)
+sole_of tc hop_limit validity bytes w = grind (arith, common_steps)

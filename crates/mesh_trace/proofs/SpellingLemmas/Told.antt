@@ -1,5 +1,6 @@
 -- What is said of addresses, block by block and part by part.
-use Rattle.std.proofs.Common.{◌≤◌, List, [], ◌∷◌, refl, sym, subst, arith}
+use Rattle.std.proofs.lemmas.Grind.{common_steps}
+use Rattle.std.proofs.Common.{◌≤◌, List, [], ◌∷◌, sym, subst, arith}
 use Rattle.std.specs.Prelude.{All, Contains}
 use Rattle.std.proofs.lemmas.List.Elements.{All-nil, All-cons}
 use Rattle.mesh_addr.specs.declared.records.RawAddr.{RawAddr}
@@ -22,14 +23,4 @@ module _ (P : Saying) (m : MessageFields) where
       subst (IsSaying P net) (sym p.part_is) (says p.block p.address.in_message p.tlv p.in_block p.place p.address.address net p.first p.last p.address.in_block p.address.is_in)
 
   pub blocks_of_parts : TellsOnly P m → BlocksSayOnly
-  blocks_of_parts tells b has tlv in_block place a net first last at is =
-      tells net _ (record {
-        block = b;
-        place = place;
-        tlv = tlv;
-        address = record { address = a; in_message = has; in_block = at; is_in = is };
-        in_block = in_block;
-        first = first;
-        last = last;
-        part_is = refl;
-      })
+  blocks_of_parts tells b has tlv in_block place a net first last at is = grind (arith, common_steps)

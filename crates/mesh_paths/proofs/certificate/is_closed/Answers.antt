@@ -1,11 +1,6 @@
-use Rattle.std.proofs.Common.{refl, sym, ◌∙◌, inl}
-use Rattle.std.proofs.lemmas.Bool.{false≢true}
 use Rattle.mesh_paths.specs.Tree.{IsArcMet}
 use Rattle.mesh_paths.proofs.Rows.{yes, no, seen, missed, of_each, arc_of_closed, closed_of_arcs}
 use Rattle.mesh_paths.proofs.certificate.is_closed.Goals as goal
-
-pub returns-then-not-is_met : goal.returns-then-not-is_met
-returns-then-not-is_met c = no (λ closed. false≢true (sym c.if-not-is_met.true ∙ c.is_met.ensures.1 (closed c.args.from 0 c.args.from (inl (refl, refl, refl)))))
 
 pub returns-then-not-is_arc_met : goal.returns-then-not-is_arc_met
 returns-then-not-is_arc_met c = no (λ closed. missed (IsArcMet c.args.rows.now) c.args.arcs.now c.loop-arc.arc-index c.arc-item.result c.is_arc_met.result c.arc-item.is c.is_arc_met.ensures c.if-not-is_arc_met.true c.loop-arc-test.true

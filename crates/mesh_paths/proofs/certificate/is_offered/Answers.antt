@@ -1,9 +1,5 @@
-use Rattle.std.proofs.Common.{inl}
-use Rattle.mesh_paths.proofs.Rows.{yes, carry, offers_reached, reached_offers}
+use Rattle.mesh_paths.proofs.Rows.{carry, offers_reached, reached_offers}
 use Rattle.mesh_paths.proofs.certificate.is_offered.Goals as goal
-
-pub returns-then-is_start : goal.returns-then-is_start
-returns-then-is_start c = yes (inl (c.is_start.ensures.0 c.if-is_start.true))
 
 pub returns : goal.returns
 returns c = carry c.is_reached.result

@@ -11,16 +11,6 @@ use Rattle.mesh_wire.proofs.OneTc.{one_tc}
 use Rattle.mesh_trace.proofs.SpellingLemmas.Tcs.{tc_width, parts_read, parts_looked}
 use Rattle.mesh_trace.proofs.spelling.tc.is_message_of_tc.Goals as goal
 
-pub returns-then-not-has_header : goal.returns-then-not-has_header
-returns-then-not-has_header c =
-    let no : c.has_header.result ≡ false = search rules in
-    (λ yes. absurd (false≢true yes), λ says. absurd (false≢true (sym no ∙ c.has_header.ensures.1 says.header)))
-
-pub returns-then-not-has_validity : goal.returns-then-not-has_validity
-returns-then-not-has_validity c =
-    let no : c.has_validity.result ≡ false = search rules in
-    (λ yes. absurd (false≢true yes), λ says. absurd (false≢true (sym no ∙ c.has_validity.ensures.1 says.validity_is)))
-
 pub returns-then-not-is_same_tc : goal.returns-then-not-is_same_tc
 returns-then-not-is_same_tc c =
     let m : MessageFields = fields_of_message c.args.message.now in
