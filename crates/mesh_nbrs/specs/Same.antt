@@ -15,8 +15,8 @@ abbrev pub way_at : ℕ → Option (Link × ℕ) → Option Metric
 way_at now None = None
 way_at now (Some e) = cond (is_symmetric e.0 now) e.0.link_out None
 
--- a neighbourhood is at now as one was at last, but for moments: it has the same neighbours and 2-hop tuples, and the same SYMMETRIC links
--- lead to neighbours at the same metrics
+-- a neighbourhood has at now the neighbours and 2-hop tuples that another had at last, whatever the moments until which they stand, and
+-- the same SYMMETRIC links lead to neighbours at the same known metrics; nothing is said of other links and of lost neighbours
 pub record SameNear (old : Neighbourhood) (last : ℕ) (new : Neighbourhood) (now : ℕ) : Type 0 where
   pub neighbours : SameTuples addr_eq old.neighbours new.neighbours
   pub two_hops : (i : ℕ) → SameTuples two_hop_eq (base_of old.two_hops i) (base_of new.two_hops i)

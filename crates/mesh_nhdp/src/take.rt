@@ -51,8 +51,8 @@ impl<B: Bases> Nhdp<B> {
         Ok(taken)
     }
 
-    /// The same as `take_hello`; and `false` where the HELLO changed nothing but moments: then the same neighbours and 2-hop tuples stand as
-    /// before, and the same links are SYMMETRIC at the same metrics. `true` promises nothing.
+    /// The same as `take_hello`; and `false` only if the same neighbours and 2-hop tuples stand as before, whatever their moments, and the
+    /// same SYMMETRIC links lead to neighbours at the same known metrics. `true` promises nothing.
     pub fn take_and_tell(
         &mut self,
         now: u64,

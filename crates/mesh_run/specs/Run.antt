@@ -88,7 +88,7 @@ pub data RunsShort (input : List ℕ) (most : ℕ) (told : ToldInCall) : Type 0 
   In_turns : (setup : RunSetup) (moments : List ℕ) (reports : List Report) → StatesSetup input setup → IsTold setup moments reports told →
       length moments ≤ most → TurnsStopShort setup moments reports → RunsShort input most told
 
--- what a run makes: the text of a whole run, by one write; nothing before it, where memory was wanting
+-- what a run makes: the text of a whole run, as one piece; nothing before it, if an allocation failed
 abbrev pub RouterRunMakes : List ℕ → ℕ → ToldInCall → List (List ℕ) → Option (Unit {0}) → Type 0
 RouterRunMakes input most told pieces (Some u) = (r : WholeRouterRun input most told) × (pieces ≡ r.text ∷ [])
 RouterRunMakes input most told pieces None = (pieces ≡ []) × RunsShort input most told
