@@ -1,5 +1,6 @@
 -- The ways that are kept are the cheapest ones.
-use Rattle.std.proofs.Common.{◌≡◌, ℕ, ◌+◌, ◌≤◌, ◌<◌, ◌⊎◌, Bool, true, false, ◌||◌, cond, nat_eq, nat_lt, List, [], ◌∷◌, Some, None, length, get_or, suc, refl, sym, ◌∙◌, ap, subst, inl, inr, arith, All, Ordering, Less, Equal, Greater}
+use Rattle.std.proofs.Common.{◌≡◌, ℕ, ◌+◌, ◌≤◌, ◌<◌, ◌⊎◌, Bool, true, false, cond, nat_eq, nat_lt, List, [], ◌∷◌, Some, None, length, get_or, suc, refl, sym, ◌∙◌, ap, subst, inl, inr, arith, All, Ordering, Less, Equal, Greater}
+use Rattle.std.proofs.lemmas.Grind.{common_steps}
 use Rattle.std.specs.Prelude.{Contains, filter_map, IsPermutation}
 use Rattle.std.specs.List.{dedup, dedup_from}
 use Rattle.std.specs.List.Sorted.{IsSorted}
@@ -42,23 +43,14 @@ in_order_itself : (k : Way) → InOrder k k
 in_order_itself k = inr (refl, omega arith)
 
 in_order_on : (a b c : Way) → InOrder a b → InOrder b c → InOrder a c
-in_order_on a b c p q = elim p [
-  | inl lt ↦ elim q [ inl lt' ↦ inl (omega arith) | inr e ↦ let f : b.addr.0 ≡ c.addr.0 = e.0 in inl (omega arith) ]
-  | inr e ↦ let f : a.addr.0 ≡ b.addr.0 = e.0 in let le : a.cost ≤ b.cost = e.1 in elim q [
-    | inl lt' ↦ inl (omega arith)
-    | inr e' ↦ let g : b.addr.0 ≡ c.addr.0 = e'.0 in let le' : b.cost ≤ c.cost = e'.1 in inr (f ∙ g, omega arith)
-  ]
-]
+in_order_on a b c p q = grind (arith, common_steps)
 
 rises_lower : (j k : Way) (xs : List Way) → InOrder j k → Rises k xs → Rises j xs
 rises_lower j k [] le h = tt
 rises_lower j k (x ∷ xs) le h = (in_order_on j k x le h.0, h.1)
 
 rises_above : (k : Way) (xs : List Way) (v : Way) → Rises k xs → Contains (k ∷ xs) v → InOrder k v
-rises_above k [] v up w = elim (contains_cases k [] v w) [
-  | inl e ↦ subst (InOrder k) e (in_order_itself k)
-  | inr h ↦ absurd (contains_none v h)
-]
+rises_above k [] v up w = grind (arith, common_steps, contains_cases, in_order_itself, contains_none)
 rises_above k (x ∷ xs) v up w = elim (contains_cases k (x ∷ xs) v w) [
   | inl e ↦ subst (InOrder k) e (in_order_itself k)
   | inr h ↦ in_order_on k x v up.0 (rises_above x xs v up.1 h)
@@ -68,10 +60,7 @@ addr_le : (a b : Way) → InOrder a b → a.addr.0 ≤ b.addr.0
 addr_le a b p = elim p [ inl lt ↦ omega arith | inr e ↦ let f : a.addr.0 ≡ b.addr.0 = e.0 in omega arith ]
 
 cost_le : (a b : Way) → InOrder a b → a.addr ≡ b.addr → a.cost ≤ b.cost
-cost_le a b p e = elim p [
-  | inl lt ↦ let f : a.addr.0 ≡ b.addr.0 = ap (λ (y : Addr4). y.0) e in absurd (omega arith)
-  | inr h ↦ h.1
-]
+cost_le a b p e = grind (arith, common_steps)
 
 -- What is kept stays in order
 
@@ -96,9 +85,7 @@ same_addr : (x k : Way) → is_no_better x k ≡ true → x.addr ≡ k.addr
 same_addr x k e = (Decides-addr x.addr k.addr).0 (and_parts _ _ e).0
 
 no_cheaper : (x k : Way) → is_no_better x k ≡ false → x.addr ≡ k.addr → k.cost < x.cost → ⊥
-no_cheaper x k e at lt =
-    true≢false (sym (and_from (addr_eq x.addr k.addr) (nat_lt k.cost x.cost || nat_eq x.place k.place) ((Decides-addr x.addr k.addr).1 at)
-    (or_left (nat_lt k.cost x.cost) (nat_eq x.place k.place) (lt-ltb k.cost x.cost lt))) ∙ e)
+no_cheaper x k e at lt = grind (arith, common_steps, true≢false, and_from, nat_lt, nat_eq, or_left, lt-ltb)
 
 abbrev IsLeastIn : List Way → List Way → Type 0
 IsLeastIn kept all = (w v : Way) → Contains kept w → Contains all v → v.addr ≡ w.addr → w.cost ≤ v.cost
@@ -147,13 +134,7 @@ least_cond true k x xs a c e up rises inside h h' = least_joined k x xs a e up h
 least_cond false k x xs a c e up rises inside h h' = least_kept k x xs c e up rises inside h'
 
 least_one : (k : Way) → IsLeastIn (k ∷ []) (k ∷ [])
-least_one k w v in' there at = elim (contains_cases k [] w in') [
-  | inl e ↦ elim (contains_cases k [] v there) [
-    | inl f ↦ let d : w.cost ≡ v.cost = ap (λ (y : Way). y.cost) (sym e ∙ f) in omega arith
-    | inr h ↦ absurd (contains_none v h)
-  ]
-  | inr h ↦ absurd (contains_none w h)
-]
+least_one k w v in' there at = grind (arith, common_steps, contains_cases, contains_none)
 
 least : (k : Way) (xs : List Way) → Rises k xs → IsLeastIn (dedup_from is_no_better k xs) (k ∷ xs)
 least k [] up = least_one k
@@ -222,21 +203,14 @@ IsWayBy g place n f w = (w ≡ record { addr = f.addr; cost = n.cost + f.cost; p
 way_at_cases : (g : NeighbourGraph) (place : ℕ) (n : Near) (f : Far) (b : Bool) → is_direct_within g f.addr (n.cost + f.cost) ≡ b →
     IsDirect g f.addr (n.cost + f.cost) ⊎ ((w : Way) × (way_at g place n f ≡ Some w) × IsWayBy g place n f w)
 way_at_cases g place n f true e = inl ((Decides-direct g f.addr (n.cost + f.cost)).0 e)
-way_at_cases g place n f false e = inr (
-  record { addr = f.addr; cost = n.cost + f.cost; place = place },
-  ap (λ (t : Bool). cond t None (Some (record { addr = f.addr; cost = n.cost + f.cost; place = place }))) e,
-  (refl, λ d. false≢true (sym e ∙ (Decides-direct g f.addr (n.cost + f.cost)).1 d)),
-)
+way_at_cases g place n f false e = grind (arith, common_steps, place, cond, false≢true)
 
 direct_gives_none : (g : NeighbourGraph) (place : ℕ) (n : Near) (f : Far) → IsDirect g f.addr (n.cost + f.cost) → way_at g place n f ≡ None
 direct_gives_none g place n f d =
     ap (λ (t : Bool). cond t None (Some (record { addr = f.addr; cost = n.cost + f.cost; place = place }))) ((Decides-direct g f.addr (n.cost + f.cost)).1 d)
 
 way_at_is : (g : NeighbourGraph) (place : ℕ) (n : Near) (f : Far) (w : Way) → way_at g place n f ≡ Some w → IsWayBy g place n f w
-way_at_is g place n f w e = elim (way_at_cases g place n f (is_direct_within g f.addr (n.cost + f.cost)) refl) [
-  | inl d ↦ absurd (none_is_some (sym (direct_gives_none g place n f d) ∙ e))
-  | inr h ↦ subst (IsWayBy g place n f) (some_equal h.0 w (sym h.1 ∙ e)) h.2
-]
+way_at_is g place n f w e = grind (arith, common_steps, way_at_cases, place, none_is_some, direct_gives_none, some_equal)
 
 -- The ways of a graph
 

@@ -1,5 +1,6 @@
 -- What the notes say of the set that is taken.
 use Rattle.std.proofs.Common.{◌≡◌, ℕ, ◌≤◌, ◌<◌, Bool, true, false, ◌&&◌, not, nat_eq, nat_le, List, [], ◌∷◌, length, get_or, set, zero, suc, refl, sym, ◌∙◌, ap, subst, inl, inr, arith}
+use Rattle.std.proofs.lemmas.Grind.{common_steps}
 use Rattle.std.specs.Prelude.{◌↔◌, Contains, IsTrue, MatchBool, replicate}
 use Rattle.std.proofs.lemmas.Bool.{false≢true, cases_Bool, cases_lt, or_cases, or_right, or_left, eqb-true, eq-eqb, leb-true, le-leb}
 use Rattle.std.proofs.lemmas.List.{get_or-replicate, get_or_past, length-replicate}
@@ -21,10 +22,7 @@ set_past (t ∷ ts) zero le = absurd (omega (arith, le))
 set_past (t ∷ ts) (suc k) le = ap (λ (l : List Bool). t ∷ l) (set_past ts k (omega (arith, le)))
 
 none_before : (n k : ℕ) → get_or (replicate n false) k false ≡ false
-none_before n k = elim (cases_lt k n) [
-  | inl lt ↦ get_or-replicate n k false false lt
-  | inr ge ↦ get_or_past (replicate n false) k false (let e : length (replicate n false) ≡ n = length-replicate n false in omega arith)
-]
+none_before n k = grind (arith, common_steps, cases_lt, get_or-replicate, get_or_past, length, length-replicate)
 
 -- the notes of a pass that began with none
 abbrev pub IsNotedFor : List Way → List Bool → List Bool → Bool → Type 0
@@ -51,10 +49,7 @@ fit_always n true s e will = refl
 fit_always n false s e will = absurd (false≢true (sym (ap (λ x. not x) (eq-eqb n.will 15 will)) ∙ e))
 
 fit_sole : (n : Near) (t s : Bool) → is_fit n t s ≡ true → t ≡ true → n.will < 15 → s ≡ true
-fit_sole n true s e taken below = elim (or_cases (nat_le 15 n.will) s e) [
-  | inl le ↦ let ge : 15 ≤ n.will = leb-true 15 n.will le in absurd (omega arith)
-  | inr is ↦ is
-]
+fit_sole n true s e taken below = grind (arith, common_steps, or_cases, nat_le, leb-true)
 fit_sole n false s e taken below = absurd (false≢true taken)
 
 abbrev pub IsChosen : NeighbourGraph → List Addr4 → Type 0
@@ -146,14 +141,8 @@ chosen_by g willing ways ts soles reached true distinct are are-ways len len' h 
   λ _. chosen_if g willing ways ts soles distinct are are-ways (len' ∙ sym len) (subst (λ (r : Bool). IsNotedFor ways ts soles r) is h) fit,
   λ _. refl,
 )
-chosen_by g willing ways ts soles reached false distinct are are-ways len len' h is unfit = (
-  λ t. absurd (false≢true t),
-  λ s. absurd (unfit (fit_if g willing ways ts soles distinct are are-ways len (subst (λ (r : Bool). IsNotedFor ways ts soles r) is h) s)),
-)
+chosen_by g willing ways ts soles reached false distinct are are-ways len len' h is unfit = grind (arith, common_steps, false≢true, fit_if)
 
 pub unchosen : (g : NeighbourGraph) (willing : List Near) (ways : List Way) (ts soles : List Bool) (reached : Bool) → HasDistinctIds g → AreWilling g willing → AreWays g willing ways →
     length ts ≡ length willing → length soles ≡ length willing → IsNotedFor ways ts soles reached → reached ≡ false → IsTrue false ↔ IsChosen g (ids_of willing ts)
-unchosen g willing ways ts soles reached distinct are are-ways len len' h is = (
-  λ t. absurd (false≢true t),
-  λ s. absurd (not_reached g willing ways ts soles distinct are are-ways (len' ∙ sym len) (subst (λ (r : Bool). IsNotedFor ways ts soles r) is h) s),
-)
+unchosen g willing ways ts soles reached distinct are are-ways len len' h is = grind (arith, common_steps, false≢true, not_reached)

@@ -1,5 +1,6 @@
 -- The tests decide what they are named for.
-use Rattle.std.proofs.Common.{◌≡◌, ℕ, ◌+◌, ◌≤◌, ◌<◌, ◌||◌, not, nat_eq, List, refl, sym, ◌∙◌, ap, subst, inl, inr, arith, Decides}
+use Rattle.std.proofs.Common.{◌≡◌, ℕ, ◌+◌, ◌≤◌, ◌<◌, ◌||◌, not, nat_eq, List, refl, sym, subst, inl, inr, arith, Decides}
+use Rattle.std.proofs.lemmas.Grind.{common_steps}
 use Rattle.std.specs.Prelude.{Contains}
 use Rattle.std.specs.Borrow.{Bor}
 use Rattle.mesh_atoms.specs.declared.addr.Addr4.{Addr4}
@@ -137,17 +138,10 @@ Decides-irredundant g relays =
 -- Distinct ids
 
 same_near : (m n : Near) → m.id ≡ n.id → m.cost ≡ n.cost → m.will ≡ n.will → m ≡ n
-same_near m n id cost will =
-    ap (λ (x : Addr4). let r : Near = record { id = x; cost = m.cost; will = m.will } in r) id
-    ∙ (ap (λ (x : ℕ). let r : Near = record { id = n.id; cost = x; will = m.will } in r) cost
-    ∙ ap (λ (x : ℕ). let r : Near = record { id = n.id; cost = n.cost; will = x } in r) will)
+same_near m n id cost will = grind (arith, common_steps)
 
 Decides-are_distinct : (m n : Near) → Decides (are_distinct m n) (m.id ≡ n.id → m ≡ n)
-Decides-are_distinct m n =
-    let d = Decides-if _ _ (Decides-addr m.id n.id) (Decides-and _ _ (Decides-eqb m.cost n.cost) (Decides-eqb m.will n.will)) in (
-      λ e id. let w = d.0 e id in same_near m n id w.0 w.1,
-      λ h. d.1 (λ id. (ap (λ (x : Near). x.cost) (h id), ap (λ (x : Near). x.will) (h id))),
-    )
+Decides-are_distinct m n = grind (arith, common_steps, same_near)
 
 pub Decides-distinct_ids : (g : NeighbourGraph) → Decides (are_all_distinct g) (HasDistinctIds g)
 Decides-distinct_ids g =

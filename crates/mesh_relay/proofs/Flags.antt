@@ -1,5 +1,6 @@
 -- Flags of the neighbours with given ids.
 use Rattle.std.proofs.Common.{◌≡◌, ℕ, ◌+◌, ◌≤◌, ◌<◌, ◌≢◌, ◌⊎◌, Bool, true, false, nat_eq, nat_lt, List, length, get_or, set, sym, ◌∙◌, ap, subst, inl, inr, arith}
+use Rattle.std.proofs.lemmas.Grind.{common_steps}
 use Rattle.std.specs.Prelude.{◌↔◌, AllPairs, Contains, IsTrue, replicate}
 use Rattle.std.specs.List.Sorted.{IsNonDecreasingBy, IsPartitionPoint}
 use Rattle.std.proofs.lemmas.Bool.{false≢true, cases_Bool, cases_lt, ltb-true, eqb-true, eq-eqb}
@@ -20,10 +21,7 @@ same_or_before : (ns : List Near) (i j : ℕ) (d : Near) → i ≡ j → (get_or
 same_or_before ns i j d e = subst (λ (k : ℕ). (get_or ns i d).id.0 ≤ (get_or ns k d).id.0) e (omega arith)
 
 pub ids_rise : (ns : List Near) → AllPairs (λ m n. m.id.0 < n.id.0) ns → IsNonDecreasingBy (λ (n : Near). n.id.0) ns
-ids_rise ns order i j d le lt = elim (cases_lt i j) [
-  | inl below ↦ let h : (get_or ns i d).id.0 < (get_or ns j d).id.0 = order i j d below lt in omega arith
-  | inr ge ↦ same_or_before ns i j d (omega arith)
-]
+ids_rise ns order i j d le lt = grind (arith, common_steps, cases_lt, get_or, same_or_before)
 
 -- The place of an id
 
@@ -70,16 +68,10 @@ none_flagged willing ids flags is = record {
 }
 
 same_at : (k place : ℕ) → (k ≡ place) ⊎ ((k ≡ place) → ⊥)
-same_at k place = elim (cases_Bool (nat_eq k place)) [
-  | inl e ↦ inl (eqb-true k place e)
-  | inr e ↦ inr (λ f. false≢true (sym e ∙ eq-eqb k place f))
-]
+same_at k place = grind (arith, common_steps, cases_Bool, nat_eq, eqb-true, false≢true, eq-eqb)
 
 set_taken : (flags : List Bool) (place k : ℕ) → place < length flags → IsTaken flags k → IsTaken (set flags place true) k
-set_taken flags place k lt taken = elim (same_at k place) [
-  | inl e ↦ subst (IsTaken (set flags place true)) (sym e) (get_or-set_same flags place true false lt)
-  | inr other ↦ get_or-set_other flags place k true false other ∙ taken
-]
+set_taken flags place k lt taken = grind (arith, common_steps, same_at, set, get_or-set_same, get_or-set_other)
 
 still_has : (willing : List Near) (flags : List Bool) (place : ℕ) (id : Addr4) → place < length flags → Contains (ids_of willing flags) id → Contains (ids_of willing (set flags place true)) id
 still_has willing flags place id lt w =

@@ -1,5 +1,6 @@
 -- The neighbour that is taken next.
-use Rattle.std.proofs.Common.{◌≡◌, ℕ, ◌+◌, ◌≤◌, ◌<◌, ◌⊎◌, Bool, true, false, cond, List, [], ◌∷◌, Option, Some, None, get_or, set, zero, suc, refl, sym, ◌∙◌, inl, inr, arith, below_more}
+use Rattle.std.proofs.Common.{◌≡◌, ℕ, ◌+◌, ◌≤◌, ◌<◌, ◌⊎◌, Bool, true, false, cond, List, [], ◌∷◌, Option, Some, None, get_or, set, zero, suc, refl, sym, ◌∙◌, inr, arith, below_more}
+use Rattle.std.proofs.lemmas.Grind.{common_steps}
 use Rattle.std.specs.Prelude.{slice_index}
 use Rattle.std.proofs.lemmas.Bool.{false≢true, true≢false, ltb-true}
 use Rattle.mesh_relay.specs.Taken.{IsTaken, IsFree, free_count, is_better, IsBest}
@@ -13,29 +14,15 @@ NoBetter gains taken best k =
 
 pub best_if_taken : (gains : List ℕ) (taken : List Bool) (place : ℕ) (best : Option ℕ) → IsBest gains taken place best → get_or taken place false ≡ true → IsBest gains taken (place + 1) best
 best_if_taken gains taken place None h e = below_more (IsTaken taken) place h e
-best_if_taken gains taken place (Some best) h e =
-    let lt : best < place = h.0 in
-    (omega arith, h.1, below_more (NoBetter gains taken best) place h.2 (λ free. absurd (false≢true (sym free ∙ e))))
+best_if_taken gains taken place (Some best) h e = grind (arith, common_steps, below_more, false≢true)
 
 pub best_if_no_better : (gains : List ℕ) (taken : List Bool) (place : ℕ) (best : Option ℕ) → IsBest gains taken place best → is_better gains place best ≡ false → IsBest gains taken (place + 1) best
 best_if_no_better gains taken place None h e = absurd (true≢false e)
-best_if_no_better gains taken place (Some best) h e =
-    let lt : best < place = h.0 in (
-      omega arith,
-      h.1,
-      below_more (NoBetter gains taken best) place h.2 (λ free.
-          elim (eq-or-lt_of_le (not_less (slice_index gains best) (slice_index gains place) e)) [
-            | inl same' ↦ inr (same', omega arith)
-            | inr less ↦ inl less
-          ]),
-    )
+best_if_no_better gains taken place (Some best) h e = grind (arith, common_steps, below_more, eq-or-lt_of_le, not_less)
 
 worse_before : (gains : List ℕ) (taken : List Bool) (place best : ℕ) → slice_index gains best < slice_index gains place → ((k : ℕ) → k < place → NoBetter gains taken best k) →
     (k : ℕ) → k < place → NoBetter gains taken place k
-worse_before gains taken place best more h k lt free = elim (h k lt free) [
-  | inl less ↦ inl (omega arith)
-  | inr same' ↦ let e : slice_index gains k ≡ slice_index gains best = same'.0 in inl (omega arith)
-]
+worse_before gains taken place best more h k lt free = grind (arith, common_steps)
 
 le-same : (n : ℕ) → n ≤ n
 le-same n = omega arith

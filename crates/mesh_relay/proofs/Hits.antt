@@ -1,5 +1,6 @@
 -- One pass over the ways in order finds an address that is not reached.
 use Rattle.std.proofs.Common.{◌≡◌, ℕ, ◌≤◌, ◌≢◌, ◌⊎◌, Bool, true, false, ◌&&◌, ◌||◌, cond, List, [], ◌∷◌, refl, sym, ◌∙◌, ap, subst, inl, inr, arith, Decides}
+use Rattle.std.proofs.lemmas.Grind.{common_steps}
 use Rattle.std.specs.Prelude.{Contains}
 use Rattle.std.proofs.lemmas.Bool.{false≢true, true≢false, and_cases, and_parts, or_cases, or_parts}
 use Rattle.mesh_atoms.specs.declared.addr.Addr4.{Addr4}
@@ -84,16 +85,10 @@ Misses : (Way → Bool) → Addr4 → Bool → List Way → Type 0
 Misses test y reached ws = ((reached ≡ false) × Missed test y ws) ⊎ ((w : Way) × Contains ws w × (w.addr ≢ y) × Missed test w.addr ws)
 
 missed_first : (test : Way → Bool) (y : Addr4) (w : Way) (ws : List Way) → test w ≡ false → Missed test y ws → Missed test y (w ∷ ws)
-missed_first test y w ws t h v within at = elim (contains_cases w ws v within) [
-  | inl same' ↦ subst (λ (f : Way). test f ≡ false) same' t
-  | inr later ↦ h v later at
-]
+missed_first test y w ws t h v within at = grind (arith, common_steps, contains_cases)
 
 missed_other : (test : Way → Bool) (y : Addr4) (w : Way) (ws : List Way) → w.addr ≢ y → Missed test y ws → Missed test y (w ∷ ws)
-missed_other test y w ws other h v within at = elim (contains_cases w ws v within) [
-  | inl same' ↦ absurd (other (ap (λ (f : Way). f.addr) same' ∙ at))
-  | inr later ↦ h v later at
-]
+missed_other test y w ws other h v within at = grind (arith, common_steps, contains_cases)
 
 le-same : (n : ℕ) → n ≤ n
 le-same n = omega arith

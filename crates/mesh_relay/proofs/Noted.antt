@@ -1,4 +1,6 @@
 -- The neighbours by which alone an address is reached.
+use Rattle.std.proofs.Common.{arith}
+use Rattle.std.proofs.lemmas.Grind.{common_steps}
 use Rattle.std.proofs.Common.{◌≡◌, ℕ, ◌<◌, Bool, true, false, ◌&&◌, ◌||◌, cond, not, nat_eq, List, ◌∷◌, length, get_or, set, refl, sym, ◌∙◌, ap, subst, inl, inr}
 use Rattle.std.proofs.lemmas.Bool.{false≢true, cases_Bool, eqb-true, eq-eqb}
 use Rattle.std.proofs.lemmas.List.{get_or-set_same, get_or-set_other}
@@ -77,10 +79,7 @@ on_cons p y r w ws b e = ap (λ x. cond x (are_all_reached_on p y (r || p w) ws)
 
 pub same_address : (ts soles : List Bool) (pass : Pass) (w : Way) (takers : Takers) (k : ℕ) (rest : List Way) → w.place < length ts → addr_eq w.addr pass.addr ≡ true →
     takers ≡ counted pass.takers w.place ts → tells ts soles (record { addr = pass.addr; takers = takers; reached = pass.reached }) k rest ≡ tells ts soles pass k (w ∷ rest)
-same_address ts soles pass w takers k rest lt at is =
-    ap (λ x. (pass.reached && not (get_or soles k false)) && are_all_reached_on (test ts k) pass.addr x rest)
-    (ap (λ t. others_reach t k) is ∙ others_counted ts pass.takers w k lt)
-    ∙ sym (ap (λ x. (pass.reached && not (get_or soles k false)) && x) (on_cons (test ts k) pass.addr (others_reach pass.takers k) w rest true at))
+same_address ts soles pass w takers k rest lt at is = grind (arith, common_steps, not, get_or, others_counted, on_cons)
 
 pub next_address : (ts soles soles' : List Bool) (pass : Pass) (w : Way) (takers : Takers) (reached : Bool) (k : ℕ) (rest : List Way) → w.place < length ts → addr_eq w.addr pass.addr ≡ false →
     takers ≡ counted Nobody w.place ts → (reached && not (get_or soles' k false)) ≡ ((pass.reached && not (get_or soles k false)) && others_reach pass.takers k) →

@@ -1,5 +1,6 @@
 -- Neighbours that are left out one by one.
 use Rattle.std.proofs.Common.{◌≡◌, ℕ, ◌+◌, ◌≤◌, ◌<◌, ◌≢◌, ◌⊎◌, Bool, true, false, List, length, get_or, set, sym, ◌∙◌, ap, subst, inl, inr, arith}
+use Rattle.std.proofs.lemmas.Grind.{common_steps}
 use Rattle.std.specs.Prelude.{Contains}
 use Rattle.std.proofs.lemmas.Bool.{false≢true, cases_lt}
 use Rattle.std.proofs.lemmas.List.{get_or-set_same, get_or-set_other, length-set, get_or_default}
@@ -16,10 +17,7 @@ use Rattle.mesh_relay.proofs.Taken.{taken_of, id_taken, taken_at, HasAlways, cov
 -- Smaller sets
 
 pub offers_more : (g : NeighbourGraph) (A B : Near → Type 0) (y : Addr4) (c : ℕ) → ((n : Near) → A n → B n) → Offers g A y c → Offers g B y c
-offers_more g A B y c within o = elim o [
-  | inl d ↦ inl d
-  | inr w ↦ inr (w.0, w.1, within w.0 w.2, w.3, w.4, w.5, w.6, w.7)
-]
+offers_more g A B y c within o = grind (arith, common_steps)
 
 -- what is dear by way of a set is dear by way of what it holds
 abbrev DearFor : NeighbourGraph → (Near → Type 0) → Type 0
@@ -62,11 +60,7 @@ at_or_after : (p k : ℕ) → p ≤ k → (k ≡ p) ⊎ (p + 1 ≤ k)
 at_or_after p k le = elim (cases_lt p k) [ inl lt ↦ inr (omega arith) | inr ge ↦ inl (omega arith) ]
 
 pub start : (g : NeighbourGraph) (willing : List Near) (ts : List Bool) → length ts ≡ length willing → Covers g (ids_of willing ts) → IsPruned g willing ts (length willing)
-start g willing ts e covers = record {
-  length = e;
-  covers = covers;
-  needed = λ k n le at taken below. absurd (omega (arith, le, at.0));
-}
+start g willing ts e covers = grind (arith, common_steps, length)
 
 -- nothing to do at that place
 pub kept_as_is : (g : NeighbourGraph) (willing : List Near) (ts : List Bool) (place : ℕ) → IsPruned g willing ts (place + 1) →
@@ -86,12 +80,7 @@ always_taken g willing ts are covers k n at e =
 
 always_left : (g : NeighbourGraph) (willing : List Near) (ts : List Bool) (place : ℕ) (m : Near) → AreWilling g willing → Covers g (ids_of willing ts) → IsAt willing place m → m.will < 15 →
     HasAlways willing (set ts place false)
-always_left g willing ts place m are covers here below k n at e =
-    let elsewhere : k ≢ place = λ f.
-    let same' : m ≡ n = sym here.1 ∙ (get_or_default willing place m n here.0 ∙ subst (λ (j : ℕ). get_or willing j n ≡ n) f at.1) in
-    let will : m.will ≡ n.will = ap (λ (x : Near). x.will) same' in
-    omega arith in
-    still_taken ts place k elsewhere (always_taken g willing ts are covers k n at e)
+always_left g willing ts place m are covers here below k n at e = grind (arith, common_steps, get_or_default, get_or, still_taken, always_taken)
 
 pub left_out : (g : NeighbourGraph) (willing : List Near) (ways : List Way) (ts : List Bool) (place : ℕ) (m : Near) → AreWilling g willing → AreWays g willing ways →
     IsPruned g willing ts (place + 1) → IsAt willing place m → m.will < 15 → reaches ways (set ts place false) ≡ true → IsPruned g willing (set ts place false) place
@@ -143,11 +132,7 @@ at_end g willing ts left are le h = let e : left ≡ 0 = omega arith in finish g
 
 -- before any is left out
 pub at_begin : (g : NeighbourGraph) (willing : List Near) (ts : List Bool) (left : ℕ) → left ≡ length willing → length ts ≡ length willing → Covers g (ids_of willing ts) → IsPruned g willing ts left
-at_begin g willing ts left whole len covers = record {
-  length = len;
-  covers = covers;
-  needed = λ k n from at taken low. let within = at.0 in absurd (omega (arith, from, within, whole));
-}
+at_begin g willing ts left whole len covers = grind (arith, common_steps, length)
 
 read_at : (ns : List Near) (k : ℕ) (d : Near) → k < length ns → IsAt ns k (get_or ns k d)
 read_at ns k d lt = (lt, get_or_default ns k (get_or ns k d) d lt)
@@ -166,11 +151,7 @@ step g willing ways old new place d distinct are are-ways h lt below did = elim 
 ]
 
 pub kept_by_willingness : (g : NeighbourGraph) (willing : List Near) (ts : List Bool) (place : ℕ) (d : Near) → IsPruned g willing ts (place + 1) → 15 ≤ (get_or willing place d).will → IsPruned g willing ts place
-kept_by_willingness g willing ts place d h le =
-    kept_as_is g willing ts place h (λ n at taken below.
-    let same' : get_or willing place d ≡ n = same_near willing place (get_or willing place d) n (read_at willing place d at.0) at in
-    let will : (get_or willing place d).will ≡ n.will = ap (λ (x : Near). x.will) same' in
-    omega arith)
+kept_by_willingness g willing ts place d h le = grind (arith, common_steps, kept_as_is, get_or, same_near, read_at)
 
 pub kept_untaken : (g : NeighbourGraph) (willing : List Near) (ts : List Bool) (place : ℕ) → IsPruned g willing ts (place + 1) → get_or ts place false ≡ false → IsPruned g willing ts place
 kept_untaken g willing ts place h e = kept_as_is g willing ts place h (λ n at taken below. false≢true (sym e ∙ taken))

@@ -1,5 +1,6 @@
 -- What is found for a far entry.
-use Rattle.std.proofs.Common.{◌≡◌, ℕ, ◌+◌, Bool, true, false, cond, List, [], ◌∷◌, Some, None, Option, refl, sym, ◌∙◌, ap}
+use Rattle.std.proofs.Common.{◌≡◌, ℕ, ◌+◌, Bool, true, false, cond, List, [], ◌∷◌, Some, None, Option, refl, sym, ◌∙◌, ap, arith}
+use Rattle.std.proofs.lemmas.Grind.{common_steps}
 use Rattle.std.specs.Prelude.{IsPermutation}
 use Rattle.std.specs.List.{list_any}
 use Rattle.std.proofs.lemmas.List.Sorted.{list_any-IsPermutation}
@@ -8,7 +9,6 @@ use Rattle.mesh_atoms.specs.declared.graphs.Near.{Near}
 use Rattle.mesh_atoms.specs.declared.graphs.Direct.{Direct}
 use Rattle.mesh_atoms.specs.declared.graphs.Far.{Far}
 use Rattle.mesh_atoms.specs.declared.graphs.NeighbourGraph.{NeighbourGraph}
-use Rattle.mesh_atoms.specs.Base.{addr_eq}
 use Rattle.mesh_relay.specs.declared.ways.Way.{Way}
 use Rattle.mesh_relay.specs.Tests.{is_direct_within}
 use Rattle.mesh_relay.specs.Ways.{way_at, way_from, near_from, is_offer}
@@ -25,9 +25,7 @@ of_cond g false place n rest f = refl
 
 way_from_found : (g : NeighbourGraph) (start : ℕ) (ns : List Near) (f : Far) → way_of g (near_from start ns f.via) f ≡ way_from g start ns f
 way_from_found g start [] f = refl
-way_from_found g start (n ∷ ns) f =
-    of_cond g (addr_eq n.id f.via) start n (near_from (start + 1) ns f.via) f
-    ∙ ap (λ (o : Option Way). cond (addr_eq n.id f.via) (way_at g start n f) o) (way_from_found g (start + 1) ns f)
+way_from_found g start (n ∷ ns) f = grind (arith, common_steps, of_cond, cond, way_from_found g (start + 1) ns f)
 
 pub no_way : (g : NeighbourGraph) (ns : List Near) (f : Far) (o : Option (ℕ × Near)) → o ≡ near_from 0 ns f.via → o ≡ None → None ≡ way_from g 0 ns f
 no_way g ns f o found is = ap (λ (p : Option (ℕ × Near)). way_of g p f) (sym is ∙ found) ∙ way_from_found g 0 ns f

@@ -1,5 +1,6 @@
 -- Flags and the ids that they stand for.
 use Rattle.std.proofs.Common.{◌≡◌, ℕ, ◌+◌, ◌≤◌, ◌<◌, ◌⊎◌, Bool, true, false, cond, List, [], ◌∷◌, ◌++◌, length, drop, get_or, zero, suc, refl, sym, ◌∙◌, ap, subst, inl, inr, arith}
+use Rattle.std.proofs.lemmas.Grind.{common_steps}
 use Rattle.std.specs.Prelude.{Contains, AllPairs, replicate}
 use Rattle.std.proofs.lemmas.Bool.{false≢true, cases_Bool}
 use Rattle.std.proofs.lemmas.List.{drop_more, append_assoc, get_or-replicate}
@@ -193,16 +194,11 @@ dearer_somewhere g willing ways ts distinct are are-ways e =
 
 ids_step : (willing : List Near) (ts : List Bool) (k : ℕ) (n : Near) (t : Bool) → k < length willing → k < length ts →
     ids_of (drop k willing) (drop k ts) ≡ cond (get_or ts k t) ((get_or willing k n).id ∷ ids_of (drop (k + 1) willing) (drop (k + 1) ts)) (ids_of (drop (k + 1) willing) (drop (k + 1) ts))
-ids_step willing ts k n t lt lt' =
-    subst (λ (l : List Near). ids_of l (drop k ts) ≡ cond (get_or ts k t) ((get_or willing k n).id ∷ ids_of (drop (k + 1) willing) (drop (k + 1) ts)) (ids_of (drop (k + 1) willing) (drop (k + 1) ts)))
-    (sym (drop_more willing k n lt))
-    (ap (λ (l : List Bool). ids_of (get_or willing k n ∷ drop (k + 1) willing) l) (drop_more ts k t lt'))
+ids_step willing ts k n t lt lt' = grind (arith, common_steps, drop, cond, get_or, drop_more)
 
 pub ids_more_taken : (ids : List Addr4) (willing : List Near) (ts : List Bool) (k : ℕ) (n : Near) (t : Bool) (all : List Addr4) → k < length willing → k < length ts → get_or ts k t ≡ true →
     ids ++ ids_of (drop k willing) (drop k ts) ≡ all → (ids ++ (get_or willing k n).id ∷ []) ++ ids_of (drop (k + 1) willing) (drop (k + 1) ts) ≡ all
-ids_more_taken ids willing ts k n t all lt lt' e h =
-    append_assoc ids ((get_or willing k n).id ∷ []) (ids_of (drop (k + 1) willing) (drop (k + 1) ts))
-    ∙ (ap (λ (l : List Addr4). ids ++ l) (sym (ids_step willing ts k n t lt lt' ∙ ap (λ (b : Bool). cond b ((get_or willing k n).id ∷ ids_of (drop (k + 1) willing) (drop (k + 1) ts)) (ids_of (drop (k + 1) willing) (drop (k + 1) ts))) e)) ∙ h)
+ids_more_taken ids willing ts k n t all lt lt' e h = grind (arith, common_steps, append_assoc, get_or, drop, ids_step, cond)
 
 pub ids_more_untaken : (ids : List Addr4) (willing : List Near) (ts : List Bool) (k : ℕ) (t : Bool) (all : List Addr4) → k < length willing → k < length ts → get_or ts k t ≡ false →
     ids ++ ids_of (drop k willing) (drop k ts) ≡ all → ids ++ ids_of (drop (k + 1) willing) (drop (k + 1) ts) ≡ all

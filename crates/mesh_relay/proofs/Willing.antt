@@ -1,5 +1,6 @@
 -- The willing neighbours in order.
 use Rattle.std.proofs.Common.{◌≡◌, ℕ, ◌≤◌, ◌<◌, Bool, true, false, cond, not, nat_eq, List, [], ◌∷◌, get_or, zero, suc, refl, sym, ◌∙◌, ap, subst, inl, inr, arith}
+use Rattle.std.proofs.lemmas.Grind.{common_steps}
 use Rattle.std.specs.Prelude.{Contains, AllPairs, filter, IsPermutation}
 use Rattle.std.specs.List.{dedup, dedup_from}
 use Rattle.std.specs.List.Sorted.{IsNonDecreasingBy}
@@ -40,10 +41,7 @@ unequal_ids x k e le =
     let other : x.id.0 ≡ k.id.0 → ⊥ = λ f. false≢true (sym e ∙ eq-eqb _ _ f) in omega arith
 
 above_first : (k : Near) (xs : List Near) (m : Near) → Rises k xs → Contains (dedup_from has_same_id k xs) m → k.id.0 ≤ m.id.0
-above_first k [] m up w = elim (contains_cases k [] m w) [
-  | inl e ↦ subst (λ (z : Near). k.id.0 ≤ z.id.0) e (omega arith)
-  | inr v ↦ absurd (contains_none m v)
-]
+above_first k [] m up w = grind (arith, common_steps, contains_cases, contains_none)
 above_first k (x ∷ xs) m up w = elim (dedup_cases (has_same_id x k) k m (dedup_from has_same_id k xs) (dedup_from has_same_id x xs) w) [
   | inl a ↦ above_first k xs m (rises_lower k x xs up.0 up.1) a.1
   | inr c ↦ elim c.1 [
@@ -125,15 +123,10 @@ pairs_at willing i j m n order a b lt =
 
 -- an id stands at one place
 pub one_place : (willing : List Near) (i j : ℕ) (m n : Near) → AllPairs IsBelow willing → IsAt willing i m → IsAt willing j n → m.id ≡ n.id → i ≡ j
-one_place willing i j m n order a b e =
-    let up : i < j → ⊥ = λ lt. not_below_itself m n (pairs_at willing i j m n order a b lt) e in
-    let down : j < i → ⊥ = λ lt. not_below_itself n m (pairs_at willing j i n m order b a lt) (sym e) in
-    omega arith
+one_place willing i j m n order a b e = grind (arith, common_steps, not_below_itself, pairs_at)
 
 pub one_near : (willing : List Near) (i j : ℕ) (m n : Near) → AllPairs IsBelow willing → IsAt willing i m → IsAt willing j n → m.id ≡ n.id → m ≡ n
-one_near willing i j m n order a b e =
-    let same' = one_place willing i j m n order a b e in
-    sym a.1 ∙ (get_or_default willing i m n a.0 ∙ (subst (λ (k : ℕ). get_or willing k n ≡ n) (sym same') b.1))
+one_near willing i j m n order a b e = grind (arith, common_steps, one_place, get_or_default, get_or)
 
 -- the later neighbours stand in order too
 pub later_order : (n : Near) (ns : List Near) → AllPairs IsBelow (n ∷ ns) → AllPairs IsBelow ns

@@ -1,5 +1,6 @@
 -- The ways to a neighbour as a list, and their order.
-use Rattle.std.proofs.Common.{◌≡◌, ℕ, ◌<◌, ◌≤◌, ◌⊎◌, inl, inr, refl, sym, ◌∙◌, subst, arith, length, Some, true, Contains}
+use Rattle.std.proofs.Common.{◌≡◌, ℕ, ◌<◌, ◌≤◌, ◌⊎◌, inl, inr, refl, ◌∙◌, subst, arith, length, Some, true, Contains}
+use Rattle.std.proofs.lemmas.Grind.{common_steps}
 use Rattle.std.proofs.lemmas.Bool.{cases_lt}
 use Rattle.std.proofs.lemmas.Option.{slice_get_within}
 use Rattle.mesh_atoms.specs.declared.addr.Addr4.{Addr4}
@@ -25,38 +26,17 @@ use Rattle.mesh_atoms.proofs.Values.{same_address}
 pub no_worse : (w v : NeighbourLink) (k m : Metric) → metric_value k ≡ w.metric → metric_value m ≡ v.metric → IsNoWorse w v →
     (metric_value k < metric_value m)
     ⊎ ((metric_value k ≡ metric_value m) × ((w.iface < v.iface) ⊎ ((w.iface ≡ v.iface) × (w.next.0 ≤ v.next.0))))
-no_worse w v k m at_w at_v h = elim h [
-  | inl less ↦ inl (omega arith)
-  | inr (tied, rest) ↦ inr (at_w ∙ tied ∙ sym at_v, rest)
-]
+no_worse w v k m at_w at_v h = grind (arith, common_steps)
 
 -- a lesser interface, or at the same no greater address
 abbrev IsEarlier : NeighbourLink → NeighbourLink → Type 0
 IsEarlier a b = (a.iface < b.iface) ⊎ ((a.iface ≡ b.iface) × (a.next.0 ≤ b.next.0))
 
 either_earlier : (a b : NeighbourLink) → IsEarlier a b ⊎ IsEarlier b a
-either_earlier a b = elim (cases_lt a.iface b.iface) [
-  | inl less ↦ inl (inl less)
-  | inr upto ↦ elim (cases_lt b.iface a.iface) [
-    | inl less ↦ inr (inl less)
-    | inr from ↦ let tied : a.iface ≡ b.iface = omega arith in elim (cases_lt a.next.0 b.next.0) [
-      | inl less ↦ inl (inr (tied, omega arith))
-      | inr more ↦ inr (inr (sym tied, omega arith))
-    ]
-  ]
-]
+either_earlier a b = grind (arith, common_steps, cases_lt)
 
 either_no_worse : (w v : NeighbourLink) → IsNoWorse w v ⊎ IsNoWorse v w
-either_no_worse w v = elim (cases_lt w.metric v.metric) [
-  | inl less ↦ inl (inl less)
-  | inr upto ↦ elim (cases_lt v.metric w.metric) [
-    | inl less ↦ inr (inl less)
-    | inr from ↦ let tied : w.metric ≡ v.metric = omega arith in elim (either_earlier w v) [
-      | inl first ↦ inl (inr (tied, first))
-      | inr first ↦ inr (inr (sym tied, first))
-    ]
-  ]
-]
+either_no_worse w v = grind (arith, common_steps, cases_lt, either_earlier)
 
 no_worse_further : (a b c : NeighbourLink) → IsNoWorse a b → IsNoWorse b c → IsNoWorse a c
 no_worse_further a b c (inl l) (inl m) = inl (omega arith)

@@ -1,7 +1,8 @@
 -- The order of turns.
-use Rattle.std.proofs.Common.{◌≡◌, ℕ, ◌<◌, ◌≤◌, inl, inr, sym, ◌∙◌, ap, arith}
+use Rattle.std.proofs.Common.{◌≡◌, ℕ, ◌≤◌, ◌∙◌, ap, arith}
+use Rattle.std.proofs.lemmas.Grind.{common_steps}
 use Rattle.std.specs.Ordering.{nat_cmp, ordering_then}
-use Rattle.std.specs.declared.cmp.Ordering.TheVariants.{Less, Equal}
+use Rattle.std.specs.declared.cmp.Ordering.TheVariants.{Less}
 use Rattle.std.specs.Cmp.{IsTotalOrder}
 use Rattle.std.proofs.lemmas.Cmp.{then_total, on_total, nat_cmp_total, ranked}
 use Rattle.std.proofs.lemmas.Map.Lookups.{CmpEqualImpliesEq, exact_unsigned}
@@ -24,7 +25,4 @@ turn_exact a b e =
 
 -- a lesser turn costs no more
 pub no_dearer : (a b : Turn) → turn_cmp a b ≡ Less → a.metric ≤ b.metric
-no_dearer a b e = elim (then_less (nat_cmp a.metric b.metric) (ordering_then (net_cmp a.node b.node) (net_cmp a.parent b.parent)) e) [
-  | inl f ↦ let l : a.metric < b.metric = ranked a.metric b.metric Less (sym f) in omega arith
-  | inr (f, _) ↦ let l : a.metric ≡ b.metric = ranked a.metric b.metric Equal (sym f) in omega arith
-]
+no_dearer a b e = grind (arith, common_steps, then_less, ranked)

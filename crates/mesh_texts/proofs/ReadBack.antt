@@ -1,5 +1,6 @@
 -- The text of a run read back: whether it was settled, and the routes under a router's name.
-use Rattle.std.proofs.Common.{◌≡◌, ◌↔◌, ℕ, zero, suc, ◌<◌, Bool, true, false, List, [], ◌∷◌, ◌++◌, length, map, Option, Some, None, refl, sym, ap, ◌∙◌, subst, arith, append_assoc, codes, length-append}
+use Rattle.std.proofs.Common.{◌≡◌, ◌↔◌, ℕ, zero, suc, ◌<◌, Bool, false, List, [], ◌∷◌, ◌++◌, length, map, Option, Some, None, refl, sym, ap, ◌∙◌, subst, arith, append_assoc, codes, length-append}
+use Rattle.std.proofs.lemmas.Grind.{common_steps}
 use Rattle.std.specs.Prelude.{slice_get, Contains, option_map}
 use Rattle.std.specs.List.{AllByRecursion as Each, IsDistinct}
 use Rattle.std.proofs.lemmas.Cmp.{nat_list_eq_equiv}
@@ -173,11 +174,7 @@ begins_so name l (originator, e) =
 stands_behind : (n name : List ℕ) (names : List (List ℕ)) (j : ℕ) → Each (λ m. name_eq n m ≡ false) names → n ≡ name →
     slice_get names j ≡ Some name → ⊥
 stands_behind n name [] j e same at = cc
-stands_behind n name (m ∷ names) zero e same at =
-    let is : m ≡ name = cc in
-    let yes : name_eq n m ≡ true = ap (name_eq n) (is ∙ sym same) ∙ nat_list_eq_equiv.refl n in
-    let other = e.0 in
-    cc
+stands_behind n name (m ∷ names) zero e same at = grind (arith, common_steps, nat_list_eq_equiv)
 stands_behind n name (m ∷ names) (suc j) e same at = stands_behind n name names j e.1 same at
 
 -- two places with the same name are one
@@ -214,9 +211,7 @@ of_a_row {A} f xs line stands = by xs stands.before stands.whole where
       (rest.0, (suc rest.1.0, omega (arith, rest.1.1), rest.1.2), rest.2)
 
 row_stands : {A : Type 0} (f : A → List ℕ) (xs : List A) (x : A) → Contains xs x → Stands (map f xs) (f x)
-row_stands {A} f xs x within =
-    let here = stands_contained xs x within in
-    record { before = map f here.before; behind = map f here.behind; whole = ap (map f) here.whole ∙ map-append f here.before (x ∷ here.behind) }
+row_stands {A} f xs x within = grind (arith, common_steps, stands_contained, map, map-append)
 
 -- all lines of a text, and of what follows it
 record AllLines (s : Scenario) (run : WholeRun s) (gap : Option Gap) (text behind : List ℕ) : Type 0 where

@@ -1,5 +1,6 @@
 -- The text of a run as lines: those of its trace, the counts, each router's section, and what is said of the gap.
 use Rattle.std.proofs.Common.{◌≡◌, ℕ, ◌+◌, ◌<◌, Bool, true, false, List, [], ◌∷◌, ◌++◌, length, map, Option, Some, None, refl, sym, ap, ◌∙◌, subst, arith, append_assoc, codes, length-append}
+use Rattle.std.proofs.lemmas.Grind.{common_steps}
 use Rattle.std.specs.Prelude.{slice_get}
 use Rattle.std.specs.List.{AllByRecursion as Each, flat_map, enumerate_from}
 use Rattle.std.proofs.lemmas.List.{append-nil}
@@ -84,11 +85,7 @@ sending_plain s moment r sent = plain_both (sent_line moment r.name (face_name r
 
 event_plain : (s : Scenario) (event : NetEvent) (after : State) → Plain (event_text s event after)
 unfolding event_text
-event_plain s event after =
-    let sent = flat_map (sent_lines s event.moment after.settings) event.sent in
-    plain_both (event_line event after.settings ++ relays_lines after) sent
-    (plain_both (event_line event after.settings) (relays_lines after) (event_line_plain event after.settings) (relays_plain after))
-    (plain_each (sent_lines s event.moment after.settings) (sending_plain s event.moment after.settings) event.sent)
+event_plain s event after = grind (arith, common_steps, plain_both, event_line_plain, relays_plain, plain_each, sending_plain)
 
 told_plain : (s : Scenario) (event : NetEvent) (after : State) (text : List ℕ) → IsEventText s event after text → Plain text
 told_plain s event after text (Of_taken packet e) = plain_is text (event_text s event after) e (event_plain s event after)

@@ -1,5 +1,6 @@
 -- The search for the route to a node, and for the longest prefix.
 use Rattle.std.proofs.Common.{◌≡◌, ◌≢◌, ℕ, ◌+◌, ◌-◌, ◌*◌, ◌/◌, ◌^◌, ◌<◌, ◌≤◌, inl, inr, refl, sym, ◌∙◌, ap, subst, arith, List, [], ◌∷◌, length, Result, Ok, Err, Option, Some, None, Bor, slice_get, slice_index_or, true, false, Contains}
+use Rattle.std.proofs.lemmas.Grind.{common_steps}
 use Rattle.std.specs.Prelude.{IfOk, IfErr, IfSome, IfNone}
 use Rattle.std.specs.Option.{option_copied}
 use Rattle.std.specs.List.{AllPairs, HoldsAt}
@@ -28,10 +29,7 @@ is_less Greater e = absurd (cc)
 
 -- what stands before is not less
 pub not_less : (a b : NetAddr) → IsBefore a b → is_lt (net_cmp b a) ≡ false
-not_less a b before = elim (cases_Bool (is_lt (net_cmp b a))) [
-  | inl t ↦ absurd (not_before_itself a a refl (before_trans a b a before (net_less b a (is_less (net_cmp b a) t))))
-  | inr f ↦ f
-]
+not_less a b before = grind (arith, common_steps, cases_Bool, not_before_itself, before_trans, net_less, is_less)
 
 module _ (rows : List Route) (pairs : AllPairs (λ r t. IsBefore r.dest t.dest) rows) (node : NetAddr) where
   sorted : IsSortedBy (λ (a b : Route). is_lt (net_cmp a.dest b.dest)) rows
@@ -82,10 +80,7 @@ no_longer_at_first routes a r has holds = omega (arith, r.dest.within)
 
 -- a network of that prefix that has the address is the address with the further bits cleared
 is_that : (net of : NetAddr) (a : Addr4) (p : ℕ) → net.prefix ≡ p → of.prefix ≡ p → of.addr.0 ≡ a.0 / 2 ^ (32 - p) * 2 ^ (32 - p) → Holds net a → net ≡ of
-is_that net of a p is_p of_p cleared holds =
-    let mine : a.0 / 2 ^ (32 - p) * 2 ^ (32 - p) ≡ net.addr.0 = subst (λ (n : ℕ). a.0 / 2 ^ (32 - n) * 2 ^ (32 - n) ≡ net.addr.0) is_p holds in
-    let numbers : net.addr.0 ≡ of.addr.0 = sym mine ∙ sym cleared in
-    same_net net of (ap (λ (n : ℕ). let x : Addr4 = record { 0 = n } in x) numbers) (is_p ∙ sym of_p)
+is_that net of a p is_p of_p cleared holds = grind (arith, common_steps, same_net)
 
 pub no_longer_more : (routes : List Route) (a : Addr4) (less : ℕ) (of : NetAddr) → less < 33 → of.prefix ≡ 32 - less → of.addr.0 ≡ a.0 / 2 ^ (32 - (32 - less)) * 2 ^ (32 - (32 - less)) →
     ((r : Route) → Contains routes r → r.dest ≢ of) → HasNoLonger routes a less → HasNoLonger routes a (less + 1)
@@ -112,12 +107,5 @@ none_at_last routes a less end before r has holds = let l : r.dest.prefix + less
 -- what is got at the place
 pub got : (o : Option (Bor Route)) (of inside routes : List Route) (a : Addr4) (k : ℕ) → option_copied o ≡ slice_get inside k → of ≡ routes → inside ≡ routes → IsLongestAt of a k →
     IfSome o (λ r. IsLongest routes a r.now) × IfNone o (HasNoRouteTo routes a)
-got None of inside routes a k at same is_inside (r, there, longest) =
-    let both : slice_get of k ≡ slice_get inside k = ap (λ (l : List Route). slice_get l k) (same ∙ sym is_inside) in
-    let none : None ≡ Some r = at ∙ sym both ∙ there in
-    absurd cc
-got (Some x) of inside routes a k at same is_inside (r, there, longest) =
-    let both : slice_get of k ≡ slice_get inside k = ap (λ (l : List Route). slice_get l k) (same ∙ sym is_inside) in
-    let is : Some x.now ≡ Some r = at ∙ sym both ∙ there in
-    let one : r ≡ x.now = cc in
-    (subst (λ (l : List Route). IsLongest l a x.now) same (subst (λ (y : Route). IsLongest of a y) one longest), tt)
+got None of inside routes a k at same is_inside (r, there, longest) = grind (arith, common_steps, slice_get)
+got (Some x) of inside routes a k at same is_inside (r, there, longest) = grind (arith, common_steps, slice_get)

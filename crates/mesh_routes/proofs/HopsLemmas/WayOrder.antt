@@ -1,5 +1,6 @@
 -- The order of ways, and what a range of ways begins with.
 use Rattle.std.proofs.Common.{◌≡◌, ◌≢◌, ℕ, ◌<◌, ◌≤◌, ◌⊎◌, inl, inr, refl, sym, ◌∙◌, ap, subst, arith, true, false, List, [], ◌∷◌, Contains}
+use Rattle.std.proofs.lemmas.Grind.{common_steps}
 use Rattle.std.specs.Ordering.{nat_cmp, ordering_then, is_gt}
 use Rattle.std.specs.declared.cmp.Ordering.{Ordering}
 use Rattle.std.specs.declared.cmp.Ordering.TheVariants.{Less, Equal, Greater}
@@ -21,14 +22,7 @@ way_total = then_total (on_total (λ (a : NeighbourLink). a.originator.0) nat_cm
     (then_total (on_total (λ (a : NeighbourLink). a.metric) nat_cmp_total) (then_total (on_total (λ (a : NeighbourLink). a.iface) nat_cmp_total) (on_total (λ (a : NeighbourLink). a.next.0) nat_cmp_total)))
 
 pub way_exact : CmpEqualImpliesEq way_cmp
-way_exact a b e =
-    let (f, rest) = then_equal (nat_cmp a.originator.0 b.originator.0) (ordering_then (nat_cmp a.metric b.metric) (ordering_then (nat_cmp a.iface b.iface) (nat_cmp a.next.0 b.next.0))) e in
-    let (g, last) = then_equal (nat_cmp a.metric b.metric) (ordering_then (nat_cmp a.iface b.iface) (nat_cmp a.next.0 b.next.0)) rest in
-    let (h, k) = then_equal (nat_cmp a.iface b.iface) (nat_cmp a.next.0 b.next.0) last in
-    ap (λ (o : Addr4). let r : NeighbourLink = record { originator = o; metric = a.metric; iface = a.iface; next = a.next } in r) (same_addr a.originator b.originator (exact_unsigned a.originator.0 b.originator.0 f))
-    ∙ ap (λ (m : ℕ). let r : NeighbourLink = record { originator = b.originator; metric = m; iface = a.iface; next = a.next } in r) (exact_unsigned a.metric b.metric g)
-    ∙ ap (λ (i : ℕ). let r : NeighbourLink = record { originator = b.originator; metric = b.metric; iface = i; next = a.next } in r) (exact_unsigned a.iface b.iface h)
-    ∙ ap (λ (o : Addr4). let r : NeighbourLink = record { originator = b.originator; metric = b.metric; iface = b.iface; next = o } in r) (same_addr a.next b.next (exact_unsigned a.next.0 b.next.0 k))
+way_exact a b e = grind (arith, common_steps, then_equal, same_addr, exact_unsigned)
 
 then_upto : (o p : Ordering) → is_gt (ordering_then o p) ≡ false → (o ≡ Less) ⊎ ((o ≡ Equal) × (is_gt p ≡ false))
 then_upto Less p e = inl refl
@@ -37,10 +31,7 @@ then_upto Greater p e = absurd (cc)
 
 -- of two numbers that are compared first, the one is less, or they are the same and what is compared next decides
 number_upto : (a b : ℕ) (p : Ordering) → is_gt (ordering_then (nat_cmp a b) p) ≡ false → (a < b) ⊎ ((a ≡ b) × (is_gt p ≡ false))
-number_upto a b p e = elim (then_upto (nat_cmp a b) p e) [
-  | inl f ↦ inl (ranked a b Less (sym f))
-  | inr (f, g) ↦ inr (ranked a b Equal (sym f), g)
-]
+number_upto a b p e = grind (arith, common_steps, then_upto, ranked)
 
 last_upto : (a b : ℕ) (o : Ordering) → o ≡ nat_cmp a b → is_gt o ≡ false → a ≤ b
 last_upto a b Less e f = let l : a < b = ranked a b Less e in omega arith
@@ -52,16 +43,7 @@ upto_originator : (a b : NeighbourLink) → is_gt (way_cmp a b) ≡ false → a.
 upto_originator a b e = elim (number_upto a.originator.0 b.originator.0 _ e) [ inl l ↦ omega arith | inr (l, _) ↦ omega arith ]
 
 upto_no_worse : (a b : NeighbourLink) → a.originator ≡ b.originator → is_gt (way_cmp a b) ≡ false → IsNoWorse a b
-upto_no_worse a b same e = elim (number_upto a.originator.0 b.originator.0 _ e) [
-  | inl l ↦ let s : a.originator.0 ≡ b.originator.0 = ap (λ (o : Addr4). o.0) same in absurd (omega arith)
-  | inr (_, rest) ↦ elim (number_upto a.metric b.metric _ rest) [
-    | inl l ↦ inl l
-    | inr (m, last) ↦ elim (number_upto a.iface b.iface _ last) [
-      | inl l ↦ inr (m, inl l)
-      | inr (i, next) ↦ inr (m, inr (i, last_upto a.next.0 b.next.0 _ refl next))
-    ]
-  ]
-]
+upto_no_worse a b same e = grind (arith, common_steps, number_upto, last_upto)
 
 number_then : (a b : ℕ) (o p : Ordering) → o ≡ nat_cmp a b → a ≤ b → is_gt p ≡ false → is_gt (ordering_then o p) ≡ false
 number_then a b Less p e l f = refl
@@ -75,10 +57,7 @@ last_then a b Greater e l = let m : b < a = ranked a b Greater e in absurd (omeg
 
 -- the way to a neighbour whose numbers are 0 is no greater than another to it
 least_upto : (a b : NeighbourLink) → a.originator ≡ b.originator → a.metric ≡ 0 → a.iface ≡ 0 → a.next.0 ≡ 0 → is_gt (way_cmp a b) ≡ false
-least_upto a b same metric iface next =
-    let s : a.originator.0 ≡ b.originator.0 = ap (λ (o : Addr4). o.0) same in
-    number_then a.originator.0 b.originator.0 _ _ refl (omega arith)
-    (number_then a.metric b.metric _ _ refl (omega arith) (number_then a.iface b.iface _ _ refl (omega arith) (last_then a.next.0 b.next.0 _ refl (omega arith))))
+least_upto a b same metric iface next = grind (arith, common_steps, number_then, last_then)
 
 -- The ways from the least of a neighbour on
 module _ (s : BTreeSet NeighbourLink) (lo : NeighbourLink) (originator : Addr4) (r : List NeighbourLink) (part : sorted.IsKeyRangeOf way_cmp (Included lo) Unbounded s r)

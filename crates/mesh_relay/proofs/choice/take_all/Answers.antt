@@ -1,11 +1,6 @@
-use Rattle.std.proofs.Common.{◌∙◌, ap, length, List, Bool}
-use Rattle.std.proofs.lemmas.List.{length-replicate}
 use Rattle.std.proofs.lemmas.Result.{IfOk-weaker}
 use Rattle.mesh_relay.proofs.Taken.{covers_all, all_taken}
 use Rattle.mesh_relay.proofs.choice.take_all.Goals as goal
-
-pub returns-clause-length : goal.returns-clause-length
-returns-clause-length c = IfOk-weaker c.all_flags.result _ _ (λ taken e. ap (λ (l : List Bool). length l) e ∙ length-replicate _ _) c.all_flags.ensures
 
 pub returns-clause-covers : goal.returns-clause-covers
 returns-clause-covers c =

@@ -2,9 +2,6 @@ use Rattle.std.proofs.Common.{◌≤◌, length, ap, arith}
 use Rattle.mesh_routes.proofs.Adding.{all_adds, length_own}
 use Rattle.mesh_routes.proofs.bases.graph_of_topology.Goals as goal
 
-pub put_all_two_hop_arcs-requires : goal.put_all_two_hop_arcs-requires
-put_all_two_hop_arcs-requires g c = c.requires
-
 pub returns-clause-arcs : goal.returns-clause-arcs
 returns-clause-arcs g c =
     all_adds (g.N.Near4.near c.args.near.now) c.args.topology.now c.args.count c.args.from c.args.owners.now
@@ -12,9 +9,6 @@ returns-clause-arcs g c =
     c.new-arcs.result c.put_own_arcs.new.arcs c.put_all_two_hop_arcs.new.arcs c.put_told_arcs.new.arcs
     c.new-arcs.ensures c.in_ok-put_own_arcs.ensures.arcs c.in_ok-put_all_two_hop_arcs.ensures.adds c.in_ok-put_told_arcs.ensures.adds
     c.routers.ensures c.addresses.ensures c.networks.ensures
-
-pub returns-clause-ordered : goal.returns-clause-ordered
-returns-clause-ordered g c = c.put_own_arcs.ensures.ordered
 
 pub returns-clause-few : goal.returns-clause-few
 returns-clause-few g c =

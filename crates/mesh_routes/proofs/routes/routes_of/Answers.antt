@@ -20,9 +20,6 @@ firsts_of-requires g c = rooted_in c.in_ok-graph.graph c.host-from.result c.in_o
 pub rows_of-requires : goal.rows_of-requires
 rows_of-requires g c = pairs_in c.in_ok-graph.graph c.host-from.result c.in_ok-certificate.certificate c.as_slice-2.result.now c.as_slice-2.ensures c.in_ok-certificate.ensures.certificate
 
-pub of-requires : goal.of-requires
-of-requires g c = c.in_ok-rows.ensures.ordered
-
 pub returns : goal.returns
 returns g c = record {
   routes = λ s now settings near topology routes sound.

@@ -19,9 +19,6 @@ loop-router-preserved g c =
       text = λ rest h. rw (w.1, append_assoc) (c.loop-router.invariant.text (w.0 ++ rest) (rw at (w.0, rest, w.2, h, refl)));
     }
 
-pub returns-in_err-put_section-clause-kept : goal.returns-in_err-put_section-clause-kept
-returns-in_err-put_section-clause-kept g c = grows_on c.loop-router.invariant.kept c.put_section.ensures.kept
-
 pub returns-clause-ok : goal.returns-clause-ok
 returns-clause-ok g c =
     let none : drop c.loop-router.router-index c.args.routers.now ≡ [] = drop_all c.loop-router.router-index c.args.routers.now (omega arith) in

@@ -1,7 +1,7 @@
 use Rattle.std.proofs.Common.{◌↔◌, IsTrue, List, subst}
 use Rattle.mesh_atoms.specs.declared.settings.Attached4.{Attached4}
 use Rattle.mesh_routes.specs.Hops.Own.{HasNetworkIn}
-use Rattle.mesh_routes.proofs.HopsLemmas.Tests.{neither, first_holds}
+use Rattle.mesh_routes.proofs.HopsLemmas.Tests.{neither}
 use Rattle.mesh_routes.proofs.hops.own.is_outside.Goals as goal
 
 pub returns-then-not-is_own_address : goal.returns-then-not-is_own_address
@@ -9,6 +9,3 @@ returns-then-not-is_own_address c =
     let h : IsTrue c.is_network.result ↔ HasNetworkIn c.args.settings.now.attached c.args.node =
     subst (λ (l : List Attached4). IsTrue c.is_network.result ↔ HasNetworkIn l c.args.node) c.as_slice.ensures c.is_network.ensures in
     neither c.is_own_address.result c.is_network.result c.if-not-is_own_address.true c.is_own_address.ensures h
-
-pub returns-else-not-is_own_address : goal.returns-else-not-is_own_address
-returns-else-not-is_own_address c = first_holds c.is_own_address.result c.if-not-is_own_address.false c.is_own_address.ensures

@@ -1,11 +1,5 @@
-use Rattle.mesh_routes.proofs.HopsLemmas.Searching.{no_longer_at_first, no_longer_more, longest_at, none_at_last}
+use Rattle.mesh_routes.proofs.HopsLemmas.Searching.{no_longer_more, longest_at}
 use Rattle.mesh_routes.proofs.hops.set.longest_place.Goals as goal
-
-pub loop-less-init : goal.loop-less-init
-loop-less-init c = no_longer_at_first c.args.rows.now c.args.dest
-
-pub returns-clause-none : goal.returns-clause-none
-returns-clause-none c = none_at_last c.args.rows.now c.args.dest c.loop-less.less c.loop-less-test.false c.loop-less.invariant
 
 pub returns-in-Ok-clause-some : goal.returns-in-Ok-clause-some
 returns-in-Ok-clause-some c = longest_at c.args.rows.now c.args.dest c.loop-less.less c.of.result c.in-Ok.place c.loop-less-test.true c.of.ensures.prefix c.of.ensures.addr c.in-Ok.ensures.found c.loop-less.invariant
