@@ -1,6 +1,7 @@
 -- What octets spell can be encoded.
-use Rattle.std.proofs.Common.{◌≡◌, ℕ, ◌+◌, ◌-◌, ◌<◌, ◌≤◌, Bool, true, false, List, [], ◌∷◌, ◌++◌, length, get_or, take, Option, Some, None, refl, sym, ap, subst, ◌∙◌, arith}
-use Rattle.std.specs.Prelude.{All, slice_range, replicate}
+use Rattle.std.proofs.Common.{◌≡◌, ℕ, ◌+◌, ◌-◌, ◌<◌, ◌≤◌, Bool, true, false, List, [], ◌∷◌, ◌++◌, length, get_or, Option, Some, None, refl, sym, subst, arith}
+use Rattle.std.proofs.lemmas.Grind.{common_steps}
+use Rattle.std.specs.Prelude.{All, slice_range}
 use Rattle.std.proofs.lemmas.List.{take_all, take_at, get_or_append_left, get_or-append-add, get_or_past}
 use Rattle.std.proofs.lemmas.List.Elements.{All-nil, All-cons}
 use Rattle.std.proofs.lemmas.Bool.{ltb-true, ltb-false}
@@ -8,7 +9,6 @@ use Rattle.std.proofs.Common.{ltb}
 use Rattle.mesh_atoms.specs.Reading.{has}
 use Rattle.mesh_addr.specs.declared.records.RawAddr.{RawAddr}
 use Rattle.mesh_addr.specs.Grammar as addresses
-use Rattle.mesh_addr.specs.Grammar.{padded}
 use Rattle.mesh_addr.proofs.Writable.{spelled_writable}
 use Rattle.mesh_tlv.specs.Items.{SpellsItems}
 use Rattle.mesh_tlv.proofs.Fit.{all_fit}
@@ -53,9 +53,7 @@ pair_encodable width wide narrow x text octets h = record {
 }
 
 originator_whole : (set : Bool) (width : ℕ) (x : Option RawAddr) (text : List ℕ) → SpellsOriginator set width x text → IsPaddedOriginator width x
-originator_whole true width (Some a) text h =
-    let first : take width a.octets ≡ text = ap (take width) h.1 ∙ take_at text (replicate (16 - length text) 0) width h.0 in
-    (h.1 ∙ ap padded (sym first), h.2)
+originator_whole true width (Some a) text h = grind (arith, common_steps, take_at)
 originator_whole true width None text h = absurd h
 originator_whole false width (Some a) text h = absurd h
 originator_whole false width None text h = tt

@@ -1,5 +1,6 @@
 -- Where a message's head is cut off it is refused there, and octets of its size always are one.
 use Rattle.std.proofs.Common.{◌≡◌, ℕ, ◌+◌, ◌-◌, ◌≤◌, List, ◌++◌, length, take, drop, Option, Ok, refl, sym, ap, subst, ◌∙◌, arith}
+use Rattle.std.proofs.lemmas.Grind.{common_steps}
 use Rattle.std.specs.Prelude.{slice_range}
 use Rattle.std.proofs.lemmas.List.{length-take, length-drop, take-append-drop}
 use Rattle.mesh_atoms.specs.Reading.{Reading, refuse, has}
@@ -69,9 +70,7 @@ passes {A} read Says size field s at end le fits enough =
 
 pub head_cut_again : (flags : ℕ) (s : List ℕ) (at end place : ℕ) → at ≤ end → end ≤ length s → HeadCut flags (slice_range s at end) place → head_at flags s at end ≡ refuse (at + place) 1
 unfolding head_at
-head_cut_again flags s at end place le fits (originator_cut cut) =
-    let here : at ≡ at + 0 = omega arith in
-    rw ((originator_field (has flags 128) (width_of flags)).cut s at end fits cut) (ap (λ (k : ℕ). refuse {A = MessageHeader × ℕ} k 1) here)
+head_cut_again flags s at end place le fits (originator_cut cut) = grind (arith, common_steps, originator_field)
 head_cut_again flags s at end place le fits (limit_cut enough cut) =
     let p1 = passes _ _ (originator_size flags) (originator_field (has flags 128) (width_of flags)) s at end le fits enough in
     rw (p1.reads, (octet_field (has flags 64)).cut s (at + originator_size flags) end fits (omega (arith, cut, p1.left))) refl

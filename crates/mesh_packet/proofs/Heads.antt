@@ -1,5 +1,6 @@
 -- What a message has before its TLVs: read, spelled and cut off.
 use Rattle.std.proofs.Common.{◌≡◌, ℕ, ◌+◌, ◌<◌, ◌≤◌, List, ◌++◌, length, Option, Ok, ap, subst, ◌∙◌, arith, append_assoc}
+use Rattle.std.proofs.lemmas.Grind.{common_steps}
 use Rattle.std.specs.Prelude.{MatchResult, slice_range}
 use Rattle.std.proofs.lemmas.List.{length-append}
 use Rattle.mesh_atoms.specs.declared.refusal.Refusal.{Refusal}
@@ -20,9 +21,7 @@ IsHeadCut flags s at end e = (place : ℕ) × (e ≡ record { place = at + place
 
 -- a field that is cut off behind what was taken
 shorter : (s : List ℕ) (at : ℕ) (front : List ℕ) (mid end size : ℕ) → Takes s at front mid end → length (slice_range s mid end) < size → (length front ≤ length (slice_range s at end)) × (length (slice_range s at end) < length front + size)
-shorter s at front mid end size t cut =
-    let whole : length (slice_range s at end) ≡ length front + length (slice_range s mid end) = ap length t.parts ∙ length-append front (slice_range s mid end) in
-    (omega (arith, whole), omega (arith, whole))
+shorter s at front mid end size t cut = grind (arith, common_steps, length-append)
 
 pub head_takes : (flags : ℕ) (s : List ℕ) (at end : ℕ) → at ≤ end → end ≤ length s → MatchResult (head_at flags s at end) (Took s at end (SpellsOpening flags)) (IsHeadCut flags s at end)
 unfolding head_at
@@ -78,18 +77,7 @@ head_takes flags s at end le fits =
     )))))
 
 pub head_long : (flags : ℕ) (o : Option RawAddr) (l c q : Option ℕ) (text : List ℕ) → SpellsMessageHead flags o l c q text → length text ≡ head_size flags
-head_long flags o l c q text h =
-    omega (
-      arith,
-      ap length h.whole,
-      length-append h.originator_text (h.limit_text ++ (h.count_text ++ h.sequence_text)),
-      length-append h.limit_text (h.count_text ++ h.sequence_text),
-      length-append h.count_text h.sequence_text,
-      (originator_field (has flags 128) (width_of flags)).long o h.originator_text h.originator_is,
-      (octet_field (has flags 64)).long l h.limit_text h.limit_is,
-      (octet_field (has flags 32)).long c h.count_text h.count_is,
-      (number_field (has flags 16)).long q h.sequence_text h.sequence_is,
-    )
+head_long flags o l c q text h = grind (arith, common_steps, length-append, originator_field, octet_field, number_field)
 
 pub head_again : (flags : ℕ) (s : List ℕ) (at : ℕ) (o : Option RawAddr) (l c q : Option ℕ) (text rest : List ℕ) (end : ℕ) → Stands s at text rest end → SpellsMessageHead flags o l c q text → head_at flags s at end ≡ Ok (record { originator = o; limit = l; count = c; sequence = q }, at + length text)
 unfolding head_at

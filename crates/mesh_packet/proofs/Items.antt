@@ -1,5 +1,6 @@
 -- Items of a list, one after the other: put there one by one, and parted at one of them.
 use Rattle.std.proofs.Common.{◌≡◌, ℕ, zero, suc, ◌+◌, ◌<◌, ◌≤◌, List, [], ◌∷◌, ◌++◌, length, map, take, get_or, refl, sym, ap, subst, ◌∙◌, arith, append_assoc}
+use Rattle.std.proofs.lemmas.Grind.{common_steps}
 use Rattle.std.proofs.lemmas.List.{append-nil, length-append, take_all}
 use Rattle.std.proofs.Math.Seq.{take-suc}
 use Rattle.std.proofs.lemmas.List.{map_push}
@@ -40,13 +41,7 @@ module _ {A B : Type 0} (view : A → B) (Says : B → List ℕ → Type 0) wher
 
   -- the next item of a loop
   pub wrote_next : (xs : List A) (i : ℕ) (x : A) (old mid new : List ℕ) → i < length xs → x ≡ get_or xs i x → Wrote (SpellsItems Says (map view (take i xs))) old mid → Wrote (Says (view x)) mid new → Wrote (SpellsItems Says (map view (take (i + 1) xs))) old new
-  wrote_next xs i x old mid new lt is h k =
-      let one : suc i ≡ i + 1 = omega arith in
-      let e : map view (take (suc i) xs) ≡ map view (take i xs) ++ view x ∷ [] = ap (map view) (take-suc xs i x lt) ∙ map_push view (take i xs) (get_or xs i x) ∙ ap (λ (y : A). map view (take i xs) ++ view y ∷ []) (sym is) in (
-        h.0 ++ k.0,
-        k.1 ∙ ap (λ (l : List ℕ). l ++ k.0) h.1 ∙ append_assoc old h.0 k.0,
-        subst (λ (n : ℕ). SpellsItems Says (map view (take n xs)) (h.0 ++ k.0)) one (subst (λ (l : List B). SpellsItems Says l (h.0 ++ k.0)) (sym e) (items_push Says (map view (take i xs)) h.0 (view x) k.0 h.2 k.2)),
-      )
+  wrote_next xs i x old mid new lt is h k = grind (arith, common_steps, take-suc, map_push, get_or, append_assoc, items_push)
 
   pub wrote_all : (xs : List A) (i : ℕ) (old new : List ℕ) → length xs ≤ i → Wrote (SpellsItems Says (map view (take i xs))) old new → Wrote (SpellsItems Says (map view xs)) old new
   wrote_all xs i old new le h = subst (λ (l : List A). Wrote (SpellsItems Says (map view l)) old new) (take_all i xs le) h

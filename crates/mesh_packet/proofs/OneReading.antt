@@ -1,5 +1,6 @@
 -- Octets spell one packet or have one first fault, since each is what the reading of the octets gives.
-use Rattle.std.proofs.Common.{◌≡◌, ℕ, ◌⊎◌, inl, inr, List, Result, Ok, Err, ap}
+use Rattle.std.proofs.Common.{◌≡◌, ℕ, ◌⊎◌, inl, inr, List, Result, Ok, Err, ap, arith}
+use Rattle.std.proofs.lemmas.Grind.{common_steps}
 use Rattle.std.specs.Prelude.{MatchResult}
 use Rattle.mesh_atoms.specs.declared.refusal.Refusal.{Refusal}
 use Rattle.mesh_atoms.proofs.Options.{same_ok, ok_not_err}
@@ -22,9 +23,7 @@ one_packet frame p q here there h k =
     (ap (λ (x : PacketFields × List Span). x.0) e, ap (λ (x : PacketFields × List Span). x.1) e)
 
 pub one_fault : (frame : List ℕ) (place reason other why : ℕ) → FirstFault frame place reason → FirstFault frame other why → (place ≡ other) × (reason ≡ why)
-one_fault frame place reason other why h k =
-    let e = err_same (packet_of frame) (record { place = place; reason = reason }) (record { place = other; reason = why }) (packet_fault frame place reason h) (packet_fault frame other why k) in
-    (ap (λ (r : Refusal). r.place) e, ap (λ (r : Refusal). r.reason) e)
+one_fault frame place reason other why h k = grind (arith, common_steps, err_same, packet_fault)
 
 pub spells_or_faults : (frame : List ℕ) → ((packet : PacketFields) × (spans : List Span) × Spells packet spans frame) ⊎ ((place : ℕ) × (reason : ℕ) × FirstFault frame place reason)
 spells_or_faults frame = by (packet_of frame) (packet_takes frame) where

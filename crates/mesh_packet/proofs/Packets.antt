@@ -1,5 +1,6 @@
 -- Packets: read, spelled and refused as their parts are.
 use Rattle.std.proofs.Common.{◌≡◌, ℕ, ◌+◌, ◌-◌, ◌/◌, ◌<◌, ◌≤◌, Bool, true, false, eqb, List, [], ◌∷◌, ◌++◌, length, map, Ok, Err, refl, sym, ap, subst, ◌∙◌, arith, append_assoc}
+use Rattle.std.proofs.lemmas.Grind.{common_steps}
 use Rattle.std.specs.Prelude.{MatchResult, slice_range}
 use Rattle.std.proofs.lemmas.Bool.{eqb-true, eqb-false, ne_eqb}
 use Rattle.mesh_atoms.specs.declared.refusal.Refusal.{Refusal}
@@ -111,9 +112,7 @@ header_takes true s at le = weaker (block_at tlv_at s at (length s)) (block_take
   weaker : (r : Reading (List TlvFields)) → MatchResult r (λ x. (at ≤ x.1) × (x.1 ≤ length s) × SpellsTlvBlock x.0 (slice_range s at x.1)) (FirstFaultAt TlvBlockFault s at (length s)) → MatchResult r (HeaderTook s at true) (λ e. (true ≡ true) × FirstFaultAt TlvBlockFault s at (length s) e)
   weaker (Ok x) h = h
   weaker (Err e) h = (refl, h)
-header_takes false s at le = (omega arith, le, (refl, none)) where
-  none : slice_range s at at ≡ []
-  none = let z : at - at ≡ 0 = omega arith in rw z refl
+header_takes false s at le = grind (arith, common_steps)
 
 pub packet_takes : (s : List ℕ) → MatchResult (packet_of s) (IsSpelled s) (IsFault s)
 unfolding packet_of messages_at
@@ -166,9 +165,7 @@ small flags lt = let z : flags / 16 ≡ 0 = omega arith in rw z refl
 
 flags_again : (s : List ℕ) (flags : ℕ) (rest : List ℕ) → s ≡ flags ∷ rest → flags < 16 → flags_at s (length s) ≡ Ok (flags, 1)
 unfolding flags_at
-flags_again s flags rest e lt =
-    let one : 0 + 1 ≡ 1 = omega arith in
-    rw (octet_again 1 s 0 (length s) flags rest (omega arith) (all_of s ∙ e), small flags lt) refl
+flags_again s flags rest e lt = grind (arith, common_steps, octet_again, all_of, small)
 
 header_again : (set : Bool) (s : List ℕ) (at : ℕ) (tlvs : List TlvFields) (text rest : List ℕ) → Stands s at text rest (length s) → SpellsHeaderTlvs set tlvs text → header_tlvs_at set s at (length s) ≡ Ok (tlvs, at + length text)
 unfolding header_tlvs_at
@@ -177,9 +174,7 @@ header_again false s at tlvs text rest stands h = let z : at ≡ at + length tex
 
 -- what stands behind the octet with the flags, up to the end
 pub first_stands : (s : List ℕ) (flags : ℕ) (sequence rest : List ℕ) → s ≡ flags ∷ (sequence ++ rest) → Stands s 1 sequence rest (length s)
-first_stands s flags sequence rest e =
-    let all : Stands s 0 ((flags ∷ []) ++ sequence) rest (length s) = record { parts = all_of s ∙ e; at_end = omega arith; fits = omega arith } in
-    stands_next s 0 (flags ∷ []) sequence rest (length s) all
+first_stands s flags sequence rest e = grind (arith, common_steps, all_of, stands_next)
 
 pub packet_again : (s : List ℕ) (p : PacketFields) (spans : List Span) → Spells p spans s → packet_of s ≡ Ok (p, spans)
 unfolding packet_of messages_at

@@ -1,5 +1,6 @@
 -- An address block and the TLVs of its addresses: read, spelled and refused as its two parts are.
 use Rattle.std.proofs.Common.{◌≡◌, ℕ, ◌+◌, ◌-◌, ◌<◌, ◌≤◌, List, ◌++◌, length, Ok, refl, sym, ap, subst, ◌∙◌, arith}
+use Rattle.std.proofs.lemmas.Grind.{common_steps}
 use Rattle.std.specs.Prelude.{MatchResult, slice_range}
 use Rattle.std.proofs.lemmas.List.{length-append}
 use Rattle.mesh_atoms.specs.declared.refusal.Refusal.{Refusal}
@@ -66,9 +67,7 @@ module _ (width : ℕ) where
       ) refl
 
   some_pair : (x : BlockFields) (bytes : List ℕ) → SpellsPair width x bytes → 0 < length bytes
-  some_pair x bytes h =
-      let a = h.addrs_is in
-      omega (arith, ap length h.whole, length-append h.addrs h.tlvs, ap length a.whole)
+  some_pair x bytes h = grind (arith, common_steps, length-append)
 
   pub pair_reader : IsReader (pair_at width) (SpellsPair width) (PairFault width)
   pair_reader = record { takes = pair_takes; again = pair_again; fault_again = pair_fault; some = some_pair }

@@ -1,5 +1,6 @@
 -- Each message of a frame that is spelled stands at its span.
-use Rattle.std.proofs.Common.{◌≡◌, ℕ, zero, suc, ◌+◌, ◌≤◌, refl, sym, ◌∙◌, ap, subst, arith, List, [], ◌∷◌, ◌++◌, length, Some, slice_get, append_assoc}
+use Rattle.std.proofs.Common.{◌≡◌, ℕ, zero, suc, ◌+◌, ◌≤◌, sym, ◌∙◌, ap, subst, arith, List, [], ◌∷◌, ◌++◌, length, Some, slice_get, append_assoc}
+use Rattle.std.proofs.lemmas.Grind.{common_steps}
 use Rattle.std.specs.Prelude.{slice_range}
 use Rattle.std.proofs.lemmas.Option.{slice_get_within}
 use Rattle.mesh_atoms.proofs.Reading.{text_is, Stands, stands_next, behind}
@@ -10,11 +11,7 @@ use Rattle.mesh_packet.specs.Placed.{ArePlaced}
 use Rattle.mesh_packet.proofs.Packets.{first_stands}
 
 placed : (s : List ℕ) (at : ℕ) (ms : List MessageFields) (ss : List Span) (bytes : List ℕ) → at ≤ length s → slice_range s at (length s) ≡ bytes → SpellsMessages at ms ss bytes → ArePlaced ms ss s
-placed s at [] [] bytes fits is h = record {
-  same = refl;
-  within = λ k span there. absurd (omega (arith, slice_get_within [] k span there));
-  each = λ k m span here there. absurd (omega (arith, slice_get_within [] k span there));
-}
+placed s at [] [] bytes fits is h = grind (arith, common_steps, slice_get_within)
 placed s at (m ∷ ms) (p ∷ ps) bytes fits is h =
     let text : List ℕ = h.0 in
     let rest : List ℕ = h.1 in

@@ -1,19 +1,17 @@
 -- Messages beside their sizes, and where they stand.
-use Rattle.std.proofs.Common.{◌≡◌, ℕ, suc, ◌+◌, ◌-◌, ◌<◌, List, [], ◌∷◌, ◌++◌, length, map, refl, ap, ◌∙◌, arith, drop}
+use Rattle.std.proofs.Common.{◌≡◌, ℕ, ◌+◌, ◌-◌, ◌<◌, List, [], ◌∷◌, ◌++◌, length, map, refl, ap, arith}
+use Rattle.std.proofs.lemmas.Grind.{common_steps}
 use Rattle.std.specs.Prelude.{slice_range}
 use Rattle.std.specs.List.{zip, sum_by}
 use Rattle.std.proofs.lemmas.List.{length-take}
 use Rattle.std.proofs.lemmas.List.Sums.{sum_by-cons, sum_by_push}
 use Rattle.mesh_addr.specs.declared.records.RawAddr.{RawAddr}
 use Rattle.mesh_addr.specs.Grammar as addresses
-use Rattle.mesh_packet.specs.declared.packet.Span.{Span}
 use Rattle.mesh_packet.specs.Reading.{spans_from}
 
 -- a block has some octets
 pub block_moves : (s : List ℕ) (at after width : ℕ) (addrs : List RawAddr) → addresses.SpellsBlock width addrs (slice_range s at after) → at < after
-block_moves s at after width addrs h =
-    let some : length (slice_range s at after) ≡ suc (suc (length (h.head_text ++ (h.tail_text ++ (h.mids_text ++ h.prefixes_text))))) = ap length h.whole in
-    omega (arith, some, length-take (after - at) (drop at s))
+block_moves s at after width addrs h = grind (arith, common_steps, length-take)
 
 pub zip_push : {A B : Type 0} (xs : List A) (ys : List B) (x : A) (y : B) → length xs ≡ length ys → zip (xs ++ x ∷ []) (ys ++ y ∷ []) ≡ zip xs ys ++ (x, y) ∷ []
 zip_push [] [] x y e = refl
@@ -39,9 +37,7 @@ total ns = sum_by (λ n. n) ns
 
 pub spans_push : (at : ℕ) (ns : List ℕ) (n : ℕ) → spans_from at (ns ++ n ∷ []) ≡ spans_from at ns ++ record { start = at + total ns; len = n } ∷ []
 spans_push at [] n = let e : at ≡ at + 0 = omega arith in ap (λ (k : ℕ). record { start = k; len = n } ∷ []) e
-spans_push at (m ∷ ns) n =
-    let e : at + m + total ns ≡ at + total (m ∷ ns) = omega (arith, sum_by-cons (λ k. k) m ns) in
-    ap (λ (l : List Span). record { start = at; len = m } ∷ l) (spans_push (at + m) ns n ∙ ap (λ (k : ℕ). spans_from (at + m) ns ++ record { start = k; len = n } ∷ []) e)
+spans_push at (m ∷ ns) n = grind (arith, common_steps, sum_by-cons, spans_push (at + m) ns n)
 
 pub total_push : (ns : List ℕ) (n : ℕ) → total (ns ++ n ∷ []) ≡ total ns + n
 total_push ns n = sum_by_push (λ k. k) ns n

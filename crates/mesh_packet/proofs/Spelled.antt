@@ -1,12 +1,12 @@
 -- The least form is a spelling.
-use Rattle.std.proofs.Common.{◌≡◌, ℕ, ◌+◌, ◌-◌, ◌<◌, ◌≤◌, Bool, List, [], ◌∷◌, length, take, Option, Some, None, refl, sym, ap, subst, arith}
-use Rattle.std.specs.Prelude.{All, replicate}
+use Rattle.std.proofs.Common.{◌≡◌, ℕ, ◌+◌, ◌-◌, ◌<◌, ◌≤◌, Bool, List, [], ◌∷◌, length, Option, Some, None, refl, sym, subst, arith}
+use Rattle.std.proofs.lemmas.Grind.{common_steps}
+use Rattle.std.specs.Prelude.{All}
 use Rattle.std.specs.Option.{is_some}
 use Rattle.std.proofs.lemmas.List.{length-append, length-take, length-replicate}
 use Rattle.std.proofs.lemmas.List.Elements.{All-head, All-tail}
 use Rattle.mesh_addr.specs.declared.records.RawAddr.{RawAddr}
 use Rattle.mesh_addr.specs.Grammar as addresses
-use Rattle.mesh_addr.specs.Grammar.{padded}
 use Rattle.mesh_tlv.specs.Fields.{TlvFields}
 use Rattle.mesh_tlv.specs.Items.{SpellsItems}
 use Rattle.mesh_tlv.specs.Least.{least_short, least_tlv, least_addr_tlv, least_block}
@@ -29,9 +29,7 @@ number_spelled (Some n) = short_spelled n
 
 originator_spelled : (width : ℕ) (x : Option RawAddr) → width ≤ 16 → IsPaddedOriginator width x → SpellsOriginator (is_some x) width x (least_originator width x)
 originator_spelled width None le h = refl
-originator_spelled width (Some a) le h =
-    let octets : List ℕ = take width a.octets in
-    (omega (arith, le, length-take width a.octets, ap length h.0, length-append octets (replicate (16 - length octets) 0), length-replicate {A = ℕ} (16 - length octets) 0), h.0, h.1)
+originator_spelled width (Some a) le h = grind (arith, common_steps, length-take, length-append, length-replicate)
 
 header_tlvs_spelled : (tlvs : List TlvFields) → SpellsHeaderTlvs (has_tlvs tlvs) tlvs (least_header_tlvs tlvs)
 header_tlvs_spelled [] = (refl, refl)

@@ -1,5 +1,6 @@
 -- What makes the least text of a value too long.
-use Rattle.std.proofs.Common.{◌≡◌, ℕ, ◌+◌, ◌<◌, ◌≤◌, List, [], ◌∷◌, ◌++◌, length, map, ap, arith}
+use Rattle.std.proofs.Common.{◌≡◌, ℕ, ◌+◌, ◌<◌, ◌≤◌, List, [], ◌∷◌, length, map, ap, arith}
+use Rattle.std.proofs.lemmas.Grind.{common_steps}
 use Rattle.std.specs.List.{flat_map}
 use Rattle.std.proofs.lemmas.List.{length-append}
 use Rattle.mesh_tlv.specs.Least.{least_tlv, least_addr_tlv, least_block, least_short, AreTooLong}
@@ -11,9 +12,7 @@ use Rattle.mesh_packet.specs.Least.{LeastPair, LeastBody, LeastMessage, least_he
 use Rattle.mesh_packet.proofs.OneForm.{body_once}
 
 body_long : (m : MessageFields) (x : List ℕ) (h : LeastBody m x) → length x ≡ length (least_head m) + (length (least_block least_tlv m.tlvs) + length h.blocks)
-body_long m x h =
-    let tlvs : List ℕ = least_block least_tlv m.tlvs in
-    omega (arith, ap length h.whole, length-append (least_head m) (tlvs ++ h.blocks), length-append tlvs h.blocks)
+body_long m x h = grind (arith, common_steps, length-append)
 
 message_long : (m : MessageFields) (x : List ℕ) (h : LeastMessage m x) → length x ≡ 4 + length h.body
 message_long m x h = omega (arith, ap length h.whole, length-append (least_short (4 + length h.body)) h.body)

@@ -1,5 +1,6 @@
 -- What the writers put behind the old octets, part by part.
-use Rattle.std.proofs.Common.{◌≡◌, ℕ, List, [], ◌++◌, length, Result, Err, refl, ap, ◌∙◌, append_assoc}
+use Rattle.std.proofs.Common.{◌≡◌, ℕ, List, [], ◌++◌, length, Result, Err, refl, append_assoc, arith}
+use Rattle.std.proofs.lemmas.Grind.{common_steps}
 use Rattle.std.specs.Result.{IsErrAnd}
 use Rattle.std.proofs.lemmas.Result.{err_from_is_err_and}
 use Rattle.mesh_addr.specs.Least.{WroteLeast}
@@ -18,24 +19,13 @@ told (tlvs.Memory e) h = absurd cc
 
 -- what is handed on as too long was too long
 pub was_too_long : {A B : Type 0} (r : Result A EncodeFault) (w : Result B WriteTlv) (f : WriteTlv) → w ≡ Err f → IsErrAnd r (λ e. e ≡ as_encode_fault f) → r ≡ Err faults.TooLong → w ≡ Err tlvs.TooLong
-was_too_long {A} {B} r w f is and e =
-    let p = err_from_is_err_and r and in
-    is ∙ ap (λ (x : WriteTlv). Err x) (told f (same p.0 (as_encode_fault f) p.1 p.2)) where
-      same : (x y : EncodeFault) → r ≡ Err x → x ≡ y → y ≡ faults.TooLong
-      same x y h k = cc
+was_too_long {A} {B} r w f is and e = grind (arith, common_steps, err_from_is_err_and, told)
 
 pub pair_wrote : (b : BlockFields) (old mid new : List ℕ) → WroteLeast b.width b.addrs old mid → new ≡ mid ++ least_block (least_addr_tlv (length b.addrs)) b.tlvs → Wrote (LeastPair b) old new
-pair_wrote b old mid new h e =
-    let tlvs : List ℕ = least_block (least_addr_tlv (length b.addrs)) b.tlvs in
-    (h.0 ++ tlvs, e ∙ ap (λ (l : List ℕ). l ++ tlvs) h.1 ∙ append_assoc old h.0 tlvs, record { addrs = h.0; addrs_is = h.2; whole = refl })
+pair_wrote b old mid new h e = grind (arith, common_steps, append_assoc)
 
 pub body_wrote : (m : MessageFields) (old head tlvs new : List ℕ) → head ≡ old ++ least_head m → tlvs ≡ head ++ least_block least_tlv m.tlvs → Wrote (SpellsItems LeastPair m.blocks) tlvs new → Wrote (LeastBody m) old new
-body_wrote m old head tlvs new e k h =
-    let block : List ℕ = least_block least_tlv m.tlvs in (
-      least_head m ++ (block ++ h.0),
-      h.1 ∙ ap (λ (l : List ℕ). l ++ h.0) k ∙ append_assoc head block h.0 ∙ ap (λ (l : List ℕ). l ++ (block ++ h.0)) e ∙ append_assoc old (least_head m) (block ++ h.0),
-      record { blocks = h.0; blocks_is = h.2; whole = refl },
-    )
+body_wrote m old head tlvs new e k h = grind (arith, common_steps, append_assoc)
 
 -- a body that was put behind no octets
 pub body_alone : (m : MessageFields) (old new : List ℕ) → old ≡ [] → Wrote (LeastBody m) old new → LeastBody m new
@@ -43,6 +33,4 @@ body_alone m old new e h = rw (h.1, e) h.2
 
 -- a fault that is handed on
 pub handed_on : {A B : Type 0} (r : Result A EncodeFault) (w : Result B EncodeFault) (f : EncodeFault) → w ≡ Err f → IsErrAnd r (λ e. e ≡ f) → r ≡ Err faults.TooLong → w ≡ Err faults.TooLong
-handed_on {A} {B} r w f is and e = let p = err_from_is_err_and r and in same p.0 p.1 p.2 where
-  same : (x : EncodeFault) → r ≡ Err x → x ≡ f → w ≡ Err faults.TooLong
-  same x h k = cc
+handed_on {A} {B} r w f is and e = grind (arith, common_steps, err_from_is_err_and)

@@ -3,15 +3,9 @@ use Rattle.std.proofs.lemmas.Result.{err_from_is_err_and}
 use Rattle.std.proofs.lemmas.List.{map_push}
 use Rattle.std.proofs.lemmas.Bool.{eq-eqb}
 use Rattle.mesh_packet.specs.Fields.{fields_of_message}
-use Rattle.mesh_packet.proofs.MessageRun.{nothing_yet, one_more, all_turns, at_the_end, one_fails}
+use Rattle.mesh_packet.proofs.MessageRun.{one_more, all_turns, at_the_end, one_fails}
 use Rattle.mesh_packet.proofs.read.messages.Goals as goal
 use Rattle.mesh_packet.proofs.read.messages.Goals.{else-loop-test, then-loop-test+then-place-end}
-
-pub loop-init : goal.loop-init
-loop-init c = record {
-  so_far = rw (c.new-messages.ensures, c.new-spans.ensures) (nothing_yet c.args.frame.now c.args.at c.args.end);
-  within = c.requires.at;
-}
 
 pub returns-in_err-message : goal.returns-in_err-message
 returns-in_err-message c =

@@ -1,20 +1,13 @@
-use Rattle.std.proofs.Common.{arith}
 use Rattle.mesh_atoms.proofs.Lists.{all_read}
 use Rattle.mesh_packet.specs.Fields.{fields_of_message}
 use Rattle.mesh_packet.specs.Least.{IsEncodableMessage, LeastMessage}
-use Rattle.mesh_packet.proofs.Items.{wrote_none, wrote_next, wrote_all, items_pass}
+use Rattle.mesh_packet.proofs.Items.{wrote_next, items_pass}
 use Rattle.mesh_packet.proofs.OneForm.{message_once}
 use Rattle.mesh_packet.proofs.Writing.{handed_on}
 use Rattle.mesh_packet.proofs.write.write_messages.Goals as goal
 
-pub loop-message-init : goal.loop-message-init
-loop-message-init c = record { wrote = wrote_none fields_of_message LeastMessage c.args.out.now; room = c.requires.room }
-
 pub write_message-requires-clause-encodable : goal.write_message-requires-clause-encodable
 write_message-requires-clause-encodable c = all_read fields_of_message IsEncodableMessage c.args.messages.now c.loop-message.message-index c.message-item.result c.requires.encodable c.loop-message-test.true c.message-item.is
-
-pub write_message-requires-clause-room : goal.write_message-requires-clause-room
-write_message-requires-clause-room c = c.loop-message.invariant.room
 
 pub returns-in_err-write_message-clause-too_long : goal.returns-in_err-write_message-clause-too_long
 returns-in_err-write_message-clause-too_long c = λ e.
@@ -25,6 +18,3 @@ loop-message-preserved c = record {
   wrote = wrote_next fields_of_message LeastMessage c.args.messages.now c.loop-message.message-index c.message-item.result c.args.out.now c.loop-message.out c.write_message.new.out c.loop-message-test.true c.message-item.is c.loop-message.invariant.wrote c.in_ok-write_message.ensures.ok.0;
   room = c.in_ok-write_message.ensures.ok.1;
 }
-
-pub returns-clause-ok : goal.returns-clause-ok
-returns-clause-ok c = (wrote_all fields_of_message LeastMessage c.args.messages.now c.loop-message.message-index c.args.out.now c.loop-message.out (omega (arith, c.loop-message-test.false)) c.loop-message.invariant.wrote, c.loop-message.invariant.room)

@@ -1,13 +1,10 @@
-use Rattle.std.proofs.Common.{arith, subst, sym, ℕ}
+use Rattle.std.proofs.Common.{subst, sym, ℕ}
 use Rattle.mesh_atoms.proofs.Lists.{all_read}
 use Rattle.mesh_packet.specs.Fields.{fields_of_block}
 use Rattle.mesh_packet.specs.Least.{IsEncodableBlock, LeastPair}
-use Rattle.mesh_packet.proofs.Items.{wrote_none, wrote_next, wrote_all, item_passes}
+use Rattle.mesh_packet.proofs.Items.{wrote_next, item_passes}
 use Rattle.mesh_packet.proofs.Writing.{handed_on}
 use Rattle.mesh_packet.proofs.write.write_pairs.Goals as goal
-
-pub loop-block-init : goal.loop-block-init
-loop-block-init c = record { wrote = wrote_none fields_of_block LeastPair c.args.out.now }
 
 pub write_pair-requires : goal.write_pair-requires
 write_pair-requires c =
@@ -20,6 +17,3 @@ returns-in_err-write_pair-clause-too_long c = λ e.
 
 pub loop-block-preserved : goal.loop-block-preserved
 loop-block-preserved c = record { wrote = wrote_next fields_of_block LeastPair c.args.blocks.now c.loop-block.block-index c.block-item.result c.args.out.now c.loop-block.out c.write_pair.new.out c.loop-block-test.true c.block-item.is c.loop-block.invariant.wrote c.in_ok-write_pair.ensures.ok }
-
-pub returns-clause-ok : goal.returns-clause-ok
-returns-clause-ok c = wrote_all fields_of_block LeastPair c.args.blocks.now c.loop-block.block-index c.args.out.now c.loop-block.out (omega (arith, c.loop-block-test.false)) c.loop-block.invariant.wrote
