@@ -1,5 +1,6 @@
 -- Walks over the places of a list, and what they gather.
-use Rattle.std.proofs.Common.{◌≡◌, ℕ, zero, suc, ◌+◌, ◌<◌, ◌≤◌, ◌⊎◌, ◌↔◌, inl, inr, refl, sym, ◌∙◌, ap, subst, arith, List, [], ◌∷◌, ◌++◌, length, take, Contains, slice_get, get_or, Some}
+use Rattle.std.proofs.Common.{◌≡◌, ℕ, ◌+◌, ◌<◌, ◌≤◌, ◌⊎◌, ◌↔◌, inl, inr, refl, sym, ◌∙◌, ap, subst, arith, List, [], ◌∷◌, ◌++◌, length, take, Contains, slice_get, get_or, Some}
+use Rattle.std.proofs.lemmas.Grind.{common_steps}
 use Rattle.std.specs.Prelude.{Bool, true}
 use Rattle.std.specs.Cmp.{IsEquivalence}
 use Rattle.std.specs.Map.{keys_of}
@@ -28,10 +29,7 @@ module _ {E : Type 0} (xs : List E) (P : E → Type 0) where
   below_here n e at has = (n, e, omega arith, at, has)
 
   pub below_cases : (n : ℕ) (e : E) → slice_get xs n ≡ Some e → SomeBelow xs (n + 1) P → SomeBelow xs n P ⊎ P e
-  below_cases n e at (k, x, lt, stands, has) = elim (cases_eq k n) [
-    | inl same ↦ inr (let both : Some x ≡ Some e = sym stands ∙ (ap (λ j. slice_get xs j) same ∙ at) in let is : x ≡ e = cc in subst P is has)
-    | inr other ↦ inl (k, x, omega (arith, lt, other), stands, has)
-  ]
+  below_cases n e at (k, x, lt, stands, has) = grind (arith, common_steps, cases_eq, slice_get)
 
 -- a step that adds what the element at the place gives
 pub gathers_more : {E A : Type 0} (xs : List E) (P : E → A → Type 0) (n : ℕ) (e : E) (old new : List A) → slice_get xs n ≡ Some e →
@@ -47,18 +45,7 @@ gathers_none xs P a = (λ c. absurd (omega (arith, c.1)), λ s. absurd (omega (a
 
 -- an element that is at a place is one of the list
 pub below_contains : {E : Type 0} (xs : List E) (P : E → Type 0) → SomeBelow xs (length xs) P ↔ ((e : E) × Contains xs e × P e)
-below_contains xs P = (
-  λ s. let (k, e, lt, at, has) = s in (e, (k, lt, get_or_from_slice_get xs k e e at), has),
-  λ h. let (e, c, has) = h in elim ((slice_get_cases xs c.0).1) [
-    | inl there ↦ (c.0, e, c.1, there.2 ∙ ap (λ x. Some x) (sym there.3 ∙ same xs c.0 there.0 e c.1 c.2), has)
-    | inr past ↦ absurd (omega (arith, past.0, c.1))
-  ],
-)
-  where
-    same : {E : Type 0} (xs : List E) (k : ℕ) (x e : E) → k < length xs → get_or xs k e ≡ e → get_or xs k x ≡ e
-    same [] k x e lt at = absurd (omega (arith, lt))
-    same (y ∷ ys) zero x e lt at = at
-    same (y ∷ ys) (suc k) x e lt at = same ys k x e (omega (arith, lt)) at
+below_contains xs P = grind (arith, common_steps, get_or_from_slice_get, slice_get_cases, get_or)
 
 module _ {K V : Type 0} {eq : K → K → Bool} (equiv : IsEquivalence eq) (exact : (k l : K) → eq k l ≡ true → k ≡ l) (base : Base K V) (P : K × (V × ℕ) → Type 0) where
   -- what stands at a place is found by its key

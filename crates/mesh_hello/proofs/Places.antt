@@ -1,5 +1,6 @@
 -- Elements of lists by their places.
-use Rattle.std.proofs.Common.{◌≡◌, ℕ, zero, suc, ◌+◌, ◌≤◌, ◌++◌, List, [], ◌∷◌, drop, length, refl, sym, ◌∙◌, ap, subst, add-one}
+use Rattle.std.proofs.Common.{◌≡◌, ℕ, zero, suc, ◌+◌, ◌≤◌, ◌++◌, List, [], ◌∷◌, drop, length, refl, sym, ◌∙◌, ap, subst, add-one, arith}
+use Rattle.std.proofs.lemmas.Grind.{common_steps}
 use Rattle.std.specs.Prelude.{Contains, Some, slice_get, ◌↔◌}
 use Rattle.std.specs.List.{flat_map}
 use Rattle.std.proofs.lemmas.List.{append-nil, append_assoc, drop_all}
@@ -13,9 +14,7 @@ drop_at (y ∷ ys) (suc k) x h = drop_at ys k x h
 -- what a list with the rest gives, with what the next element gives put at its end
 pub put_next : {A B : Type 0} (f : A → List B) (xs : List A) (k : ℕ) (x : A) (list whole : List B) → slice_get xs k ≡ Some x →
     list ++ flat_map f (drop k xs) ≡ whole → (list ++ f x) ++ flat_map f (drop (k + 1) xs) ≡ whole
-put_next f xs k x list whole at h =
-    let e : drop k xs ≡ x ∷ drop (k + 1) xs = rw add-one (drop_at xs k x at) in
-    rw append_assoc (subst (λ l. list ++ flat_map f l ≡ whole) e h)
+put_next f xs k x list whole at h = grind (arith, common_steps, add-one, drop_at, append_assoc)
 
 pub put_more : {A B : Type 0} (f : A → List B) (xs : List A) (k : ℕ) (x : A) (list new whole : List B) → slice_get xs k ≡ Some x →
     list ++ flat_map f (drop k xs) ≡ whole → new ≡ list ++ f x → new ++ flat_map f (drop (k + 1) xs) ≡ whole

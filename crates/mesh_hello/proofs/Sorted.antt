@@ -1,6 +1,7 @@
 -- Addresses in ascending order.
-use Rattle.std.proofs.Common.{◌≡◌, ◌<◌, List, Ordering, Less, get_or, sym, refl, ◌∙◌, arith, ap}
-use Rattle.std.specs.Prelude.{Bool, false}
+use Rattle.std.proofs.Common.{◌≡◌, ◌<◌, List, Ordering, Less, get_or, sym, refl, ◌∙◌, arith}
+use Rattle.std.proofs.lemmas.Grind.{common_steps}
+use Rattle.std.specs.Prelude.{false}
 use Rattle.std.specs.List.{IsDistinct, dedup}
 use Rattle.std.specs.List.Sorted.{IsSorted}
 use Rattle.std.specs.Cmp.{IsTotalOrder}
@@ -23,13 +24,7 @@ addr_total : IsTotalOrder addr_cmp
 addr_total = on_total (λ (a : Addr4). a.0) nat_cmp_total
 
 ties : (a b : Addr4) → addr_eq a b ≡ eq_by_cmp addr_cmp a b
-ties a b = by_ranked (a.0 < b.0) (a.0 ≡ b.0) (b.0 < a.0) (addr_cmp a b) (ranked a.0 b.0 (addr_cmp a b) refl)
-    (λ is lt. apart a b (omega (arith, lt)) ∙ sym (ap is_eq_ordering is))
-    (λ is same. eq-eqb a.0 b.0 same ∙ sym (ap is_eq_ordering is))
-    (λ is gt. apart a b (omega (arith, gt)) ∙ sym (ap is_eq_ordering is))
-  where
-    is_eq_ordering : Ordering → Bool
-    is_eq_ordering o = eq_by_cmp (λ (x y : Addr4). o) a b
+ties a b = grind (arith, common_steps, by_ranked, ranked, apart, eq-eqb)
 
 -- sorted and each once
 pub ascending_dedup : (addrs : List Addr4) → IsSorted addr_cmp addrs → IsAscending (dedup addr_eq addrs)

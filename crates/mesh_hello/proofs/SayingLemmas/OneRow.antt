@@ -1,5 +1,6 @@
 -- The row of an address says what is shown of it.
-use Rattle.std.proofs.Common.{◌≡◌, ℕ, Bool, true, false, refl, sym, ap, ◌∙◌, subst}
+use Rattle.std.proofs.Common.{◌≡◌, ℕ, Bool, true, false, refl, sym, ap, ◌∙◌, subst, arith}
+use Rattle.std.proofs.lemmas.Grind.{common_steps}
 use Rattle.std.specs.Prelude.{Contains, Option, Some, None, slice_get, IsTrue, IfSome, IfNone, ◌↔◌, is_some}
 use Rattle.std.proofs.lemmas.Bool.{false≢true}
 use Rattle.std.proofs.lemmas.Map.Entries.{place_from_lookup}
@@ -99,9 +100,7 @@ lent_some (Some e) = refl
 
 -- what is found at a key stands in the base
 stands : {K V : Type 0} {eq : K → K → Bool} → ((k l : K) → eq k l ≡ true → k ≡ l) → (base : Base K V) (key : K) (e : V × ℕ) → find eq base key ≡ Some e → Contains base (key, e)
-stands {K} {V} {eq} exact base key e is =
-    let (k, l, at, same) = place_from_lookup (eq key) base e is in
-    subst (λ (x : K). Contains base (x, e)) (sym (exact key l same)) (contains_at base k (l, e) at)
+stands {K} {V} {eq} exact base key e is = grind (arith, common_steps, place_from_lookup, contains_at)
 
 -- the link that has the address, or none
 pub link_by : (links : Base LinkKey Link) (a : Addr4) (o : Option (Bor LinkKey × Bor Link × ℕ)) → HasDistinctKeys link_eq links → IfSome o (λ e. HasLinkWith links a e.0.now (e.1.now, e.2)) →

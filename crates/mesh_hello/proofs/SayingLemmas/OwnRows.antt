@@ -1,5 +1,6 @@
 -- Rows of a router's own addresses say nothing else of them.
-use Rattle.std.proofs.Common.{◌≡◌, ℕ, inl, inr, refl, ◌∙◌, ap, Contains, Bool, true, false}
+use Rattle.std.proofs.Common.{◌≡◌, ℕ, inl, inr, refl, ◌∙◌, ap, Contains, Bool, true, false, arith}
+use Rattle.std.proofs.lemmas.Grind.{common_steps}
 use Rattle.std.specs.Prelude.{Option, Some, None, IsTrue, IsSome}
 use Rattle.std.proofs.lemmas.Bool.{false≢true}
 use Rattle.mesh_atoms.specs.declared.addr.Addr4.{Addr4}
@@ -82,9 +83,7 @@ abbrev shown : Option Metric → Option Metric → Option Metric → Option Metr
 shown link_in link_out near_in near_out = record { link_in = link_in; link_out = link_out; near_in = near_in; near_out = near_out }
 
 no_metrics : (m : Metrics) → m.link_in ≡ None → m.link_out ≡ None → m.near_in ≡ None → m.near_out ≡ None → m ≡ shown None None None None
-no_metrics m a b c d =
-    ap (λ x. shown x m.link_out m.near_in m.near_out) a ∙ (ap (λ x. shown None x m.near_in m.near_out) b
-    ∙ (ap (λ x. shown None None x m.near_out) c ∙ ap (λ x. shown None None None x) d))
+no_metrics m a b c d = grind (arith, common_steps)
 
 abbrev chosen : Bool → Bool → Mpr
 chosen flooding routing = record { flooding = flooding; routing = routing }

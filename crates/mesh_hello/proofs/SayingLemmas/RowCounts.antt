@@ -1,5 +1,6 @@
 -- How many rows a HELLO has.
 use Rattle.std.proofs.Common.{◌≡◌, ℕ, zero, suc, ◌+◌, ◌*◌, ◌<◌, ◌≤◌, ◌⊎◌, inl, inr, refl, sym, ◌∙◌, ap, subst, arith, List, [], ◌∷◌, ◌++◌, length, length-append, map, Contains, Bool, true, false, get_or}
+use Rattle.std.proofs.lemmas.Grind.{common_steps}
 use Rattle.std.specs.Prelude.{not, None, AllPairs}
 use Rattle.std.specs.List.{filter, flat_map, list_any}
 use Rattle.std.proofs.lemmas.Bool.{cases_lt, false≢true}
@@ -95,9 +96,7 @@ few_own [] = omega arith
 few_own (face ∷ faces) = omega (arith, length-append face.addrs (flat_map (λ (f : Interface). f.addrs) faces), face.sound.few.at_most, few_own faces)
 
 own_few : (settings : RouterSettings) → length (own_of settings) ≤ 32
-own_few settings =
-    let count : length (map (λ (i : Interface). i.name) settings.interfaces) ≡ length settings.interfaces = length-map settings.interfaces (λ (i : Interface). i.name) in
-    omega (arith, few_own settings.interfaces, count, settings.sound.interfaces.at_most)
+own_few settings = grind (arith, common_steps, length-map, few_own)
 
 own_has : (settings : RouterSettings) (a : Addr4) → HasAddress settings a → Contains (own_of settings) a
 own_has settings a (i, (face, at, has)) = contains_flat_map (λ (f : Interface). f.addrs) settings.interfaces face a (contains_at settings.interfaces i face at) has

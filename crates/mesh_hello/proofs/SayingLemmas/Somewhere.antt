@@ -1,5 +1,6 @@
 -- The addresses of which something is said are those that are put into the list.
 use Rattle.std.proofs.Common.{◌≡◌, ◌++◌, ℕ, Bool, true, false, cond, nat_lt, inl, inr, List, [], ◌∷◌, refl, sym, ◌∙◌, ap, subst, slice_get, arith}
+use Rattle.std.proofs.lemmas.Grind.{common_steps}
 use Rattle.std.specs.Prelude.{Contains, Option, Some, None, IsTrue}
 use Rattle.std.specs.List.{flat_map}
 use Rattle.std.specs.Map.{keys_of}
@@ -69,12 +70,7 @@ pending_state : (l : Link) (now : ℕ) → l.pending ≡ true → state_of l now
 pending_state l now is = rw is refl
 
 not_pending_state : (l : Link) (now : ℕ) → l.pending ≡ false → state_of l now ≡ Is_pending → ⊥
-not_pending_state l now is h = by_cases l.lost (nat_lt now l.sym) (nat_lt now l.heard) (rw is at h) where
-  by_cases : (lost late heard : Bool) → cond lost Is_lost (cond late Is_symmetric (cond heard Is_heard Is_lost)) ≡ Is_pending → ⊥
-  by_cases true late heard e = not_pending refl e
-  by_cases false true heard e = not_pending refl e
-  by_cases false false true e = not_pending refl e
-  by_cases false false false e = not_pending refl e
+not_pending_state l now is h = grind (arith, common_steps, nat_lt, not_pending)
 
 -- The addresses of a router
 

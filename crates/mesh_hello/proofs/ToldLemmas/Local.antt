@@ -1,5 +1,6 @@
 -- What rows tell as the sender's, and which HELLOs are refused for it.
-use Rattle.std.proofs.Common.{◌≡◌, ◌≢◌, ℕ, Bool, true, false, not, inl, inr, refl, sym, ap, subst, ◌∙◌}
+use Rattle.std.proofs.Common.{◌≡◌, ◌≢◌, ℕ, Bool, true, false, not, inl, inr, refl, sym, ap, ◌∙◌, arith}
+use Rattle.std.proofs.lemmas.Grind.{common_steps}
 use Rattle.std.specs.Prelude.{IsTrue, ◌↔◌, List, Contains, Any, Some, None, Option, is_some, unwrap_or}
 use Rattle.std.proofs.lemmas.Bool.{eq-eqb}
 use Rattle.mesh_atoms.specs.declared.addr.Addr4.{Addr4}
@@ -32,10 +33,7 @@ local_row row some prefix = let (local, is) = some_of row.local some in (local, 
 
 -- the one address that the row shows decides what holds of those that it shows
 pub local_with : (P : Addr4 → Type 0) (row : HelloRow) (a : Addr4) (b : Bool) → ((local : LocalIf) × IsLocalRow row a local) → (IsTrue b ↔ P a) → IsTrue b ↔ IsLocalWith P row
-local_with P row a b shown tells = (
-  λ h. record { addr = a; local = shown.0; told = shown.1; has = tells.0 h },
-  λ w. tells.1 (subst P (one_host row.addr w.addr a w.told.addr shown.1.addr) w.has),
-)
+local_with P row a b shown tells = grind (arith, common_steps, one_host)
 
 pub local_without : (P : Addr4 → Type 0) (row : HelloRow) → ((a : Addr4) (local : LocalIf) → IsLocalRow row a local → ⊥) → IsTrue false ↔ IsLocalWith P row
 local_without P row none = (λ h. absurd cc, λ w. absurd (none w.addr w.local w.told))
@@ -122,13 +120,7 @@ nameless_by sender hello o value none b tells = (
 )
 
 pub beyond : (a first : Addr4) (b : Bool) → b ≡ not (addr_eq a first) → IsTrue b ↔ (a ≢ first)
-beyond a first b e = (
-  λ h f. absurd (let same' : addr_eq a first ≡ true = eq-eqb a.0 first.0 (ap (λ (x : Addr4). x.0) f) in cc),
-  λ ne. by_test (addr_eq a first) refl ne,
-) where
-  by_test : (t : Bool) → addr_eq a first ≡ t → (a ≢ first) → b ≡ true
-  by_test true is ne = absurd (ne (same_addr a first is))
-  by_test false is ne = cc
+beyond a first b e = grind (arith, common_steps, eq-eqb, same_addr)
 
 negated : (b : Bool) → false ≡ not b → b ≡ true
 negated true e = refl

@@ -1,5 +1,6 @@
 -- Lists of the sender's addresses.
-use Rattle.std.proofs.Common.{◌≡◌, ℕ, zero, suc, ◌<◌, slice_index_or, ◌↔◌, inl, inr, refl, sym, ap, subst, arith, List, [], ◌∷◌, ◌++◌, length, Contains, Some}
+use Rattle.std.proofs.Common.{◌≡◌, slice_index_or, ◌↔◌, inl, inr, refl, sym, ap, subst, arith, List, [], ◌∷◌, ◌++◌, length, Contains, Some}
+use Rattle.std.proofs.lemmas.Grind.{common_steps}
 use Rattle.std.proofs.lemmas.List.Elements.{Contains-append_cases, Contains-append_left, Contains-append_right}
 use Rattle.mesh_atoms.specs.declared.addr.Addr4.{Addr4}
 use Rattle.mesh_atoms.specs.declared.addr.NetAddr.{NetAddr}
@@ -53,17 +54,4 @@ or_sender_some [] sender a not = absurd (not refl)
 or_sender_some (x ∷ xs) sender a not = ((λ c. inl c), (λ h. elim h [ inl c ↦ c | inr none ↦ absurd (none.1 x (0, omega arith, refl)) ]))
 
 pub or_sender_none : (addrs all : List Addr4) (sender a : Addr4) → length addrs ≡ 0 → all ≡ addrs ++ sender ∷ [] → Contains all a ↔ IsOrSender addrs sender a
-or_sender_none addrs all sender a none is = (
-  λ c. elim (Contains-append_cases addrs (sender ∷ []) a (subst (λ (xs : List Addr4). Contains xs a) is c)) [
-    | inl h ↦ inl h
-    | inr h ↦ inr (only sender a h.0 h.1 h.2, λ b there. omega (arith, there.1, none))
-  ],
-  λ h. subst (λ (xs : List Addr4). Contains xs a) (sym is) (elim h [
-    | inl c ↦ Contains-append_left addrs (sender ∷ []) a c
-    | inr same ↦ Contains-append_right addrs (sender ∷ []) a (subst (λ (b : Addr4). Contains (sender ∷ []) b) (sym same.0) (0, omega arith, refl))
-  ]),
-)
-  where
-    only : (sender a : Addr4) (k : ℕ) → k < length (sender ∷ []) → slice_index_or (sender ∷ []) k a ≡ a → a ≡ sender
-    only sender a zero l e = sym e
-    only sender a (suc k) l e = absurd (omega (arith, l))
+or_sender_none addrs all sender a none is = grind (arith, common_steps, slice_index_or)

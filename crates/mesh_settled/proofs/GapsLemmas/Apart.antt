@@ -1,5 +1,6 @@
 -- The least address that one of two lists alone has.
-use Rattle.std.proofs.Common.{◌≡◌, ℕ, ◌+◌, ◌<◌, ◌≤◌, ◌⊎◌, inl, inr, refl, sym, ◌∙◌, ap, subst, arith, List, Contains, Option, Some, None, Bool, true, false, cond, nat_lt, length, slice_get}
+use Rattle.std.proofs.Common.{◌≡◌, ℕ, ◌+◌, ◌<◌, ◌≤◌, ◌⊎◌, inl, inr, refl, ap, subst, arith, List, Contains, Option, Some, None, Bool, true, false, cond, nat_lt, length, slice_get}
+use Rattle.std.proofs.lemmas.Grind.{common_steps}
 use Rattle.std.specs.Prelude.{◌↔◌, IsTrue}
 use Rattle.std.proofs.lemmas.Bool.{false≢true, ltb-true, ltb-false, cases_eq}
 use Rattle.mesh_atoms.specs.declared.addr.Addr4.{Addr4}
@@ -13,10 +14,7 @@ abbrev pub IsEarlier : {X : Type 0} → List X → ℕ → X → Type 0
 IsEarlier list i a = (k : ℕ) × (k < i) × (slice_get list k ≡ Some a)
 
 pub earlier_step : {X : Type 0} (list : List X) (i : ℕ) (a b : X) → slice_get list i ≡ Some a → IsEarlier list (i + 1) b → IsEarlier list i b ⊎ (a ≡ b)
-earlier_step list i a b at w = elim (cases_eq w.0 i) [
-  | inl e ↦ inr (same_some at (sym (ap (λ k. slice_get list k) e) ∙ w.2))
-  | inr other ↦ inl (w.0, omega (arith, w.1), w.2)
-]
+earlier_step list i a b at w = grind (arith, common_steps, cases_eq, same_some, slice_get)
 
 pub earlier_more : {X : Type 0} (list : List X) (i : ℕ) (b : X) → IsEarlier list i b → IsEarlier list (i + 1) b
 earlier_more list i b w = (w.0, omega (arith, w.1), w.2)
@@ -25,14 +23,7 @@ module _ (list others : List Addr4) (i : ℕ) (a : Addr4) (at : slice_get list i
   -- one more address
   pub one_more : (best : Option Addr4) (had : Bool) → IsTrue had ↔ Contains others a → IsLeastMissing (IsEarlier list i) others best → IsLeastMissing (IsEarlier list (i + 1)) others (lower best a had)
   one_more None true test least = λ b w. elim (earlier_step list i a b at w) [ inl earlier ↦ least b earlier | inr same ↦ subst (Contains others) same (test.0 refl) ]
-  one_more None false test least = (
-    (i, omega arith, at),
-    λ has. false≢true (test.1 has),
-    λ b w missing. elim (earlier_step list i a b at w) [
-      | inl earlier ↦ absurd (missing (least b earlier))
-      | inr same ↦ subst (λ (c : Addr4). a.0 ≤ c.0) same (omega arith)
-    ],
-  )
+  one_more None false test least = grind (arith, common_steps, false≢true, earlier_step)
   one_more (Some c) true test least = (
     earlier_more list i c least.0,
     least.1,

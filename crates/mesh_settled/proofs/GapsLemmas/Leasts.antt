@@ -1,6 +1,7 @@
 -- The order of keys, and the lesser of two gaps.
-use Rattle.std.proofs.Common.{◌≡◌, ℕ, ◌+◌, ◌<◌, ◌≤◌, ◌⊎◌, inl, inr, refl, sym, subst, arith, Option, Some, None, Bool, true, false, cond, nat_lt, nat_eq, ◌||◌}
-use Rattle.std.specs.Prelude.{◌&&◌, List, slice_get}
+use Rattle.std.proofs.Common.{◌≡◌, ℕ, ◌+◌, ◌<◌, ◌≤◌, ◌⊎◌, inl, inr, refl, sym, subst, arith, Option, Some, None, Bool, true, false, cond, nat_lt, nat_eq}
+use Rattle.std.proofs.lemmas.Grind.{common_steps}
+use Rattle.std.specs.Prelude.{List, slice_get}
 use Rattle.std.proofs.lemmas.Bool.{false≢true, ltb-true, lt-ltb, ltb-false, eqb-true, eq-eqb, cases_eq, cases_Bool, and_parts, or_cases}
 use Rattle.mesh_settled.specs.declared.gaps.found.Found.{Found}
 use Rattle.mesh_settled.specs.declared.gaps.found.Rank.{Rank}
@@ -14,31 +15,16 @@ use Rattle.mesh_settled.specs.Gaps.Found.{IsLeastGap, IsTest, lesser, found_at}
 -- The order
 
 pub before_cases : (m n : ℕ) (r : Bool) → precedes m n r ≡ true → (m < n) ⊎ ((m ≡ n) × (r ≡ true))
-before_cases m n r e = elim (or_cases (nat_lt m n) (nat_eq m n && r) e) [
-  | inl less ↦ inl (ltb-true m n less)
-  | inr same ↦ let (is, rest) = and_parts (nat_eq m n) r same in inr (eqb-true m n is, rest)
-]
+before_cases m n r e = grind (arith, common_steps, or_cases, nat_lt, nat_eq, ltb-true, and_parts, eqb-true)
 
 before_less : (m n : ℕ) (r : Bool) → m < n → precedes m n r ≡ true
-before_less m n r less = by_case (nat_lt m n) (lt-ltb m n less)
-  where
-    by_case : (b : Bool) → b ≡ true → (b || (nat_eq m n && r)) ≡ true
-    by_case true e = refl
-    by_case false e = absurd (false≢true e)
+before_less m n r less = grind (arith, common_steps, nat_lt, lt-ltb, nat_eq, false≢true)
 
 before_same : (m n : ℕ) (r : Bool) → m ≡ n → r ≡ true → precedes m n r ≡ true
-before_same m n r same rest = by_case (nat_lt m n) (nat_eq m n) (eq-eqb m n same) r rest
-  where
-    by_case : (a b : Bool) → b ≡ true → (r : Bool) → r ≡ true → (a || (b && r)) ≡ true
-    by_case true b e r f = refl
-    by_case false true e r f = f
-    by_case false false e r f = absurd (false≢true e)
+before_same m n r same rest = grind (arith, common_steps, nat_lt, nat_eq, eq-eqb, false≢true)
 
 then_before : (k l m : ℕ) (r s t : Bool) → (r ≡ true → s ≡ true → t ≡ true) → precedes k l r ≡ true → precedes l m s ≡ true → precedes k m t ≡ true
-then_before k l m r s t next e f = elim (before_cases k l r e) [
-  | inl less ↦ elim (before_cases l m s f) [ inl more ↦ before_less k m t (omega arith) | inr same ↦ before_less k m t (let h = same.0 in omega arith) ]
-  | inr same ↦ elim (before_cases l m s f) [ inl more ↦ before_less k m t (let h = same.0 in omega arith) | inr last ↦ before_same k m t (let h = same.0 in let g = last.0 in omega arith) (next same.1 last.1) ]
-]
+then_before k l m r s t next e f = grind (arith, common_steps, before_cases, before_less, before_same)
 
 not_before : (k l m : ℕ) (r s t : Bool) → (r ≡ true → s ≡ false → t ≡ true) → precedes k l r ≡ true → precedes m l s ≡ false → precedes k m t ≡ true
 not_before k l m r s t next e f = elim (cases_lt m l) [
@@ -112,18 +98,7 @@ module _ (l : Look) (P Q : GapKey → Type 0) where
 -- One key
 pub least_one : (l : Look) (key : GapKey) (v : Option HeldAndPresent) → IsTest l key v → IsLeastGap l (λ k. k ≡ key) (found_at key v)
 least_one l key None test = λ k same. subst (AreSame l) (sym same) test
-least_one l key (Some v) test = (refl, test, λ k same first. absurd (before_self k (subst (λ (j : GapKey). is_ranked_before (rank_of k) (rank_of j) ≡ true) (sym same) first)))
-  where
-    no_less : (n : ℕ) → nat_lt n n ≡ true → ⊥
-    no_less n e = let h = ltb-true n n e in omega arith
-
-    then_self : (n : ℕ) (r : Bool) → (r ≡ true → ⊥) → precedes n n r ≡ true → ⊥
-    then_self n r none e = elim (before_cases n n r e) [ inl less ↦ omega arith | inr rest ↦ none rest.1 ]
-
-    before_self : (k : GapKey) → is_ranked_before (rank_of k) (rank_of k) ≡ true → ⊥
-    before_self k =
-        let p = rank_of k in
-        then_self p.kind _ (then_self p.iface _ (then_self p.first _ (then_self p.second _ (no_less p.prefix))))
+least_one l key (Some v) test = grind (arith, common_steps, nat_lt, ltb-true, before_cases)
 
 -- Keys by places
 
@@ -136,9 +111,7 @@ at_place {A} l list P n e f at least =
 -- or the entry
 pub at_entry : {K V : Type 0} (l : Look) (list : List (K × V)) (P : K → V → GapKey → Type 0) (n : ℕ) (k : K) (v : V) (f : Option Found) → slice_get list n ≡ Some (k, v) → IsLeastGap l (P k v) f →
     IsLeastGap l (λ key. (x : K) × (y : V) × (slice_get list n ≡ Some (x, y)) × P x y key) f
-at_entry {K} {V} l list P n k v f at least =
-    least_as l (P k v) (λ key. (x : K) × (y : V) × (slice_get list n ≡ Some (x, y)) × P x y key) (λ key w. (k, v, at, w))
-    (λ key w. subst (λ (e : K × V). P e.0 e.1 key) (same_some w.2 at) w.3) f least
+at_entry {K} {V} l list P n k v f at least = grind (arith, common_steps, least_as, same_some)
 
 -- what the places before this give
 abbrev pub Below : (ℕ → GapKey → Type 0) → ℕ → GapKey → Type 0

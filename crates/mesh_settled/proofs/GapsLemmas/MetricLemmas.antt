@@ -1,6 +1,6 @@
 -- The metric from one router to another.
-use Rattle.std.proofs.Common.{◌≡◌, ℕ, zero, suc, ◌+◌, ◌≤◌, ◌⊎◌, inl, inr, refl, sym, ◌∙◌, ap, subst, arith, length, List, Option, Some, None, Bool, true, false, cond, nat_lt, nat_eq, slice_get}
-use Rattle.std.specs.Prelude.{◌&&◌}
+use Rattle.std.proofs.Common.{◌≡◌, ℕ, zero, suc, ◌+◌, ◌≤◌, ◌⊎◌, inl, inr, refl, ◌∙◌, ap, subst, arith, length, List, Option, Some, None, Bool, true, false, cond, nat_lt, nat_eq, slice_get}
+use Rattle.std.proofs.lemmas.Grind.{common_steps}
 use Rattle.std.proofs.lemmas.Bool.{false≢true, cases_eq, eqb-true, eq-eqb, ltb-true, ltb-false}
 use Rattle.std.proofs.lemmas.Option.{slice_get_cases}
 use Rattle.mesh_atoms.specs.declared.graphs.Pair.{Pair}
@@ -19,10 +19,7 @@ module _ (pairs : List Pair) (y z n : ℕ) (e : Pair) (at : slice_get pairs n �
   leads_more f w = (w.0, omega (arith, w.1), w.2, w.3, w.4)
 
   leads_less : (f : Pair) → IsLeading pairs y z (n + 1) f → IsLeading pairs y z n f ⊎ (e ≡ f)
-  leads_less f w = elim (cases_eq w.0 n) [
-    | inl same ↦ inr (same_some at (subst (λ (k : ℕ). slice_get pairs k ≡ Some f) same w.2))
-    | inr other ↦ inl (w.0, omega (arith, w.1), w.2, w.3, w.4)
-  ]
+  leads_less f w = grind (arith, common_steps, cases_eq, same_some, slice_get)
 
   passed : (best : Option Metric) → ((e.from ≡ y) → (e.to ≡ z) → ⊥) → IsLeastMetricOf pairs y z n best → IsLeastMetricOf pairs y z (n + 1) best
   passed None none p = λ f w. elim (leads_less f w) [ inl h ↦ p f h | inr same ↦ none (ap (λ (g : Pair). g.from) same ∙ w.3) (ap (λ (g : Pair). g.to) same ∙ w.4) ]
@@ -55,12 +52,7 @@ module _ (pairs : List Pair) (y z n : ℕ) (e : Pair) (at : slice_get pairs n �
       )
 
   pub one_pair : (best : Option Metric) → IsLeastMetricOf pairs y z n best → IsLeastMetricOf pairs y z (n + 1) (cheaper best y z e)
-  one_pair best p = by_case (nat_eq e.from y) (nat_eq e.to z) refl refl
-    where
-      by_case : (a b : Bool) → nat_eq e.from y ≡ a → nat_eq e.to z ≡ b → IsLeastMetricOf pairs y z (n + 1) (cond (a && b) (less best e.metric) best)
-      by_case false b is is' = passed best (λ from to. false≢true (sym is ∙ eq-eqb e.from y from)) p
-      by_case true false is is' = passed best (λ from to. false≢true (sym is' ∙ eq-eqb e.to z to)) p
-      by_case true true is is' = taken best (eqb-true e.from y is) (eqb-true e.to z is') p
+  one_pair best p = grind (arith, common_steps, nat_eq, cond, passed, false≢true, eq-eqb, taken, eqb-true)
 
 pub no_pair : (pairs : List Pair) (y z : ℕ) → IsLeastMetricOf pairs y z 0 None
 no_pair pairs y z = λ e w. omega (arith, w.1)

@@ -1,5 +1,6 @@
 -- Neighbours on both sides.
 use Rattle.std.proofs.Common.{◌≡◌, ℕ, ◌+◌, ◌<◌, ◌≤◌, ◌⊎◌, inl, inr, refl, sym, ◌∙◌, ap, subst, arith, length, List, Contains, Option, Some, None, Bool, true, false, cond, nat_lt, map}
+use Rattle.std.proofs.lemmas.Grind.{common_steps}
 use Rattle.std.specs.Prelude.{◌↔◌, IsTrue, is_some}
 use Rattle.std.proofs.lemmas.Bool.{false≢true, cases_eq, ltb-true, ltb-false}
 use Rattle.std.proofs.lemmas.Option.{none-some, slice_get_within}
@@ -43,25 +44,7 @@ module _ (list : List Addr4) (P Q : Addr4 → Type 0) where
   least_either None None p q = λ a w. elim w [ inl h ↦ p a h | inr h ↦ q a h ]
   least_either (Some c) None p q = (inl p.0, p.1, λ a w missing. elim w [ inl h ↦ p.2 a h missing | inr h ↦ absurd (missing (q a h)) ])
   least_either None (Some b) p q = (inr q.0, q.1, λ a w missing. elim w [ inl h ↦ absurd (missing (p a h)) | inr h ↦ q.2 a h missing ])
-  least_either (Some c) (Some b) p q = by_case (nat_lt b.0 c.0) refl
-    where
-      by_case : (t : Bool) → nat_lt b.0 c.0 ≡ t → IsLeastMissing (λ a. P a ⊎ Q a) list (cond t (Some b) (Some c))
-      by_case true is = (
-        inr q.0,
-        q.1,
-        λ a w missing. elim w [
-          | inl h ↦ let low : c.0 ≤ a.0 = p.2 a h missing in let under : b.0 < c.0 = ltb-true _ _ is in omega arith
-          | inr h ↦ q.2 a h missing
-        ],
-      )
-      by_case false is = (
-        inl p.0,
-        p.1,
-        λ a w missing. elim w [
-          | inl h ↦ p.2 a h missing
-          | inr h ↦ let low : b.0 ≤ a.0 = q.2 a h missing in let over : c.0 ≤ b.0 = ltb-false _ _ is in omega arith
-        ],
-      )
+  least_either (Some c) (Some b) p q = grind (arith, common_steps, nat_lt, cond, ltb-true, ltb-false)
 
   pub missing_as : ((a : Addr4) → P a → Q a) → ((a : Addr4) → Q a → P a) → (o : Option Addr4) → IsLeastMissing P list o → IsLeastMissing Q list o
   missing_as there back None p = λ a h. p a (back a h)

@@ -1,5 +1,6 @@
 -- What two sides have at a key, and the test of it.
-use Rattle.std.proofs.Common.{Bool, List, None, Option, Some, [], ap, inl, inr, refl, subst, sym, ℕ, ◌+◌, ◌∙◌, ◌∷◌, ◌≡◌, ◌≢◌}
+use Rattle.std.proofs.Common.{Bool, List, None, Option, Some, [], ap, inl, inr, refl, subst, sym, ℕ, ◌+◌, ◌∙◌, ◌∷◌, ◌≡◌, ◌≢◌, arith}
+use Rattle.std.proofs.lemmas.Grind.{common_steps}
 use Rattle.std.specs.Prelude.{◌↔◌, is_some, option_map}
 use Rattle.mesh_settled.specs.declared.gaps.compare.Difference.{Difference}
 use Rattle.mesh_atoms.specs.declared.gap.GapKey.{GapKey}
@@ -76,11 +77,7 @@ module _ (l : Look) (key : GapKey) (all : IsExcepted l key → ⊥) where
   tested None None d held given test = record { held = λ fs is. absurd (held fs is); present = λ gs is. absurd (given gs is) }
   tested (Some fs) None d held given test = (Held_alone fs held.0 all given refl refl, λ same. elim (same.held fs held.0) [ inl e ↦ all e | inr w ↦ given w.0 w.1 ])
   tested None (Some gs) d held given test = (Present_alone gs given.0 held refl refl, λ same. let w = same.present gs given.0 in held w.0 w.1)
-  tested (Some fs) (Some gs) None held given test =
-      let same : AllSame fs gs = test fs gs refl refl in record {
-        held = λ hs is. inr (gs, given.0, all_then hs fs gs (held.1 hs is) same);
-        present = λ hs is. (fs, held.0, all_then hs gs fs (given.1 hs is) (all_sym fs gs same));
-      }
+  tested (Some fs) (Some gs) None held given test = grind (arith, common_steps, all_then, all_sym)
   tested (Some fs) (Some gs) (Some d) held given test =
       let differ : DifferFrom 0 fs gs d.field d.held d.present = test fs gs refl refl in (
         Unequal fs gs d.field d.held d.present held.0 given.0 differ refl refl,
@@ -122,10 +119,7 @@ module _ {V T : Type 0} (view : V → T) (fields : T → List Field) (Holds : V 
 -- The two values of a gap differ
 
 unequal_numbers : (f g : Field) (m n : Option ℕ) → Differ f g m n → m ≢ n
-unequal_numbers (Addresses ms) (Addresses ns) m n apart same = elim apart.apart [
-  | inl held ↦ none-some apart.least.0 (sym held.2 ∙ (sym same ∙ held.1))
-  | inr given ↦ none-some apart.least.0 (sym given.1 ∙ (same ∙ given.2))
-]
+unequal_numbers (Addresses ms) (Addresses ns) m n apart same = grind (arith, common_steps, none-some)
 unequal_numbers (Number v) (Number w) m n apart same = apart.0 (sym apart.1 ∙ (same ∙ apart.2))
 unequal_numbers (Addresses ms) (Number w) m n apart same = apart
 unequal_numbers (Number v) (Addresses ns) m n apart same = apart
@@ -141,6 +135,4 @@ unequal_from at (f ∷ fs) (g ∷ gs) field m n differ same = elim differ [
 pub gaps_differ : (l : Look) (key : GapKey) (held present : Option GapValue) → IsGapAt l key held present → held ≢ present
 gaps_differ l key held present (Held_alone fs h e none is none_is) same = none-some (at_field 0 None) (sym none_is ∙ (sym same ∙ is))
 gaps_differ l key held present (Present_alone gs g none none_is is) same = none-some (at_field 0 None) (sym none_is ∙ (same ∙ is))
-gaps_differ l key held present (Unequal fs gs field m n h g differ held_is present_is) same =
-    let values : at_field field m ≡ at_field field n = same_some held_is (same ∙ present_is) in
-    unequal_from 0 fs gs field m n differ (ap (λ (x : GapValue). x.number) values)
+gaps_differ l key held present (Unequal fs gs field m n h g differ held_is present_is) same = grind (arith, common_steps, same_some, unequal_from)

@@ -1,13 +1,10 @@
 use Rattle.std.proofs.Common.{map}
-use Rattle.mesh_settled.proofs.KindLemmas.{none_settled, is_first, differ}
+use Rattle.mesh_settled.proofs.KindLemmas.{none_settled, differ}
 use Rattle.mesh_settled.proofs.RouteLaw.{rows_are_least, next_hops_lead}
 use Rattle.mesh_settled.proofs.report.settled.Goals as goal
 
 pub returns-clause-none : goal.returns-clause-none
 returns-clause-none g c = none_settled c.args.scenario.now c.args.graph.now (map g.R.RouterView.state c.args.routers.now) c.args.now c.requires c.first_of.result c.first_of.ensures
-
-pub returns-clause-first : goal.returns-clause-first
-returns-clause-first g c = is_first c.args.scenario.now c.args.graph.now (map g.R.RouterView.state c.args.routers.now) c.args.now c.requires c.first_of.result c.first_of.ensures
 
 pub returns-clause-differ : goal.returns-clause-differ
 returns-clause-differ g c = differ c.args.scenario.now c.args.graph.now (map g.R.RouterView.state c.args.routers.now) c.args.now c.requires c.first_of.result c.first_of.ensures

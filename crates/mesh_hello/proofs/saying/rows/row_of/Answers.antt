@@ -3,15 +3,6 @@ use Rattle.mesh_expire.specs.Table.{entry_of}
 use Rattle.mesh_hello.proofs.SayingLemmas.OneRow.{row_of, lent_some, link_by}
 use Rattle.mesh_hello.proofs.saying.rows.row_of.Goals as goal
 
-pub neighbour_with-neighbour-requires : goal.neighbour_with-neighbour-requires
-neighbour_with-neighbour-requires g c = c.requires.apart.distinct_neighbours
-
-pub is_lost-requires : goal.is_lost-requires
-is_lost-requires g c = c.requires.apart.distinct_losts
-
-pub returns-clause-addr : goal.returns-clause-addr
-returns-clause-addr g c = c.host.ensures
-
 pub returns-clause-says : goal.returns-clause-says
 returns-clause-says g c =
     row_of c.args.basis.now.settings.now c.args.basis.now.links.now c.args.basis.now.neighbours.now (g.O.Table.content c.args.basis.now.losts.now) c.args.basis.now.relays.now c.args.basis.now.iface c.args.basis.now.moment _ c.args.addr

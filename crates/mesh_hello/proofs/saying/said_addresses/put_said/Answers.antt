@@ -1,11 +1,8 @@
-use Rattle.std.proofs.Common.{refl, sym, arith}
-use Rattle.mesh_hello.proofs.Places.{put_next, put_all}
+use Rattle.std.proofs.Common.{sym, arith}
+use Rattle.mesh_hello.proofs.Places.{put_next}
 use Rattle.mesh_atoms.proofs.Lists.{none_within}
 use Rattle.mesh_hello.proofs.saying.said_addresses.put_said.Goals as goal
 use Rattle.mesh_hello.proofs.saying.said_addresses.put_said.Goals.{in-Some+in_ok-extend_from_slice, in_default}
-
-pub loop-place-init : goal.loop-place-init
-loop-place-init g c = refl
 
 pub loop-place-preserved : goal.loop-place-preserved
 loop-place-preserved g c = elim c.match-at.branch [
@@ -14,7 +11,3 @@ loop-place-preserved g c = elim c.match-at.branch [
       (w.in-Some.field-0-0.now, (w.in-Some.tuple.now, w.in-Some.field-0-2)) _ _ (sym w.in-Some.ensures) c.loop-place.invariant)
   | in_default w ↦ none_within (g.T.Table.content c.args.table.now) c.loop-place.place (omega (arith, c.loop-place-test.true, c.len-place-end.ensures.value)) w.in_default.ensures
 ]
-
-pub returns : goal.returns
-returns g c =
-    put_all (λ e. g.V.HasSaid.said e.1.0) (g.T.Table.content c.args.table.now) c.loop-place.place c.loop-place.list.items _ (omega (arith, c.loop-place-test.false, c.len-place-end.ensures.value)) c.loop-place.invariant

@@ -1,11 +1,8 @@
-use Rattle.std.proofs.Common.{refl, arith, below_more}
+use Rattle.std.proofs.Common.{arith, below_more}
 use Rattle.std.proofs.lemmas.Bool.{false≢true, iff_false}
 use Rattle.std.proofs.lemmas.Option.{slice_get_within}
 use Rattle.mesh_hello.proofs.saying.said_of.is_on_other.Goals as goal
 use Rattle.mesh_hello.proofs.saying.said_of.is_on_other.Goals.{else-place-iface-via-then-place-iface+else-is_on, else-place-iface-via-else-place-iface}
-
-pub returns-then-is_on : goal.returns-then-is_on
-returns-then-is_on c = ((λ h. (c.loop-place.place, c.if-place-iface.true, c.is_on.ensures.0 c.if-is_on.true)), (λ h. refl))
 
 pub loop-place-preserved : goal.loop-place-preserved
 loop-place-preserved c = below_more _ _ c.loop-place.invariant (elim c.else-place-iface.branch [

@@ -1,10 +1,7 @@
 use Rattle.std.proofs.Common.{◌≢◌}
 use Rattle.mesh_atoms.specs.declared.addr.Addr4.{Addr4}
-use Rattle.mesh_hello.proofs.ToldLemmas.Local.{local_with, local_without, beyond}
+use Rattle.mesh_hello.proofs.ToldLemmas.Local.{local_with, beyond}
 use Rattle.mesh_hello.proofs.told.receive.is_local_beyond.Goals as goal
 
 pub returns-in-Some : goal.returns-in-Some
 returns-in-Some c = local_with (λ (a : Addr4). a ≢ c.args.first) c.args.row.now c.in-Some.addr _ c.in-Some.ensures.some (beyond c.in-Some.addr c.args.first _ c.ne.ensures)
-
-pub returns-in-None : goal.returns-in-None
-returns-in-None c = local_without (λ (a : Addr4). a ≢ c.args.first) c.args.row.now c.in-None.ensures.none

@@ -1,9 +1,6 @@
 use Rattle.std.proofs.Common.{arith}
-use Rattle.mesh_hello.proofs.ToldLemmas.Senders.{or_sender_some, or_sender_none}
+use Rattle.mesh_hello.proofs.ToldLemmas.Senders.{or_sender_some}
 use Rattle.mesh_hello.proofs.told.sender.or_sender.Goals as goal
-
-pub returns-in_ok-push : goal.returns-in_ok-push
-returns-in_ok-push c a = or_sender_none c.args.addrs.now.items _ c.args.sender a (omega arith) c.in_ok-push.ensures.items
 
 pub returns-else-count-eq0 : goal.returns-else-count-eq0
 returns-else-count-eq0 c a = or_sender_some c.args.addrs.now.items c.args.sender a (λ none. omega arith)

@@ -1,5 +1,5 @@
 use Rattle.std.proofs.Common.{map}
-use Rattle.mesh_settled.proofs.GapsLemmas.JointLemmas.{router_found, no_router_found}
+use Rattle.mesh_settled.proofs.GapsLemmas.JointLemmas.{router_found}
 use Rattle.mesh_settled.proofs.GapsLemmas.LinkLemmas.{end_is}
 use Rattle.mesh_settled.proofs.gaps.links.end_of.Goals as goal
 
@@ -7,6 +7,3 @@ pub returns-in-Some : goal.returns-in-Some
 returns-in-Some g c =
     end_is (map g.R.RouterView.state c.args.routers.now) c.args.pair.now.to c.args.pair.now.to_iface (g.R.RouterView.state c.in-Some.other.now)
     (router_found g.R.RouterView.state c.router_at.ensures c.in-Some.is) c.settings.result.now c.settings.ensures c.least_address.result c.least_address.ensures
-
-pub returns-in-None : goal.returns-in-None
-returns-in-None g c = λ a w. no_router_found g.R.RouterView.state c.router_at.ensures c.in-None.is w.0 w.1

@@ -4,9 +4,6 @@ use Rattle.mesh_settled.proofs.GapsLemmas.JointLemmas.{value_some, value_none, r
 use Rattle.mesh_settled.proofs.GapsLemmas.LinkLemmas.{given_side, no_joint}
 use Rattle.mesh_settled.proofs.gaps.links.given_link.Goals as goal
 
-pub joint_with-requires : goal.joint_with-requires
-joint_with-requires g c = c.requires.network.graph
-
 pub given_by-requires-clause-sound : goal.given_by-requires-clause-sound
 given_by-requires-clause-sound g c = c.requires.network.sound c.in-Some.joint.to (g.R.RouterView.state c.in-Some-router_at.other.now) (router_found g.R.RouterView.state c.router_at.ensures c.in-Some-router_at.is)
 

@@ -1,12 +1,7 @@
 use Rattle.std.proofs.lemmas.Option.{slice_get-get_or}
 use Rattle.mesh_atoms.specs.Hello.{Says, Flooding}
-use Rattle.mesh_settled.proofs.GapsLemmas.JointLemmas.{some_here, no_more, none_here, denied}
+use Rattle.mesh_settled.proofs.GapsLemmas.JointLemmas.{no_more, none_here, denied}
 use Rattle.mesh_settled.proofs.gaps.links.is_selector.Goals as goal
-
-pub returns-then-said : goal.returns-then-said
-returns-then-said g c =
-    some_here (λ a. Says (g.R.RouterView.state c.args.other.now) c.args.j c.args.now a Flooding) c.args.addrs.now c.loop-k.k _ (slice_get-get_or c.args.addrs.now c.loop-k.k _ c.loop-k-test.true)
-    (c.said.ensures.flooding.0 c.if-said.true)
 
 pub loop-k-preserved : goal.loop-k-preserved
 loop-k-preserved g c =

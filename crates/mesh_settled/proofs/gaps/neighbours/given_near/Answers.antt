@@ -1,14 +1,8 @@
 use Rattle.mesh_atoms.specs.Radio.{IsMetric}
-use Rattle.mesh_settled.proofs.GapsLemmas.JointLemmas.{value_some, value_none}
+use Rattle.mesh_settled.proofs.GapsLemmas.JointLemmas.{value_some}
 use Rattle.mesh_settled.proofs.GapsLemmas.NeighbourLemmas.{near_is}
 use Rattle.mesh_settled.specs.Gaps.Site.{seen}
 use Rattle.mesh_settled.proofs.gaps.neighbours.given_near.Goals as goal
-
-pub metric_to-there-requires : goal.metric_to-there-requires
-metric_to-there-requires g c = c.requires.site.network.graph
-
-pub metric_to-back-requires : goal.metric_to-back-requires
-metric_to-back-requires g c = c.requires.site.network.graph
 
 pub is_selector-requires-clause-sound : goal.is_selector-requires-clause-sound
 is_selector-requires-clause-sound g c = c.requires.site.network.sound c.args.y (g.R.RouterView.state c.args.other.now) c.requires.other
@@ -22,9 +16,3 @@ returns-in-Some-back g c =
     near_is (seen g.R.RouterView.state site) c.args.y (g.R.RouterView.state c.args.other.now) _ c.settings-in-Some-back.result.now c.settings.ensures c.settings-in-Some-back.ensures
     (value_some (IsMetric site.scenario.now site.x c.args.y) c.metric_to-there.result c.in-Some.metric_out c.in-Some.is c.metric_to-there.ensures)
     (value_some (IsMetric site.scenario.now c.args.y site.x) c.metric_to-back.result c.in-Some-back.metric_in c.in-Some-back.is c.metric_to-back.ensures) c.is_selector.ensures
-
-pub returns-in-None-back : goal.returns-in-None-back
-returns-in-None-back g c = λ m n h k. value_none (IsMetric c.args.site.now.scenario.now c.args.y c.args.site.now.x) c.metric_to-back.result c.in-None-back.is c.metric_to-back.ensures n k
-
-pub returns-in-None : goal.returns-in-None
-returns-in-None g c = λ m n h k. value_none (IsMetric c.args.site.now.scenario.now c.args.site.now.x c.args.y) c.metric_to-there.result c.in-None.is c.metric_to-there.ensures m h

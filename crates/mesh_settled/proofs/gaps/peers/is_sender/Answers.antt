@@ -1,5 +1,5 @@
 use Rattle.std.proofs.Common.{map}
-use Rattle.mesh_settled.proofs.GapsLemmas.PeerLemmas.{is_sender, not_sender}
+use Rattle.mesh_settled.proofs.GapsLemmas.PeerLemmas.{is_sender}
 use Rattle.mesh_settled.proofs.GapsLemmas.JointLemmas.{router_found}
 use Rattle.mesh_settled.proofs.gaps.peers.is_sender.Goals as goal
 
@@ -7,7 +7,3 @@ pub returns-in-Some : goal.returns-in-Some
 returns-in-Some g c =
     is_sender c.args.site.now.scenario.now c.args.site.now.graph.now (map g.R.RouterView.state c.args.site.now.routers.now) c.args.site.now.moment c.args.site.now.x c.requires.network c.args.from c.originator.result c.args.w c.is_joined.result (g.R.RouterView.state c.in-Some.other.now) (c.is_joined.ensures.joined c.args.site.now.scenario.now c.requires.network.graph) c.if-not-is_joined.false
     (router_found g.R.RouterView.state c.router_at.ensures c.in-Some.is) c.settings.result.now c.settings.ensures c.originator.ensures.is
-
-pub returns-then-not-is_joined : goal.returns-then-not-is_joined
-returns-then-not-is_joined g c =
-    not_sender c.args.site.now.scenario.now c.args.site.now.graph.now (map g.R.RouterView.state c.args.site.now.routers.now) c.args.site.now.moment c.args.site.now.x c.requires.network c.args.from c.args.w c.is_joined.result (c.is_joined.ensures.joined c.args.site.now.scenario.now c.requires.network.graph) c.if-not-is_joined.true

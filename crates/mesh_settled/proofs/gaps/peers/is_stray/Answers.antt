@@ -1,10 +1,7 @@
 use Rattle.mesh_settled.specs.Gaps.Peers.{IsStrayAt}
 use Rattle.mesh_settled.proofs.GapsLemmas.JointLemmas.{one_not}
-use Rattle.mesh_settled.proofs.GapsLemmas.PeerLemmas.{some_stray, no_stray}
+use Rattle.mesh_settled.proofs.GapsLemmas.PeerLemmas.{no_stray}
 use Rattle.mesh_settled.proofs.gaps.peers.is_stray.Goals as goal
-
-pub returns-then-is_stray_at : goal.returns-then-is_stray_at
-returns-then-is_stray_at g c = some_stray c.args.site.now.scenario.now c.args.site.now.x c.args.addr c.loop-v.v (c.is_stray_at.ensures.0 c.if-is_stray_at.true)
 
 pub loop-v-preserved : goal.loop-v-preserved
 loop-v-preserved g c = one_not (IsStrayAt c.args.site.now.scenario.now c.args.site.now.x c.args.addr) c.loop-v.v c.is_stray_at.result c.is_stray_at.ensures c.if-is_stray_at.false c.loop-v.invariant

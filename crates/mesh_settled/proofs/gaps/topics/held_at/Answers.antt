@@ -1,5 +1,4 @@
 use Rattle.std.proofs.Common.{sym, ◌∙◌}
-use Rattle.std.proofs.lemmas.Option.{none-some}
 use Rattle.mesh_settled.specs.Gaps.Site.{seen}
 use Rattle.mesh_settled.proofs.GapsLemmas.TopicLemmas.{key_place}
 use Rattle.mesh_settled.proofs.gaps.topics.held_at.Goals as goal
@@ -8,6 +7,3 @@ pub returns-in-Some-clause-gap : goal.returns-in-Some-clause-gap
 returns-in-Some-clause-gap g c =
     key_place (seen g.R.RouterView.state c.args.site.now) (g.R.RouterView.state c.args.site.now.router.now) c.args.topic c.args.place c.in-Some.from c.in-Some.net c.gap_at.result
     (sym c.held_ends.ensures ∙ c.in-Some.is) (rw c.next_origin-origin.ensures.addr at c.gap_at.ensures)
-
-pub returns-in-None-clause-gap : goal.returns-in-None-clause-gap
-returns-in-None-clause-gap g c = λ k w. absurd (none-some (w.0, w.1) (sym c.in-None.is ∙ (c.held_ends.ensures ∙ w.2)))

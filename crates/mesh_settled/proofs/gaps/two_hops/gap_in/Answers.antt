@@ -1,17 +1,9 @@
-use Rattle.std.proofs.Common.{map, refl, sym, subst, List}
-use Rattle.std.specs.Prelude.{Contains}
+use Rattle.std.proofs.Common.{map, refl}
 use Rattle.std.proofs.lemmas.Option.{slice_get_read}
-use Rattle.mesh_atoms.specs.declared.graphs.Pair.{Pair}
 use Rattle.mesh_settled.specs.Gaps.TwoHops.{IsKeyOf, IsKeyOfAt}
 use Rattle.mesh_settled.specs.Gaps.Site.{seen}
 use Rattle.mesh_settled.proofs.GapsLemmas.Leasts.{at_place, least_step, least_end}
 use Rattle.mesh_settled.proofs.gaps.two_hops.gap_in.Goals as goal
-use Rattle.mesh_atoms.proofs.Lists.{contains_at}
-
-pub gap_of-requires-clause-pair : goal.gap_of-requires-clause-pair
-gap_of-requires-clause-pair g c =
-    subst (λ (ps : List Pair). Contains ps c.index-pairs-place.result) (sym c.requires.pairs)
-    (contains_at c.args.pairs.now c.loop-place.place c.index-pairs-place.result (slice_get_read c.args.pairs.now _ c.loop-place.place c.index-pairs-place.result refl c.loop-place-test.true c.index-pairs-place.is))
 
 pub loop-place-preserved : goal.loop-place-preserved
 loop-place-preserved g c =

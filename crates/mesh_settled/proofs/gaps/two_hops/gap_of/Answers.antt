@@ -3,7 +3,7 @@ use Rattle.mesh_atoms.specs.declared.settings.RouterSettings.{RouterSettings}
 use Rattle.mesh_atoms.specs.Settled.{IsLeastAddress}
 use Rattle.mesh_settled.specs.Gaps.Joints.{IsLeastOf}
 use Rattle.mesh_settled.specs.Gaps.Site.{seen}
-use Rattle.mesh_settled.proofs.GapsLemmas.JointLemmas.{value_some, value_none, router_found, no_router_found}
+use Rattle.mesh_settled.proofs.GapsLemmas.JointLemmas.{value_some, value_none, router_found}
 use Rattle.mesh_settled.proofs.GapsLemmas.LinkLemmas.{end_is}
 use Rattle.mesh_settled.proofs.GapsLemmas.TwoHopLemmas.{end_by, key_of}
 use Rattle.mesh_settled.proofs.gaps.two_hops.gap_of.Goals as goal
@@ -27,6 +27,3 @@ returns-in-None-least_address g c = λ k w.
     let states = map g.R.RouterView.state c.args.site.now.routers.now in
     absurd (value_none (IsLeastOf states c.args.pair.now.to c.args.pair.now.to_iface) c.least_address.result c.in-None-least_address.is
     (end_is states c.args.pair.now.to c.args.pair.now.to_iface (g.R.RouterView.state c.in-Some.other.now) (router_found g.R.RouterView.state c.router_at.ensures c.in-Some.is) c.settings.result.now c.settings.ensures c.least_address.result c.least_address.ensures) w.1 w.2)
-
-pub returns-in-None : goal.returns-in-None
-returns-in-None g c = λ k w. absurd (no_router_found g.R.RouterView.state c.router_at.ensures c.in-None.is w.2.0 w.2.1)

@@ -1,9 +1,6 @@
-use Rattle.std.proofs.Common.{map, sym}
+use Rattle.std.proofs.Common.{map}
 use Rattle.mesh_settled.proofs.GapsLemmas.TwoHopLemmas.{all_two_hops}
 use Rattle.mesh_settled.proofs.gaps.two_hops.two_hop_gap.Goals as goal
-
-pub gap_in-requires-clause-pairs : goal.gap_in-requires-clause-pairs
-gap_in-requires-clause-pairs g c = sym c.as_slice.ensures
 
 pub returns : goal.returns
 returns g c =
