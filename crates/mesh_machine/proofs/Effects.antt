@@ -1,6 +1,7 @@
 -- What follows of a step for its callers.
-use Rattle.std.proofs.Common.{◌≡◌, ℕ, ◌≤◌, ◌<◌, sym, ap, subst, ◌∙◌, arith, List, [], ◌++◌, length, drop, Result, Ok, Err}
-use Rattle.std.specs.Prelude.{IfOk, OnOk, OnErr, min}
+use Rattle.std.proofs.Common.{◌≡◌, ℕ, ◌≤◌, ◌<◌, sym, ap, ◌∙◌, arith, List, [], ◌++◌, length, drop}
+use Rattle.std.proofs.lemmas.Grind.{common_steps}
+use Rattle.std.specs.Prelude.{min}
 use Rattle.std.proofs.lemmas.List.{append-nil}
 use Rattle.std.proofs.Math.Seq.{drop-append_seam}
 use Rattle.mesh_atoms.specs.State.{State}
@@ -46,8 +47,4 @@ tcs_later old new sent (Tcs_silent late next none number) = next.later
 tcs_later old new sent (Tcs_due late next tells parts cut validity is number sends) = next.later
 
 pub ticks_due : (old : State) (now : ℕ) (sent : List Frame) (new : State) → TicksAt old now sent new → now < due new
-ticks_due old now sent new ticks =
-    let a = hello_later old new ticks.hellos ticks.sends_hellos in
-    let b = tcs_later old new ticks.tcs ticks.sends_tcs in
-    let is = ticks.renews.last in
-    omega (arith, a, b, is)
+ticks_due old now sent new ticks = grind (arith, common_steps, hello_later, tcs_later)

@@ -1,6 +1,7 @@
 -- How many tuples a TC's rows give at most.
-use Rattle.std.proofs.Common.{◌≡◌, ℕ, ◌+◌, ◌≤◌, arith, Bool, true, false, cond, List, [], ◌∷◌, ◌++◌, length, Option, Some, None, refl, sym, ap, ◌∙◌, ◌&&◌, ◌⊎◌, inl, inr, slice_get, zero, suc}
-use Rattle.std.specs.Prelude.{nat_eq, not, is_some, count_by}
+use Rattle.std.proofs.Common.{◌≡◌, ℕ, ◌+◌, ◌≤◌, arith, Bool, true, false, cond, List, [], ◌∷◌, ◌++◌, length, Option, Some, None, refl, sym, ap, ◌&&◌, ◌⊎◌, inl, inr, slice_get, zero, suc}
+use Rattle.std.proofs.lemmas.Grind.{common_steps}
+use Rattle.std.specs.Prelude.{is_some, count_by}
 use Rattle.std.specs.Cmp.{IsEquivalence}
 use Rattle.std.proofs.lemmas.Bool.{ltb-false, and_from as both}
 use Rattle.std.proofs.lemmas.Option.{none-some}
@@ -11,7 +12,7 @@ use Rattle.mesh_atoms.specs.declared.tc.Tc.{Tc}
 use Rattle.mesh_atoms.specs.declared.tc.TcRow.{TcRow}
 use Rattle.mesh_atoms.specs.declared.codes.metric.Metric.{Metric}
 use Rattle.mesh_atoms.specs.declared.tuples.Base.TheVariants.{Advertisers, Routers, Addresses, Networks}
-use Rattle.mesh_atoms.specs.AfterTc.{Becomes, Given, Left, BecomesSet, AfterTc, if_not_dropped, is_overfull, first_overfull, GivesRouter, GivesAddress, GivesNetwork}
+use Rattle.mesh_atoms.specs.AfterTc.{Becomes, Given, Left, BecomesSet, AfterTc, is_overfull, first_overfull, GivesRouter, GivesAddress, GivesNetwork}
 use Rattle.mesh_atoms.specs.Base.{Base, find, addr_eq, router_eq, address_eq, network_eq}
 use Rattle.mesh_atoms.specs.State.{TopologyBase}
 use Rattle.mesh_atoms.proofs.Lookups.{addr_equiv, net_equiv, router_equiv, address_equiv, network_equiv}
@@ -34,11 +35,7 @@ entries test key value (row ∷ rows) = cond (test row) ((key row, (value, 0)) �
 entry_count : {K V : Type 0} (test : TcRow → Bool) (key : TcRow → K) (value : V) (rows : List TcRow) → length (entries test key value rows) ≡ count_by test rows
 unfolding entries
 entry_count test key value [] = refl
-entry_count {K} {V} test key value (row ∷ rows) = by_case (test row) (entries test key value rows) (entry_count test key value rows) ∙ sym (sum_by-cons (λ y. cond (test y) 1 0) row rows)
-  where
-    by_case : (b : Bool) (more : Base K V) → length more ≡ count_by test rows → length (cond b ((key row, (value, 0)) ∷ more) more) ≡ cond b 1 0 + count_by test rows
-    by_case true more h = omega (arith, h)
-    by_case false more h = omega (arith, h)
+entry_count {K} {V} test key value (row ∷ rows) = grind (arith, common_steps, entries, sum_by-cons, entry_count test key value rows)
 
 -- the row's entry is found
 entry_found : {K V : Type 0} (eq : K → K → Bool) → IsEquivalence eq → (test : TcRow → Bool) (key : TcRow → K) (value : V) (rows : List TcRow) (k : ℕ) (row : TcRow) (q : K) →
@@ -61,15 +58,7 @@ entry_found {K} {V} eq laws test key value (first ∷ rows) (suc k) row q at pas
 becomes_was : {K V : Type 0} (tc : Tc) (until : ℕ) (from : K → Addr4) (number : V → ℕ) (G : K → V → Type 0) (key : K) (old new : Option (V × ℕ)) (e : V × ℕ) →
     Becomes tc until from number G key old new → new ≡ Some e → ((value : V) × G key value) ⊎ (old ≡ Some e)
 becomes_was tc until from number G key old new e (Given value given is) at = inl (value, given)
-becomes_was {K} {V} tc until from number G key old new e (Left none is) at = inr (kept old (sym is ∙ at))
-  where
-    dropped : (f : V × ℕ) (b : Bool) → cond b None (Some f) ≡ Some e → Some f ≡ Some e
-    dropped f true h = absurd cc
-    dropped f false h = h
-
-    kept : (o : Option (V × ℕ)) → if_not_dropped tc (from key) number o ≡ Some e → o ≡ Some e
-    kept None h = absurd cc
-    kept (Some f) h = dropped f (addr_eq (from key) tc.originator && (tc.complete && not (nat_eq (number f.0) tc.ansn))) h
+becomes_was {K} {V} tc until from number G key old new e (Left none is) at = grind (arith, common_steps)
 
 -- the rows that pass the test give all that is given, so the set grows by their number at most
 set_within : {K V : Type 0} (eq : K → K → Bool) → IsEquivalence eq → (tc : Tc) (until : ℕ) (from : K → Addr4) (number : V → ℕ) (G : K → V → Type 0) (test : TcRow → Bool) (key : TcRow → K) (old new : Base K V) →

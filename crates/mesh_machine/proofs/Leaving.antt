@@ -1,5 +1,7 @@
 -- Arcs by the interfaces that they leave.
-use Rattle.std.proofs.Common.{◌≡◌, ℕ, ◌+◌, ◌<◌, List, [], ◌∷◌, ◌++◌, sym, ◌∙◌, ap, subst, length, get_or, drop, Bool, true, false, append_assoc, append-nil, add-one, suc, drop-cons}
+use Rattle.std.proofs.Common.{arith}
+use Rattle.std.proofs.lemmas.Grind.{common_steps}
+use Rattle.std.proofs.Common.{◌≡◌, ℕ, ◌+◌, ◌<◌, List, [], ◌∷◌, ◌++◌, ◌∙◌, ap, length, get_or, drop, Bool, true, false, append_assoc, append-nil, add-one, drop-cons}
 use Rattle.std.specs.Prelude.{cond}
 use Rattle.std.specs.List.{filter, enumerate_from}
 use Rattle.mesh_atoms.specs.declared.settings.RadioArc.{RadioArc}
@@ -15,7 +17,4 @@ item_more false e old new rest whole p h = rw p (ap (λ l. l ++ rest) (append-ni
 
 pub leaving_more : (x i k : ℕ) (arcs : List RadioArc) (a : RadioArc) (old new whole : List (ℕ × RadioArc)) → k < length arcs → a ≡ get_or arcs k a →
     new ≡ old ++ cond (leaves x i a) ((k, a) ∷ []) [] → old ++ leaving_from arcs x i k ≡ whole → new ++ leaving_from arcs x i (k + 1) ≡ whole
-leaving_more x i k arcs a old new whole lt is p h =
-    let front : drop k arcs ≡ a ∷ drop (k + 1) arcs = drop-cons arcs k a lt ∙ ap (λ (b : RadioArc). b ∷ drop (suc k) arcs) (sym is) ∙ ap (λ (n : ℕ). a ∷ drop n arcs) (sym (add-one k)) in
-    item_more (leaves x i a) (k, a) old new (leaving_from arcs x i (k + 1)) whole p
-    (subst (λ (l : List RadioArc). old ++ filter (λ a. leaves x i a.1) (enumerate_from k l) ≡ whole) front h)
+leaving_more x i k arcs a old new whole lt is p h = grind (arith, common_steps, drop-cons, add-one, item_more)

@@ -1,5 +1,6 @@
 -- Arcs by the interfaces that they leave.
-use Rattle.std.proofs.Common.{◌≡◌, ℕ, ◌+◌, ◌<◌, List, [], ◌∷◌, ◌++◌, sym, ◌∙◌, subst, length, get_or, Some}
+use Rattle.std.proofs.Common.{◌≡◌, ℕ, ◌+◌, ◌<◌, List, [], ◌∷◌, ◌++◌, ◌∙◌, subst, length, get_or, Some, arith}
+use Rattle.std.proofs.lemmas.Grind.{common_steps}
 use Rattle.std.specs.Prelude.{slice_get}
 use Rattle.mesh_atoms.specs.declared.settings.RadioArc.{RadioArc}
 use Rattle.std.proofs.lemmas.Option.{slice_get_read, get_or_from_slice_get}
@@ -27,6 +28,4 @@ all_more arcs routers x router old new list lt is p ways h = rw p (record {
 -- the list at an interface of a router
 pub way_at : (arcs : List RadioArc) (routers : List RouterSettings) (count x i : ℕ) (ways : List (List (List (ℕ × RadioArc)))) (router : RouterSettings) (list : List (List (ℕ × RadioArc))) (way : List (ℕ × RadioArc)) →
     AreArcsOut arcs routers count ways → slice_get routers x ≡ Some router → x < count → list ≡ get_or ways x list → i < length router.interfaces → way ≡ get_or list i way → way ≡ leaving arcs x i
-way_at arcs routers count x i ways router list way h at lt is below there =
-    let of = h.leave x list (slice_get_read ways count x list (sym h.count_is) lt is) router at in
-    of.leave i way (slice_get_read list (length router.interfaces) i way (sym of.count) below there)
+way_at arcs routers count x i ways router list way h at lt is below there = grind (arith, common_steps, slice_get_read)

@@ -1,5 +1,6 @@
 -- The opening state of a router is sound.
 use Rattle.std.proofs.Common.{◌≡◌, ℕ, zero, suc, refl, sym, ◌∙◌, ap, subst, arith, List, [], ◌∷◌, length, replicate, Contains, Some, Bool}
+use Rattle.std.proofs.lemmas.Grind.{common_steps}
 use Rattle.std.specs.Prelude.{slice_get}
 use Rattle.std.specs.List.{IsDistinct}
 use Rattle.std.proofs.lemmas.List.{length-replicate}
@@ -8,12 +9,11 @@ use Rattle.mesh_atoms.specs.declared.addr.Addr4.{Addr4}
 use Rattle.mesh_atoms.specs.declared.addr.NetAddr.{NetAddr}
 use Rattle.mesh_atoms.specs.declared.settings.RouterSettings.{RouterSettings}
 use Rattle.mesh_atoms.specs.declared.tuples.Neighbour.{Neighbour}
-use Rattle.mesh_atoms.specs.declared.tuples.Relays.{Relays}
 use Rattle.mesh_atoms.specs.Base.{Base, Has, base_of, host}
 use Rattle.mesh_atoms.specs.RelayGraphs.{AreRelays, AreRelaysOf, IsFloodingGraph, IsRoutingGraph}
 use Rattle.mesh_atoms.specs.Routes.{AreRoutes, RouteArc, To_neighbour, To_two_hop, By_router, By_address, By_network}
 use Rattle.mesh_atoms.specs.Sound.{Sound, SoundNeighbourhood, SoundTopology, SoundNoted, IsWithin}
-use Rattle.mesh_atoms.specs.State.{State, Bases, TopologyBase, NotedMessages}
+use Rattle.mesh_atoms.specs.State.{State, Bases}
 use Rattle.mesh_atoms.specs.Walk.{Walk, Stay, Onward}
 use Rattle.mesh_nhdp.specs.NhdpState.{empty_near}
 use Rattle.mesh_nhdp.proofs.Empty.{empty_parts, empty_base}
@@ -46,11 +46,7 @@ all_empty {K} {V} (set ∷ sets) (suc n) count none =
 
 within_none : {K V : Type 0} (eq : K → K → Bool) (now most : ℕ) (base : Base K V) → base ≡ [] → IsWithin eq now most base
 unfolding IsDistinct
-within_none {K} {V} eq now most base empty = subst (λ (b : Base K V). IsWithin eq now most b) (sym empty) (record {
-  distinct = tt;
-  limit = omega arith;
-  fresh = λ key v until at. absurd (none-some (v, until) at);
-})
+within_none {K} {V} eq now most base empty = grind (arith, common_steps, none-some)
 
 module _ (s : State) (n : ℕ) (bases : s.bases ≡ no_bases n) where
   no_neighbour : {B : Type 0} (o : Addr4) (m : Neighbour) → Has s.bases.neighbourhood.neighbours o m → B
@@ -84,38 +80,16 @@ module _ (s : State) (n : ℕ) (bases : s.bases ≡ no_bases n) where
       )
 
   empty_flooding : (now i : ℕ) → IsFloodingGraph s now i (record { near = []; direct = []; far = [] })
-  empty_flooding now i = record {
-    near = λ e. (λ has. none_among [] e refl has, λ given. no_neighbour e.id given.0 given.2.0);
-    direct = λ e. (λ has. none_among [] e refl has, λ given. no_neighbour given.0 given.1 given.3.0.0);
-    far = λ e. (λ has. none_among [] e refl has, λ given. no_neighbour e.via given.2 given.6.0.0);
-  }
+  empty_flooding now i = grind (arith, common_steps, none_among, no_neighbour)
 
   empty_routing : IsRoutingGraph s (record { near = []; direct = []; far = [] })
-  empty_routing = record {
-    near = λ e. (λ has. none_among [] e refl has, λ given. no_neighbour e.id given.0 given.2.0);
-    direct = λ e. (λ has. none_among [] e refl has, λ given. no_neighbour given.0 given.1 given.3.0.0);
-    far = λ e. (λ has. none_among [] e refl has, λ given. no_neighbour e.via given.3 given.7.0.0);
-  }
+  empty_routing = grind (arith, common_steps, none_among, no_neighbour)
 
   none_of : AreRelaysOf (record { near = []; direct = []; far = [] }) []
-  none_of = record {
-    covers = record {
-      always = λ e has will. none_among [] e refl has;
-      willing = λ id has. none_among [] id refl has;
-      as_cheap = λ f c has offers. none_among [] f refl has;
-    };
-    needed = record { missed = λ e has chosen willing below. none_among [] e refl has };
-    ascending = λ i j d below within. absurd (omega (arith, below, within));
-  }
+  none_of = grind (arith, common_steps, none_among)
 
   no_relays_needed : (now : ℕ) → s.relays ≡ no_relays n → n ≡ length s.settings.interfaces → AreRelays s now
-  no_relays_needed now none count = record {
-    interfaces = ap (λ (r : Relays). length r.flooding) none ∙ (length-replicate n [] ∙ count);
-    flooding = λ i relays at.
-        let same : relays ≡ [] = in_replicate n i [] relays (subst (λ (r : Relays). slice_get r.flooding i ≡ Some relays) none at) in
-        (record { near = []; direct = []; far = [] }, empty_flooding now i, subst (λ (r : List Addr4). AreRelaysOf (record { near = []; direct = []; far = [] }) r) (sym same) none_of);
-    routing = (record { near = []; direct = []; far = [] }, empty_routing, subst (λ (r : Relays). AreRelaysOf (record { near = []; direct = []; far = [] }) r.routing) (sym none) none_of);
-  }
+  no_relays_needed now none count = grind (arith, common_steps, length-replicate, in_replicate, empty_flooding, none_of, empty_routing)
 
 -- a router before its first event is sound
 pub opening_sound : (settings : RouterSettings) (s : State) → IsOpening settings s → Sound s
@@ -151,19 +125,7 @@ opening_sound settings s is =
 pub empties : (n : ℕ) (bases : Bases) → bases.neighbourhood ≡ empty_near n →
     bases.topology.advertisers ≡ [] → bases.topology.routers ≡ [] → bases.topology.addresses ≡ [] → bases.topology.networks ≡ [] →
     length bases.noted.received ≡ n → ((i : ℕ) → base_of bases.noted.received i ≡ []) → bases.noted.processed ≡ [] → bases.noted.forwarded ≡ [] → bases ≡ no_bases n
-empties n bases near advertisers routers addresses networks counts received processed forwarded =
-    let topology : bases.topology ≡ (no_bases n).topology =
-    ap (λ x. let t : TopologyBase = record bases.topology { advertisers = x } in t) advertisers
-    ∙ ap (λ x. let t : TopologyBase = record bases.topology { advertisers = []; routers = x } in t) routers
-    ∙ ap (λ x. let t : TopologyBase = record bases.topology { advertisers = []; routers = []; addresses = x } in t) addresses
-    ∙ ap (λ x. let t : TopologyBase = record { advertisers = []; routers = []; addresses = []; networks = x } in t) networks in
-    let noted : bases.noted ≡ (no_bases n).noted =
-    ap (λ x. let t : NotedMessages = record bases.noted { received = x } in t) (all_empty bases.noted.received n counts received)
-    ∙ ap (λ x. let t : NotedMessages = record bases.noted { received = replicate n []; processed = x } in t) processed
-    ∙ ap (λ x. let t : NotedMessages = record { received = replicate n []; processed = []; forwarded = x } in t) forwarded in
-    ap (λ x. let b : Bases = record bases { neighbourhood = x } in b) near
-    ∙ ap (λ x. let b : Bases = record bases { neighbourhood = empty_near n; topology = x } in b) topology
-    ∙ ap (λ x. let b : Bases = record { neighbourhood = empty_near n; topology = (no_bases n).topology; noted = x } in b) noted
+empties n bases near advertisers routers addresses networks counts received processed forwarded = grind (arith, common_steps, all_empty)
 
 -- and so is every router after it
 steps_sound : (old : State) (events : List Event) (sent : List (List Frame)) (new : State) → Sound old → Steps old events sent new → Sound new

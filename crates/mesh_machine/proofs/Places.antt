@@ -1,5 +1,6 @@
 -- Places of a list that grows at its end, of which one item is replaced, or whose items are turned.
-use Rattle.std.proofs.Common.{◌≡◌, ℕ, ◌≤◌, ◌⊎◌, inl, inr, List, [], ◌∷◌, ◌++◌, refl, sym, ◌∙◌, ap, zero, suc, length, arith, Some, None, All, map}
+use Rattle.std.proofs.Common.{◌≡◌, ℕ, ◌≤◌, ◌⊎◌, inl, inr, List, [], ◌∷◌, ◌++◌, refl, ap, zero, suc, length, arith, Some, None, All, map}
+use Rattle.std.proofs.lemmas.Grind.{common_steps}
 use Rattle.std.specs.Prelude.{slice_get, slice_set, ◌≢◌}
 use Rattle.std.proofs.lemmas.List.Elements.{All-nil, All-cons, All-head, All-tail}
 use Rattle.std.proofs.lemmas.Option.{slice_get_cases}
@@ -16,10 +17,7 @@ each_more P xs x h p i y at = elim (push_at xs x i y at) [
 
 -- nothing stands from the length on
 pub none_past : {A : Type 0} (xs : List A) (i : ℕ) → slice_get xs i ≡ None → length xs ≤ i
-none_past xs i h = elim (slice_get_cases xs i).1 [
-  | inl (x, lt, e, g) ↦ absurd (let no : None ≡ Some x = sym h ∙ e in cc)
-  | inr (le, e) ↦ le
-]
+none_past xs i h = grind (arith, common_steps, slice_get_cases)
 
 -- One item is replaced
 
@@ -29,10 +27,7 @@ set_at [] i x j y h = absurd (cc)
 set_at (z ∷ xs) zero x zero y h = inl (refl, cc)
 set_at (z ∷ xs) zero x (suc j) y h = inr ((λ e. omega (arith, e)), h)
 set_at (z ∷ xs) (suc i) x zero y h = inr ((λ e. omega (arith, e)), h)
-set_at (z ∷ xs) (suc i) x (suc j) y h = elim (set_at xs i x j y h) [
-  | inl (a, b) ↦ inl (ap suc a, b)
-  | inr (a, b) ↦ inr ((λ e. a (omega (arith, e))), b)
-]
+set_at (z ∷ xs) (suc i) x (suc j) y h = grind (arith, common_steps, set_at xs i x j y h)
 
 -- the others stay
 pub set_there : {A : Type 0} (xs : List A) (i : ℕ) (x : A) (j : ℕ) (y : A) → j ≢ i → slice_get xs j ≡ Some y → slice_get (slice_set xs i x) j ≡ Some y

@@ -1,5 +1,6 @@
 -- What the HELLO of an interface says of an address follows from the link and the neighbour that have it.
-use Rattle.std.proofs.Common.{◌≡◌, ℕ, ◌⊎◌, inl, inr, refl, sym, ◌∙◌, ap, subst, Bool, true, false, cond, ◌||◌, ◌&&◌}
+use Rattle.std.proofs.Common.{◌≡◌, ℕ, ◌⊎◌, inl, inr, refl, sym, ◌∙◌, ap, subst, Bool, true, false, cond, ◌||◌, ◌&&◌, arith}
+use Rattle.std.proofs.lemmas.Grind.{common_steps}
 use Rattle.std.specs.Prelude.{◌↔◌, Contains, List, Option, Some, None, IsTrue, is_some, not, nat_lt}
 use Rattle.std.proofs.lemmas.Option.{none-some}
 use Rattle.mesh_atoms.specs.declared.addr.Addr4.{Addr4}
@@ -77,17 +78,11 @@ either_shows false false p q = (λ h. absurd cc, λ w. elim w [ inl l ↦ p.1 l 
 said_is : (near link : Metric → Type 0) → ((m n : Metric) → near m → near n → m ≡ n) → ((m n : Metric) → link m → link n → m ≡ n) → (a b : Option Metric) →
     IsValue near a → IsValue link b → (m : Option Metric) → IsSaid near link m ↔ (m ≡ or_else a b)
 said_is near link one_near one_link (Some n) b v w None = (λ h. absurd (h.0 n v), λ e. absurd (none-some n e))
-said_is near link one_near one_link (Some n) b v w (Some m) = (
-  λ h. elim h [ inl x ↦ ap (λ (k : Metric). Some k) (one_near m n x v) | inr x ↦ absurd (x.0 n v) ],
-  λ e. inl (subst near (same_some e refl) v),
-)
+said_is near link one_near one_link (Some n) b v w (Some m) = grind (arith, common_steps, same_some)
 said_is near link one_near one_link None None v w None = (λ h. refl, λ e. (v, w))
 said_is near link one_near one_link None None v w (Some m) = (λ h. elim h [ inl x ↦ absurd (v m x) | inr x ↦ absurd (w m x.1) ], λ e. absurd (none-some m (sym e)))
 said_is near link one_near one_link None (Some n) v w None = (λ h. absurd (h.1 n w), λ e. absurd (none-some n e))
-said_is near link one_near one_link None (Some n) v w (Some m) = (
-  λ h. elim h [ inl x ↦ absurd (v m x) | inr x ↦ ap (λ (k : Metric). Some k) (one_link m n x.1 w) ],
-  λ e. inr (v, subst link (same_some e refl) w),
-)
+said_is near link one_near one_link None (Some n) v w (Some m) = grind (arith, common_steps, same_some)
 
 module _ (s : State) (settings : RouterSettings) (i now : ℕ) (a : Addr4) (sound : SoundNeighbourhood settings now s.bases.neighbourhood) where
   -- The link of the interface that has the address

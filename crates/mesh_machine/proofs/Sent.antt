@@ -1,5 +1,6 @@
 -- What holds of the frames in the air of an emulated network, when one is heard and when some are sent.
 use Rattle.std.proofs.Common.{ℕ, ◌+◌, ◌<◌, ◌≤◌, List, [], ◌∷◌, ◌++◌, sym, subst, length, arith, All}
+use Rattle.std.proofs.lemmas.Grind.{common_steps}
 use Rattle.std.specs.List.{enumerate_from}
 use Rattle.std.proofs.lemmas.List.Elements.{All-nil, All-cons, All-head, All-tail, All-weaker, All-append, All-push, All-filter}
 use Rattle.mesh_atoms.specs.declared.settings.RadioArc.{RadioArc}
@@ -21,9 +22,7 @@ first_and_others P air d others first h =
     (All-head P d first.behind parts.1, subst (All P) (sym first.left) (All-append P first.before first.behind parts.0 (All-tail P d first.behind parts.1)))
 
 pub others_later : (air : List Delivery) (d : Delivery) (others : List Delivery) → IsHeardFirst air d others → All (λ e. d.moment ≤ e.moment) others
-others_later air d others first =
-    subst (All (λ (e : Delivery). d.moment ≤ e.moment)) (sym first.left)
-    (All-append (λ e. d.moment ≤ e.moment) first.before first.behind (All-weaker (λ (e : Delivery). d.moment < e.moment) (λ (e : Delivery). d.moment ≤ e.moment) (λ e lt. omega (arith, lt)) first.before first.later) first.no_earlier)
+others_later air d others first = grind (arith, common_steps)
 
 -- Frames are sent
 
@@ -52,9 +51,7 @@ sent_all P s now x (e ∷ es) old new each (mid, sends, rest) h =
 
 enumerated : {A : Type 0} (n : ℕ) (xs : List A) → All (λ p. p.0 < n + length xs) (enumerate_from n xs)
 enumerated n [] = All-nil (λ p. p.0 < n + 0)
-enumerated n (x ∷ xs) =
-    All-cons (λ p. p.0 < n + length (x ∷ xs)) (n, x) (enumerate_from (n + 1) xs) (omega arith)
-    (All-weaker (λ p. p.0 < (n + 1) + length xs) (λ p. p.0 < n + length (x ∷ xs)) (λ p lt. omega (arith, lt)) (enumerate_from (n + 1) xs) (enumerated (n + 1) xs))
+enumerated n (x ∷ xs) = grind (arith, common_steps, enumerated (n + 1) xs)
 
 pub numbered : (arcs : List RadioArc) (x i : ℕ) → All (λ a. a.0 < length arcs) (leaving arcs x i)
 numbered arcs x i =

@@ -1,5 +1,6 @@
 -- What a step of a router keeps: expiry and each message leave sound bases sound.
 use Rattle.std.proofs.Common.{◌≡◌, ℕ, ◌≤◌, ◌<◌, arith, Bool, true, false, List, length, Option, Some, None, refl, sym, ap, subst, ◌∙◌}
+use Rattle.std.proofs.lemmas.Grind.{common_steps}
 use Rattle.std.specs.Prelude.{nat_eq, Ok}
 use Rattle.std.proofs.lemmas.Bool.{eqb-true, eqb-false}
 use Rattle.mesh_atoms.specs.declared.addr.Addr4.{Addr4}
@@ -23,8 +24,6 @@ use Rattle.mesh_flood.specs.declared.verdict.Forward.{Forward}
 use Rattle.mesh_flood.specs.Noting.{AfterNote, AreWithin}
 use Rattle.mesh_flood.specs.Verdict.{key_of, process_of, is_received, is_forwarded, is_full}
 use Rattle.mesh_flood.proofs.Soundness.{sound_after_note, sound_after_expiry}
-use Rattle.mesh_atoms.specs.RelayGraphs.{AreRelays}
-use Rattle.mesh_atoms.specs.Routes.{AreRoutes}
 use Rattle.mesh_wire.specs.addr.declared.records.RawAddr.{RawAddr}
 use Rattle.mesh_wire.specs.packet.declared.packet.Span.{Span}
 use Rattle.mesh_wire.specs.packet.Fields.{MessageFields}
@@ -113,9 +112,7 @@ takes_tc_sound settings now tc old new answer lasts other sound (Takes_tc not_ol
 
 -- a message that is processed is of another router
 pub not_own : (own : Addr4) (heading : Heading) (noted : NotedMessages) (a : Addr4) → process_of own heading noted ≡ process.Do → a ≡ heading.originator → a ≡ own → ⊥
-not_own own heading noted a does is mine =
-    let same : addr_eq heading.originator own ≡ true = rw (sym is ∙ mine) (addr_equiv.refl own) in
-    absurd (let h : process_of own heading noted ≡ process.Own = rw same refl in let k : process.Own ≡ process.Do = sym h ∙ does in cc)
+not_own own heading noted a does is mine = grind (arith, common_steps, addr_equiv)
 
 considered_sound : (settings : RouterSettings) (own : Addr4) (arrival : Arrival) (heading : Heading) (octets : List ℕ) (is_done : Bool) (old : Bases) (noted : NotedMessages) (sent : List Frame) (answer : Forward) →
     (is_done ≡ true → process_of own heading old.noted ≡ process.Do) → SoundNoted settings arrival.now old.noted → ConsidersForwarding settings own arrival heading octets is_done old noted sent answer →
@@ -175,18 +172,7 @@ messages_sound settings own arrival bytes old messages spans new sent fates mine
 
 -- an event that renews over sound bases leaves a sound router
 pub renews_sound : (old : State) (now : ℕ) (bases : Bases) (new : State) → SoundBases old.settings now bases → Renews old now bases new → Sound new
-renews_sound old now bases new sound renews =
-    let here : SoundBases new.settings new.last new.bases = subst (λ (r : RouterSettings). SoundBases r new.last new.bases) (sym renews.settings)
-    (subst (λ (n : ℕ). SoundBases old.settings n new.bases) (sym renews.last) (subst (λ (b : Bases). SoundBases old.settings now b) (sym renews.bases_are) sound)) in
-    record {
-      neighbourhood = here.neighbourhood;
-      topology = here.topology;
-      noted = here.noted;
-      relays = subst (λ (n : ℕ). AreRelays new n) (sym renews.last) renews.relays;
-      self = renews.self;
-      routes = subst (λ (n : ℕ). AreRoutes new n renews.self) (sym renews.last) renews.routes;
-      rows = renews.rows;
-    }
+renews_sound old now bases new sound renews = grind (arith, common_steps)
 
 pub bases_of : (s : State) → Sound s → SoundBases s.settings s.last s.bases
 bases_of s sound = record { neighbourhood = sound.neighbourhood; topology = sound.topology; noted = sound.noted }

@@ -1,5 +1,6 @@
 -- How a probe begins: its number, and its first frames.
 use Rattle.std.proofs.Common.{◌≡◌, refl, ℕ, zero, suc, ◌<◌, ◌≤◌, inl, inr, sym, ◌∙◌, ap, subst, arith, List, [], ◌∷◌, length, Some, None, map, get_or}
+use Rattle.std.proofs.lemmas.Grind.{common_steps}
 use Rattle.std.specs.Prelude.{All}
 use Rattle.std.proofs.lemmas.List.Elements.{All-nil, All-cons, All-append}
 use Rattle.std.proofs.lemmas.Option.{slice_get_cases}
@@ -68,10 +69,7 @@ module _ (s : Scenario) (states : List State) (origin : ℕ) (net : AreRoutersAt
   ]
 
   pub can_hear : CanHear s states s.end
-  can_hear = record {
-    routers = net.routers;
-    lasts = λ x p at. (let is = net.moment x p at in omega (arith, is));
-  }
+  can_hear = grind (arith, common_steps)
 
   module _ (p : State) (at : At states origin p) (number : ℕ) (bytes : List ℕ) (frame : IsProbeFrame p number bytes) where
     tc_is : IsTcOf p frame.tc p.settings.times.tc_hop_limit bytes

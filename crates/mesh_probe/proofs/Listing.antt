@@ -1,5 +1,6 @@
 -- The numbers with a property are listed, one after the other.
 use Rattle.std.proofs.Common.{ℕ, ◌+◌, ◌<◌, inl, inr, sym, subst, arith, List, [], ◌∷◌, ◌++◌, Contains, get_or}
+use Rattle.std.proofs.lemmas.Grind.{common_steps}
 use Rattle.std.proofs.lemmas.Bool.{cases_eq}
 use Rattle.std.proofs.lemmas.List.Elements.{Contains-append_left, Contains-push, Contains-push_cases, Contains-get_or}
 use Rattle.std.proofs.lemmas.List.Quantifiers.{all_pairs_push}
@@ -12,10 +13,7 @@ module _ (P : ℕ → Type 0) where
   Below most n = (n < most) × P n
 
   pub none_listed : ListsNumbers (Below 0) []
-  none_listed = record {
-    each = λ n. (λ c. absurd (none_of n c), λ h. absurd (let l = h.0 in omega (arith, l)));
-    ascending = λ i j d l m. absurd (omega (arith, m));
-  }
+  none_listed = grind (arith, common_steps, none_of)
 
   -- the next number has the property
   pub one_listed : (n : ℕ) (list : List ℕ) → P n → ListsNumbers (Below n) list → ListsNumbers (Below (n + 1)) (list ++ (n ∷ []))
@@ -48,7 +46,4 @@ module _ (P : ℕ → Type 0) where
 
   -- none has it from there on
   pub all_listed : (most : ℕ) (list : List ℕ) → ((n : ℕ) → P n → n < most) → ListsNumbers (Below most) list → ListsNumbers P list
-  all_listed most list within l = record {
-    each = λ m. (λ c. ((l.each m).0 c).1, λ h. (l.each m).1 (within m h, h));
-    ascending = l.ascending;
-  }
+  all_listed most list within l = grind (arith, common_steps)

@@ -1,6 +1,7 @@
 -- What is noted of a message, and what is answered to it.
 use Rattle.std.proofs.Common.{◌≡◌, ℕ, ◌+◌, ◌<◌, ◌≤◌, inl, inr, refl, sym, ◌∙◌, ap, subst, arith, List, [], length, Option, Some, None}
-use Rattle.std.specs.Prelude.{Bool, true, false, cond, nat_lt, is_some, if◌then◌else◌}
+use Rattle.std.proofs.lemmas.Grind.{common_steps}
+use Rattle.std.specs.Prelude.{Bool, true, false, cond, nat_lt, is_some}
 use Rattle.std.specs.Map.{keys_of}
 use Rattle.std.proofs.lemmas.Bool.{lt-ltb, cases_eq}
 use Rattle.std.proofs.lemmas.Map.Entries.{length-keys_of}
@@ -16,9 +17,8 @@ use Rattle.mesh_atoms.specs.State.{NotedMessages}
 use Rattle.mesh_flood.specs.declared.verdict.Heading.{Heading}
 use Rattle.mesh_flood.specs.declared.verdict.Forward.{Forward}
 use Rattle.mesh_flood.specs.declared.verdict.Forward.TheVariants as forward
-use Rattle.mesh_atoms.specs.declared.tuples.Base.TheVariants.{Received}
 use Rattle.mesh_flood.specs.Noting.{AfterNote, Notes}
-use Rattle.mesh_flood.specs.Verdict.{key_of, if_noted, is_full, has_no_hops, forward_by, is_received, is_forwarded}
+use Rattle.mesh_flood.specs.Verdict.{key_of, is_full, has_no_hops, forward_by, is_received, is_forwarded}
 use Rattle.mesh_machine.specs.Messages.{forwarding}
 use Rattle.mesh_probe.specs.Laws.{IsUnknown}
 use Rattle.mesh_atoms.proofs.Options.{some_of as some_is}
@@ -37,29 +37,12 @@ never_own own heading link received forwarded a = rw a refl
 
 pub not_twice : (own : Addr4) (heading : Heading) (link : Option Bool) (received forwarded : Base FloodKey Noted) (e : Noted × ℕ) → find flood_eq forwarded (key_of heading) ≡ Some e →
     is_forwarded (forward_by own heading link received forwarded) ≡ false
-not_twice own heading None received forwarded e found = by_own (addr_eq heading.originator own)
-  where
-    by_own : (a : Bool) → is_forwarded (if a then forward.Own else forward.NoSender) ≡ false
-    by_own true = refl
-    by_own false = refl
-not_twice own heading (Some flag) received forwarded e found =
-    rw found (pick (addr_eq heading.originator own) (has_no_hops heading) (find flood_eq received (key_of heading)) (is_full received))
-  where
-    pick : (a b : Bool) (r : Option (Noted × ℕ)) (full : Bool) →
-        is_forwarded (if a then forward.Own else (if b then forward.NoHops else if_noted r (λ until. forward.Seen until) (if full then forward.Full Received else forward.Done e.1))) ≡ false
-    pick true b r full = refl
-    pick false true r full = refl
-    pick false false (Some f) full = refl
-    pick false false None true = refl
-    pick false false None false = refl
+not_twice own heading None received forwarded e found = grind (arith, common_steps)
+not_twice own heading (Some flag) received forwarded e found = grind (arith, common_steps)
 
 pub deaf : (own : Addr4) (heading : Heading) (received forwarded : Base FloodKey Noted) →
     (is_received (forward_by own heading None received forwarded) ≡ false) × (is_forwarded (forward_by own heading None received forwarded) ≡ false)
-deaf own heading received forwarded = by_own (addr_eq heading.originator own)
-  where
-    by_own : (a : Bool) → (is_received (if a then forward.Own else forward.NoSender) ≡ false) × (is_forwarded (if a then forward.Own else forward.NoSender) ≡ false)
-    by_own true = (refl, refl)
-    by_own false = (refl, refl)
+deaf own heading received forwarded = grind (arith, common_steps)
 
 pub sends_nothing : (count : ℕ) (octets : List ℕ) (answer : Forward) → is_forwarded answer ≡ false → forwarding count octets answer ≡ []
 sends_nothing count octets forward.Do e = absurd (let f : true ≡ false = e in cc)
@@ -98,11 +81,7 @@ fewer old new distinct to =
 
 live_was : (now : ℕ) (o : Option (Noted × ℕ)) (e : Noted × ℕ) → if_live now o ≡ Some e → o ≡ Some e
 live_was now None e h = absurd (let f : None ≡ Some e = h in cc)
-live_was now (Some f) e h = by_case (nat_lt now f.1) h
-  where
-    by_case : (b : Bool) → cond b (Some f) None ≡ Some e → Some f ≡ Some e
-    by_case true h = h
-    by_case false h = absurd (let g : None ≡ Some e = h in cc)
+live_was now (Some f) e h = grind (arith, common_steps)
 
 fewer_live : (now : ℕ) (old new : Base FloodKey Noted) → HasDistinctKeys flood_eq new → Expires flood_eq now old new → length new ≤ length old
 fewer_live now old new distinct expires = fewer old new distinct (λ q e found. (e, live_was now (find flood_eq old q) e (sym (expires q) ∙ found)))

@@ -1,5 +1,6 @@
 -- A flood, frame by frame: it comes to an end, and the whole of it is a flood.
 use Rattle.std.proofs.Common.{◌≡◌, ℕ, suc, ◌+◌, ◌*◌, ◌<◌, ◌≤◌, inl, inr, sym, ◌∙◌, ap, subst, arith, List, [], ◌∷◌, ◌++◌, length, Contains, true, false, Some, map, drop, take, append_assoc, nat_eq}
+use Rattle.std.proofs.lemmas.Grind.{common_steps}
 use Rattle.std.specs.Prelude.{All, slice_get}
 use Rattle.std.specs.List.{AllPairs, IsDistinct}
 use Rattle.std.proofs.lemmas.Bool.{cases_Bool}
@@ -34,19 +35,13 @@ abbrev place_of : Transmission → ℕ
 place_of t = t.router * 8 + t.frame.iface
 
 few_faces : (s : Scenario) (t : Transmission) → IsOfInterface s t → (t.router < length s.routers) × (t.frame.iface < 8)
-few_faces s t (r, is, less) =
-    let most = r.sound.interfaces.at_most in
-    let same = length-map r.interfaces (λ i. i.name) in
-    (slice_get_within s.routers t.router r is, omega (arith, less, most, same))
+few_faces s t (r, is, less) = grind (arith, common_steps, length-map, slice_get_within)
 
 place_below : (s : Scenario) (t : Transmission) → IsOfInterface s t → place_of t < length s.routers * 8
 place_below s t of = let (x, i) = few_faces s t of in omega (arith, x, i)
 
 same_place : (s : Scenario) (t u : Transmission) → IsOfInterface s t → IsOfInterface s u → place_of t ≡ place_of u → (t.router ≡ u.router) × (t.frame.iface ≡ u.frame.iface)
-same_place s t u of there e =
-    let (x, i) = few_faces s t of in
-    let (y, j) = few_faces s u there in
-    (omega (arith, i, j, e), omega (arith, i, j, e))
+same_place s t u of there e = grind (arith, common_steps, few_faces)
 
 -- pairs of what is behind the first, and with it
 tail_pairs : (t : Transmission) (ts : List Transmission) → AllPairs AreSentApart (t ∷ ts) → AllPairs AreSentApart ts

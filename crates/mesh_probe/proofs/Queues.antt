@@ -1,5 +1,6 @@
 -- Frames behind one another.
-use Rattle.std.proofs.Common.{◌≡◌, ℕ, ◌+◌, List, [], ◌∷◌, ◌++◌, sym, ◌∙◌, ap, take, append_assoc, add-one, Some}
+use Rattle.std.proofs.Common.{◌≡◌, ℕ, ◌+◌, List, [], ◌∷◌, ◌++◌, sym, ◌∙◌, ap, take, append_assoc, add-one, Some, arith}
+use Rattle.std.proofs.lemmas.Grind.{common_steps}
 use Rattle.std.specs.Prelude.{slice_get}
 use Rattle.std.proofs.Math.Seq.{take-suc}
 use Rattle.std.proofs.lemmas.List.{map-append}
@@ -19,7 +20,4 @@ one_sent w sent frame = sym (map-append (λ (f : Frame). let t : Transmission = 
 -- with the frame at a place, those up to it are put
 pub one_put : (w i : ℕ) (sent : List Frame) (frame : Frame) (before frames : List Transmission) → slice_get sent i ≡ Some frame → frames ≡ before ++ sent_by w (take i sent) →
     frames ++ (record { router = w; frame = frame } ∷ []) ≡ before ++ sent_by w (take (i + 1) sent)
-one_put w i sent frame before frames at is =
-    ap (λ (ts : List Transmission). ts ++ (record { router = w; frame = frame } ∷ [])) is
-    ∙ append_assoc before (sent_by w (take i sent)) (record { router = w; frame = frame } ∷ [])
-    ∙ ap (λ ts. before ++ ts) (one_sent w (take i sent) frame ∙ ap (λ fs. sent_by w fs) (sym (take_more sent i frame at)))
+one_put w i sent frame before frames at is = grind (arith, common_steps, append_assoc, one_sent, take_more)

@@ -1,5 +1,6 @@
 -- In a settled network the flooding relays cover: who hears a router has a relay of it beside each of its own neighbours.
 use Rattle.std.proofs.Common.{◌≡◌, ℕ, zero, suc, ◌+◌, ◌≤◌, ◌<◌, ◌⊎◌, inl, inr, refl, sym, ◌∙◌, ap, subst, arith, List, [], ◌∷◌, Contains, Some, None, Option, slice_get, length}
+use Rattle.std.proofs.lemmas.Grind.{common_steps}
 use Rattle.std.specs.Prelude.{Bool, true}
 use Rattle.std.proofs.lemmas.Option.{slice_get_cases, slice_get_within}
 use Rattle.mesh_atoms.specs.declared.addr.Addr4.{Addr4}
@@ -173,13 +174,7 @@ module _ (s : Scenario) (states : List State) (now : ℕ) (S : IsSettledNetwork 
 
   -- a joined interface has a least address
   faces : (x i w j : ℕ) → AreJoined s x i w j → i < faces_in (slice_get s.routers x)
-  faces x i w j (there, home, joins) =
-      let (p, to) = state_there s states now S (near_by (joined_back (there, home, joins))) in
-      let (q, at) = state_there s states now S (near_by (there, home, joins)) in
-      let (key, link, stands, symmetric, is) = (S.settled w q at).link_to j x i p home there to (joins_back joins) in
-      let (iface, on, _) = is.keyed.0 in
-      let h : Router s x p.settings = S.routers.settings x p to in
-      subst (λ (o : Option RouterSettings). i < faces_in o) (sym h) (slice_get_within p.settings.interfaces i iface on)
+  faces x i w j (there, home, joins) = grind (arith, common_steps, state_there, near_by, joined_back, joins_back, routers, faces_in, slice_get_within)
 
   face_at : {x i w j : ℕ} {p : State} → At states x p → AreJoined s x i w j → i < length p.settings.interfaces
   face_at {x} {i} {w} {j} {p} at link = subst (λ (o : Option RouterSettings). i < faces_in o) (S.routers.settings x p at) (faces x i w j link)

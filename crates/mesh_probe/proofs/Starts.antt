@@ -1,12 +1,12 @@
 -- A flood of a TC begins as the message of a wave.
-use Rattle.std.proofs.Common.{◌≡◌, ℕ, zero, suc, ◌-◌, ◌<◌, refl, sym, ◌∙◌, ap, subst, arith, List, [], ◌∷◌, length, Option, Some, slice_index_or, slice_get}
+use Rattle.std.proofs.Common.{◌≡◌, ℕ, zero, suc, ◌<◌, refl, sym, ◌∙◌, ap, subst, arith, List, length, slice_index_or, slice_get}
+use Rattle.std.proofs.lemmas.Grind.{common_steps}
 use Rattle.std.specs.List.{AllPairs}
 use Rattle.mesh_atoms.specs.declared.settings.Scenario.{Scenario}
 use Rattle.mesh_atoms.specs.declared.tc.Tc.{Tc}
 use Rattle.mesh_atoms.specs.Settled.{At, AreStates}
 use Rattle.mesh_atoms.specs.State.{State}
 use Rattle.mesh_machine.specs.packet.Fields.{MessageFields}
-use Rattle.mesh_wire.specs.Writes.{alone}
 use Rattle.mesh_wire.proofs.EachDistance.{kept_on}
 use Rattle.mesh_paths.specs.SettledRoutes.{IsSettledNetwork}
 use Rattle.mesh_machine.specs.Frames.{on_each}
@@ -19,14 +19,7 @@ use Rattle.mesh_probe.proofs.Simulate.{IsFlooded, Matches, No_frames, A_frame, o
 use Rattle.mesh_probe.proofs.Wave.{Going, IsApart, frames_on}
 
 first_carried : (p : State) (tc : Tc) (limit : ℕ) (bytes : List ℕ) → (is : IsTcOf p tc limit bytes) → Carries (at_hop is.writes.message limit 0) bytes
-first_carried p tc limit bytes is =
-    let m : MessageFields = is.writes.message in
-    let e : limit ≡ limit - 0 = omega arith in
-    let same : m ≡ at_hop m limit 0 =
-    ap (λ (o : Option ℕ). let r : MessageFields = record m { limit = o } in r) (is.writes.limit ∙ ap (λ (n : ℕ). Some n) e)
-    ∙ ap (λ (o : Option ℕ). let r : MessageFields = record m { limit = Some (limit - 0); count = o } in r) is.writes.count in
-    subst (λ (x : MessageFields). Carries x bytes) same
-    (record { packet = alone m; spans = is.writes.packet.span ∷ []; spelled = is.writes.packet.spelled; one = refl })
+first_carried p tc limit bytes is = grind (arith, common_steps, at_hop)
 
 module _ (s : Scenario) (states : List State) (now origin : ℕ) (tc : Tc) (limit : ℕ) (Prem : Type 0) (routers : AreStates s states)
     (settled : Prem → IsSettledNetwork s states now) (unknown : Prem → AreUnknown states tc) (p : State) (at : At states origin p) (bytes : List ℕ)

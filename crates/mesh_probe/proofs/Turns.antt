@@ -1,5 +1,6 @@
 -- The routers at the ends of a frame's arcs hear it, one after the other.
 use Rattle.std.proofs.Common.{◌≡◌, ℕ, ◌+◌, ◌<◌, ◌≤◌, inl, inr, refl, sym, ◌∙◌, ap, subst, arith, List, [], ◌∷◌, ◌++◌, length, Contains, Bool, true, false, Some, map, drop, get_or, append_assoc}
+use Rattle.std.proofs.lemmas.Grind.{common_steps}
 use Rattle.std.specs.Prelude.{All, slice_get, slice_set, cond, option_map}
 use Rattle.std.proofs.lemmas.Bool.{cases_eq}
 use Rattle.std.proofs.lemmas.List.{map-set, length-map, drop_more, drop_all, append-nil}
@@ -25,13 +26,7 @@ use Rattle.mesh_atoms.proofs.Options.{same_some}
 
 -- what is made of a list, where one item is replaced
 pub becomes : {A : Type 0} (state : A → State) (xs : List A) (w : ℕ) (is : A) → w < length xs → BecomesAt (map state xs) w (state is) (map state (slice_set xs w is))
-becomes state xs w is less =
-    let same : map state (slice_set xs w is) ≡ slice_set (map state xs) w (state is) = map-set state xs w is in
-    let count : length (map state xs) ≡ length xs = length-map xs state in
-    record {
-      at = record { is = ap (λ (l : List State). slice_get l w) same ∙ get_set (map state xs) w (state is) (omega (arith, less, count)) };
-      others = λ y other. ap (λ (l : List State). slice_get l y) same ∙ get_unset (map state xs) w y (state is) (λ e. other (sym e));
-    }
+becomes state xs w is less = grind (arith, common_steps, map-set, length-map, get_set, get_unset)
 
 module _ {s : Scenario} {now : ℕ} {old new : List State} {w : ℕ} {q : State} (b : BecomesAt old w q new) where
   pub still_can : (p : State) → At old w p → q.settings ≡ p.settings → q.last ≤ now → CanHear s old now → CanHear s new now
@@ -80,9 +75,7 @@ module _ (s : Scenario) (now : ℕ) (sender : Addr4) (octets : List ℕ) (x i : 
 
   hearers_left : (at : ℕ) (arc : RadioArc) (b : Bool) → arc ≡ get_or s.arcs at arc → at < length s.arcs → is_arc_from arc x i ≡ b →
       hearers_of (drop at s.arcs) x i ≡ cond b ((arc.to, arc.to_iface) ∷ hearers_of (drop (at + 1) s.arcs) x i) (hearers_of (drop (at + 1) s.arcs) x i)
-  hearers_left at arc b is less leads =
-      ap (λ arcs. hearers_of arcs x i) (left at arc is less)
-      ∙ ap (λ (c : Bool). cond c ((arc.to, arc.to_iface) ∷ hearers_of (drop (at + 1) s.arcs) x i) (hearers_of (drop (at + 1) s.arcs) x i)) leads
+  hearers_left at arc b is less leads = grind (arith, common_steps, left)
 
   -- an arc of another interface
   pub passes : (at : ℕ) (arc : RadioArc) (b : Bool) (here : List State) (sent : List Transmission) → arc ≡ get_or s.arcs at arc → at < length s.arcs → b ≡ is_arc_from arc x i → b ≡ false →

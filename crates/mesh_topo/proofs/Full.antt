@@ -1,5 +1,6 @@
 -- The first set that would be too large.
 use Rattle.std.proofs.Common.{◌≡◌, ℕ, ◌+◌, ◌≤◌, arith, Bool, true, false, cond, ◌&&◌, List, [], ◌∷◌, Option, Some, None, refl, sym, ap, ◌∙◌}
+use Rattle.std.proofs.lemmas.Grind.{common_steps}
 use Rattle.std.specs.Prelude.{nat_lt, is_some, count_by, option_map}
 use Rattle.std.proofs.lemmas.Bool.{ltb-false}
 use Rattle.std.proofs.lemmas.List.Sums.{sum_by-cons}
@@ -16,11 +17,7 @@ use Rattle.mesh_topo.specs.TcSets.Tuples.{router_of, address_of, network_of, net
 -- tests that agree count the same
 count_same : {A : Type 0} (p q : A → Bool) → ((x : A) → p x ≡ q x) → (xs : List A) → count_by p xs ≡ count_by q xs
 count_same p q same [] = refl
-count_same p q same (x ∷ xs) =
-    sum_by-cons (λ y. cond (p y) 1 0) x xs
-    ∙ ap (λ (b : Bool). cond b 1 0 + count_by p xs) (same x)
-    ∙ ap (λ (n : ℕ). cond (q x) 1 0 + n) (count_same p q same xs)
-    ∙ sym (sum_by-cons (λ y. cond (q y) 1 0) x xs)
+count_same p q same (x ∷ xs) = grind (arith, common_steps, sum_by-cons, count_same p q same xs)
 
 -- a value that is there by two tests
 some_both : {A B : Type 0} (f : A → B) (b : Bool) (o : Option A) → is_some (cond b (option_map f o) None) ≡ (b && is_some o)

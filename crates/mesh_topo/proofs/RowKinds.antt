@@ -1,5 +1,6 @@
 -- What the rows of a TC give, in the words of the definitions.
-use Rattle.std.proofs.Common.{◌≡◌, ℕ, inl, inr, Bool, true, false, cond, Option, Some, None, Contains, refl, sym, ap, ◌∙◌}
+use Rattle.std.proofs.Common.{◌≡◌, ℕ, inl, inr, Bool, true, false, cond, Option, Some, None, Contains, refl, sym, ap, ◌∙◌, arith}
+use Rattle.std.proofs.lemmas.Grind.{common_steps}
 use Rattle.std.specs.Prelude.{option_map, IsTrue}
 use Rattle.mesh_atoms.specs.declared.addr.Addr4.{Addr4}
 use Rattle.mesh_atoms.specs.declared.addr.NetAddr.{NetAddr}
@@ -75,15 +76,7 @@ address_set tc until old new hosts set = set_by address_eq tc until _ _ _ _ old 
 -- a network tuple by its parts
 network_parts : (from : Addr4) (ansn : ℕ) (net : NetAddr) (d : Option ℕ) (m : Option Metric) (k : NetworkKey) (t : NetworkTuple) → network_with from ansn net d m ≡ Some (k, t) →
     (k.from ≡ from) × (net ≡ k.net) × (d ≡ Some t.distance) × (m ≡ Some t.metric) × (t.ansn ≡ ansn)
-network_parts from ansn net (Some d) (Some m) k t e =
-    let pair : Some (record { from = from; net = net }, record { ansn = ansn; distance = d; metric = m }) ≡ Some (k, t) = e in
-    let same : (record { from = from; net = net }, record { ansn = ansn; distance = d; metric = m }) ≡ (k, t) = cc in (
-      sym (ap (λ (p : NetworkKey × NetworkTuple). p.0.from) same),
-      ap (λ (p : NetworkKey × NetworkTuple). p.0.net) same,
-      ap (λ (p : NetworkKey × NetworkTuple). Some p.1.distance) same,
-      ap (λ (p : NetworkKey × NetworkTuple). Some p.1.metric) same,
-      sym (ap (λ (p : NetworkKey × NetworkTuple). p.1.ansn) same),
-    )
+network_parts from ansn net (Some d) (Some m) k t e = grind (arith, common_steps)
 network_parts from ansn net (Some d) None k t e = absurd cc
 network_parts from ansn net None m k t e = absurd cc
 

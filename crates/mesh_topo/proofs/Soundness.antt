@@ -1,6 +1,7 @@
 -- What expiry and TCs keep of a topology.
-use Rattle.std.proofs.Common.{◌≡◌, ℕ, ◌+◌, ◌<◌, ◌⊎◌, inl, inr, Bool, true, false, cond, not, ◌&&◌, [], Option, Some, None, Result, Ok, Err, refl, sym, ap, subst, ◌∙◌, arith}
-use Rattle.std.specs.Prelude.{nat_lt, nat_eq, IfOk, OnOk}
+use Rattle.std.proofs.Common.{◌≡◌, ℕ, ◌+◌, ◌<◌, ◌⊎◌, inl, inr, Bool, true, false, cond, [], Option, Some, None, Result, Ok, Err, refl, sym, ap, subst, ◌∙◌, arith}
+use Rattle.std.proofs.lemmas.Grind.{common_steps}
+use Rattle.std.specs.Prelude.{nat_lt, IfOk, OnOk}
 use Rattle.std.specs.declared.alloc.AllocError.{AllocError}
 use Rattle.std.proofs.lemmas.Bool.{lt-ltb}
 use Rattle.mesh_atoms.specs.declared.addr.Addr4.{Addr4}
@@ -23,10 +24,7 @@ use Rattle.mesh_atoms.proofs.Lookups.{same_addr}
 -- what is left was there, and isn't expired
 live_from : {V : Type 0} (now : ℕ) (o : Option (V × ℕ)) (value : V) (until : ℕ) → if_live now o ≡ Some (value, until) → nat_lt now until ≡ true
 live_from now None value until e = absurd cc
-live_from now (Some x) value until e = by_case (nat_lt now x.1) refl e where
-  by_case : (b : Bool) → nat_lt now x.1 ≡ b → cond b (Some x) None ≡ Some (value, until) → nat_lt now until ≡ true
-  by_case false is e = absurd cc
-  by_case true is e = let same : x ≡ (value, until) = cc in ap (λ (y : _ × ℕ). nat_lt now y.1) (sym same) ∙ is
+live_from now (Some x) value until e = grind (arith, common_steps)
 
 pub expired_fresh : {K V : Type 0} (eq : K → K → Bool) (now : ℕ) (old new : Base K V) → Expires eq now old new → IsFresh eq now new
 expired_fresh eq now old new expires q value until e = live_from now (find eq old q) value until (sym (expires q) ∙ e)
@@ -35,30 +33,13 @@ none_left : {K V : Type 0} (eq : K → K → Bool) (now : ℕ) (old new : Base K
 none_left eq now old new q expires none = expires q ∙ ap (if_live now) none
 
 pub live_fresh : (now : ℕ) (old new : TopologyBase) → LiveTopology now old new → AreFresh now new
-live_fresh now old new live = record {
-  advertisers = expired_fresh addr_eq now old.advertisers new.advertisers live.advertisers;
-  routers = expired_fresh router_eq now old.routers new.routers live.routers;
-  addresses = expired_fresh address_eq now old.addresses new.addresses live.addresses;
-  networks = expired_fresh network_eq now old.networks new.networks live.networks;
-}
+live_fresh now old new live = grind (arith, common_steps, expired_fresh)
 
 few_of : (settings : RouterSettings) (now : ℕ) (topology : TopologyBase) → SoundTopology settings now topology → AreFew topology
 few_of settings now topology sound = record { advertisers = sound.advertisers.limit; routers = sound.routers.limit; addresses = sound.addresses.limit; networks = sound.networks.limit }
 
 pub live_sound : (now : ℕ) (old new : TopologyBase) → LiveTopology now old new → (AreFew old → AreFew new) → (settings : RouterSettings) (before : ℕ) → SoundTopology settings before old → SoundTopology settings now new
-live_sound now old new live within settings before sound =
-    let few : AreFew new = within (few_of settings before old sound) in
-    let fresh : AreFresh now new = live_fresh now old new live in
-    record {
-      advertisers = record { distinct = live.distinct_advertisers; limit = few.advertisers; fresh = fresh.advertisers };
-      routers = record { distinct = live.distinct_routers; limit = few.routers; fresh = fresh.routers };
-      addresses = record { distinct = live.distinct_addresses; limit = few.addresses; fresh = fresh.addresses };
-      networks = record { distinct = live.distinct_networks; limit = few.networks; fresh = fresh.networks };
-      not_my_advertiser = λ o mine. none_left addr_eq now old.advertisers new.advertisers o live.advertisers (sound.not_my_advertiser o mine);
-      not_my_router = λ key mine. none_left router_eq now old.routers new.routers key live.routers (sound.not_my_router key mine);
-      not_my_address = λ key mine. none_left address_eq now old.addresses new.addresses key live.addresses (sound.not_my_address key mine);
-      not_my_network = λ key mine. none_left network_eq now old.networks new.networks key live.networks (sound.not_my_network key mine);
-    }
+live_sound now old new live within settings before sound = grind (arith, common_steps, few_of, live_fresh, none_left)
 
 -- ---- no tuples
 
@@ -85,22 +66,14 @@ none_sound topology a r d n settings now = record {
 
 kept_was : {V : Type 0} (tc : Tc) (from : Addr4) (number : V → ℕ) (o : Option (V × ℕ)) (e : V × ℕ) → if_not_dropped tc from number o ≡ Some e → o ≡ Some e
 kept_was tc from number None e h = absurd cc
-kept_was tc from number (Some f) e h = by_case (addr_eq from tc.originator && (tc.complete && not (nat_eq (number f.0) tc.ansn))) h where
-  by_case : (b : Bool) → cond b None (Some f) ≡ Some e → Some f ≡ Some e
-  by_case true h = absurd cc
-  by_case false h = h
+kept_was tc from number (Some f) e h = grind (arith, common_steps)
 
 above : (n v : ℕ) → 0 < v → n < n + v
 above n v lasts = omega arith
 
 -- a moment that a TC sets is later than now
 later : {V : Type 0} (tc : Tc) (now : ℕ) (given value : V) (until : ℕ) (new : Option (V × ℕ)) → 0 < tc.validity → new ≡ Some (given, now + tc.validity) → new ≡ Some (value, until) → nat_lt now until ≡ true
-later {V} tc now given value until new lasts is e =
-    let both : Some (given, now + tc.validity) ≡ Some (value, until) = sym is ∙ e in
-    let pair : (given, now + tc.validity) ≡ (value, until) = cc in
-    let same : now + tc.validity ≡ until = ap (λ (x : V × ℕ). x.1) pair in
-    let after : now < until = subst (λ (n : ℕ). now < n) same (above now tc.validity lasts) in
-    lt-ltb now until after
+later {V} tc now given value until new lasts is e = grind (arith, common_steps, above, lt-ltb)
 
 becomes_fresh : {K V : Type 0} (tc : Tc) (now : ℕ) (from : K → Addr4) (number : V → ℕ) (G : K → V → Type 0) (key : K) (old new : Option (V × ℕ)) (value : V) (until : ℕ) → 0 < tc.validity →
     Becomes tc (now + tc.validity) from number G key old new → (old ≡ Some (value, until) → nat_lt now until ≡ true) → new ≡ Some (value, until) → nat_lt now until ≡ true
@@ -117,18 +90,10 @@ set_fresh : {K V : Type 0} (eq : K → K → Bool) (tc : Tc) (now : ℕ) (from :
 set_fresh eq tc now from number G old new lasts set fresh q value until e = becomes_fresh tc now from number G q (find eq old q) (find eq new q) value until lasts (set.at q) (fresh q value until) e
 
 advertisers_fresh : (tc : Tc) (now : ℕ) (old new : Base Addr4 Advertiser) → 0 < tc.validity → SetsOnly addr_eq old new tc.originator (Some (record { ansn = tc.ansn }, now + tc.validity)) → IsFresh addr_eq now old → IsFresh addr_eq now new
-advertisers_fresh tc now old new lasts sets fresh q value until e = by_case (addr_eq tc.originator q) (sym (sets q) ∙ e) where
-  by_case : (b : Bool) → cond b (Some (record { ansn = tc.ansn }, now + tc.validity)) (find addr_eq old q) ≡ Some (value, until) → nat_lt now until ≡ true
-  by_case true is = later tc now (record { ansn = tc.ansn }) value until (Some (record { ansn = tc.ansn }, now + tc.validity)) lasts refl is
-  by_case false is = fresh q value until is
+advertisers_fresh tc now old new lasts sets fresh q value until e = grind (arith, common_steps, later)
 
 after_fresh : (now : ℕ) (tc : Tc) (old new : TopologyBase) → 0 < tc.validity → AfterTc now tc old new → AreFresh now old → AreFresh now new
-after_fresh now tc old new lasts after fresh = record {
-  advertisers = advertisers_fresh tc now old.advertisers new.advertisers lasts after.advertisers fresh.advertisers;
-  routers = set_fresh router_eq tc now _ _ _ old.routers new.routers lasts after.routers fresh.routers;
-  addresses = set_fresh address_eq tc now _ _ _ old.addresses new.addresses lasts after.addresses fresh.addresses;
-  networks = set_fresh network_eq tc now _ _ _ old.networks new.networks lasts after.networks fresh.networks;
-}
+after_fresh now tc old new lasts after fresh = grind (arith, common_steps, advertisers_fresh, set_fresh)
 
 after_sound : (settings : RouterSettings) (now : ℕ) (tc : Tc) (old new : TopologyBase) → 0 < tc.validity → (IsOriginator settings tc.originator → ⊥) → AreFew new → AfterTc now tc old new → SoundTopology settings now old → SoundTopology settings now new
 after_sound settings now tc old new lasts other few after sound =
@@ -158,10 +123,7 @@ taken_cases now tc old new answer (Overfull kind not_old first) = inl refl
 taken_cases now tc old new answer (Takes not_old none after) = inr after
 
 pub tc_fresh : (now : ℕ) (tc : Tc) (old new : TopologyBase) (r : Result (TcTaken × Bool) AllocError) → IfOk r (λ told. TakesTc now tc old new (answer_of told.0)) → OnOk r (0 < tc.validity → AreFresh now old → AreFresh now new)
-tc_fresh now tc old new (Ok told) takes = λ lasts fresh. elim (taken_cases now tc old new (answer_of told.0) takes) [
-  | inl same ↦ subst (AreFresh now) (sym same) fresh
-  | inr after ↦ after_fresh now tc old new lasts after fresh
-]
+tc_fresh now tc old new (Ok told) takes = grind (arith, common_steps, taken_cases, after_fresh)
 tc_fresh now tc old new (Err e) takes = tt
 
 pub tc_sound : (now : ℕ) (tc : Tc) (old new : TopologyBase) (r : Result (TcTaken × Bool) AllocError) → IfOk r (λ told. TakesTc now tc old new (answer_of told.0)) → OnOk r (AreFew old → AreFew new) →

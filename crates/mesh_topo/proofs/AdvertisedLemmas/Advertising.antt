@@ -1,5 +1,6 @@
 -- The rows of what is offered are the rows that a router advertises.
-use Rattle.std.proofs.Common.{◌≡◌, ℕ, ◌≤◌, not, ◌⊎◌, ◌↔◌, inl, inr, Bool, true, false, cond, List, [], ◌∷◌, map, Option, Some, None, refl, sym, ap, subst, ◌∙◌, arith}
+use Rattle.std.proofs.Common.{◌≡◌, ◌≤◌, not, ◌⊎◌, ◌↔◌, inl, inr, Bool, true, false, cond, List, [], ◌∷◌, map, Option, Some, None, refl, sym, ap, subst, ◌∙◌, arith}
+use Rattle.std.proofs.lemmas.Grind.{common_steps}
 use Rattle.std.specs.Prelude.{Contains, IsTrue, flat_map, is_none}
 use Rattle.std.specs.List.{list_any}
 use Rattle.std.specs.Ordering.{is_eq}
@@ -20,7 +21,7 @@ use Rattle.mesh_atoms.proofs.CodesLemmas.CodeLaws.{cost-injective}
 use Rattle.mesh_topo.specs.declared.advertised.rows.Offer.{Offer}
 use Rattle.mesh_topo.specs.declared.advertised.rows.Selector.{Selector}
 use Rattle.mesh_atoms.specs.Nodes.{net_cmp}
-use Rattle.mesh_topo.specs.Advertised.Offers.{put_offer, offered, of_address, of_selector, of_network, row_of}
+use Rattle.mesh_topo.specs.Advertised.Offers.{offered, of_address, of_selector, of_network, row_of}
 use Rattle.mesh_topo.specs.Advertised.Selectors.{AreSelectors, SelectorGives}
 use Rattle.mesh_topo.proofs.AdvertisedLemmas.Best.{Best, SumsUp, sums_as, sums_all}
 use Rattle.mesh_atoms.proofs.NetOrder.{net_total, net_exact, same_at, at_same}
@@ -89,10 +90,7 @@ selector_of selectors a o m g = (g.selector, g.stands, g.originator, g.metric, e
 -- networks give way to what is there
 gives_way : (net : NetAddr) (attached : List Attached4) (o : Offer) → offered net (map of_network attached) (Some o) ≡ Some o
 gives_way net [] o = refl
-gives_way net (x ∷ xs) o = by_net (is_eq (net_cmp x.net net)) (gives_way net xs o) where
-  by_net : (b : Bool) → offered net (map of_network xs) (Some o) ≡ Some o → offered net (map of_network xs) (cond b (Some (put_offer (Some o) (of_network x).1)) (Some o)) ≡ Some o
-  by_net true others = others
-  by_net false others = others
+gives_way net (x ∷ xs) o = grind (arith, common_steps, gives_way net xs o)
 
 -- what is offered of a node by networks is a network's
 by_network : (net : NetAddr) (attached : List Attached4) (o : Offer) → offered net (map of_network attached) None ≡ Some o → (a : Attached4) × Contains attached a × (a.net ≡ net) × (o ≡ (of_network a).1)
@@ -137,11 +135,7 @@ same_test false true h = h.1 refl
 same_test false false h = refl
 
 row_is : (row : TcRow) (o : Offer) → row.origin ≡ o.origin → row.routable ≡ is_none o.gateway → row.gateway ≡ o.gateway → row.metric ≡ Some o.metric → row_of (row.dest, o) ≡ row
-row_is row o origin routable gateway metric =
-    ap (λ (b : Bool). let r : TcRow = record { dest = row.dest; origin = b; routable = is_none o.gateway; gateway = o.gateway; metric = Some o.metric } in r) (sym origin)
-    ∙ ap (λ (b : Bool). let r : TcRow = record { dest = row.dest; origin = row.origin; routable = b; gateway = o.gateway; metric = Some o.metric } in r) (sym routable)
-    ∙ ap (λ (g : Option ℕ). let r : TcRow = record { dest = row.dest; origin = row.origin; routable = row.routable; gateway = g; metric = Some o.metric } in r) (sym gateway)
-    ∙ ap (λ (m : Option Metric). let r : TcRow = record { dest = row.dest; origin = row.origin; routable = row.routable; gateway = row.gateway; metric = m } in r) (sym metric)
+row_is row o origin routable gateway metric = grind (arith, common_steps, origin, gateway, metric)
 
 -- what is advertised of a node
 record OfNode (selectors : List Selector) (net : NetAddr) (o : Offer) : Type 0 where

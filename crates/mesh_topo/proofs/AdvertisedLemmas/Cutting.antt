@@ -1,5 +1,6 @@
 -- Rows that are cut into runs.
-use Rattle.std.proofs.Common.{◌≡◌, ℕ, suc, ◌+◌, ◌-◌, ◌*◌, ◌<◌, ◌≤◌, inl, inr, List, [], ◌∷◌, ◌++◌, length, take, drop, map, refl, sym, ap, subst, ◌∙◌, arith, length-append, length-take, length-drop, Some}
+use Rattle.std.proofs.Common.{◌≡◌, ℕ, suc, ◌+◌, ◌-◌, ◌*◌, ◌<◌, ◌≤◌, inl, inr, List, [], ◌∷◌, ◌++◌, length, take, drop, map, sym, ap, subst, ◌∙◌, arith, length-append, length-take, length-drop, Some}
+use Rattle.std.proofs.lemmas.Grind.{common_steps}
 use Rattle.std.specs.Prelude.{slice_get, slice_range, flat_map, option_map, min}
 use Rattle.std.proofs.lemmas.Bool.{cases_lt}
 use Rattle.std.proofs.lemmas.Grind.{flat_map-append}
@@ -36,10 +37,7 @@ range_is a n xs = let e : (a + n) - a ≡ n = omega arith in ap (λ (m : ℕ). t
 
 joined_more : (list : List TcRow) (spans : List PartSpan) (first n : ℕ) → first ≤ length list → flat_map (part_of list) spans ≡ take first list →
     flat_map (part_of list) (spans ++ record { first = first; len = n } ∷ []) ≡ take (first + n) list
-joined_more list spans first n le before =
-    let part : List TcRow = slice_range list first (first + n) in
-    flat_map-append (part_of list) spans (record { first = first; len = n } ∷ []) ∙ ap (λ (l : List TcRow). flat_map (part_of list) spans ++ l) (append-nil part ∙ range_is first n list)
-    ∙ ap (λ (l : List TcRow). l ++ take n (drop first list)) before ∙ sym (take_on first n list le)
+joined_more list spans first n le before = grind (arith, common_steps, flat_map-append, append-nil, range_is, take_on)
 
 pub one_full : (rows most first : ℕ) (spans : List PartSpan) → AreFull rows most first spans → most < rows - first → AreFull rows most (first + most) (spans ++ record { first = first; len = most } ∷ [])
 one_full rows most first spans h left = record {

@@ -1,7 +1,6 @@
 -- Offers that are put one after the other.
-use Rattle.std.proofs.Common.{◌≡◌, List, [], ◌∷◌, ◌++◌, Option, None, refl, sym, ap, ◌∙◌}
-use Rattle.std.specs.Map.{lookup}
-use Rattle.std.specs.Ordering.{is_eq}
+use Rattle.std.proofs.Common.{◌≡◌, List, [], ◌∷◌, ◌++◌, Option, None, refl, arith}
+use Rattle.std.proofs.lemmas.Grind.{common_steps}
 use Rattle.std.specs.BTreeMap.{BTreeMap, get}
 use Rattle.mesh_atoms.specs.declared.addr.NetAddr.{NetAddr}
 use Rattle.mesh_topo.specs.declared.advertised.rows.Offer.{Offer}
@@ -17,14 +16,8 @@ abbrev pub Leaves : BTreeMap NetAddr Offer → List (NetAddr × Offer) → BTree
 Leaves now left old all = (net : NetAddr) → offered net left (get net_cmp now net) ≡ offered net all (get net_cmp old net)
 
 pub keeps_more : (old now next : BTreeMap NetAddr Offer) (some left before all : List (NetAddr × Offer)) → before ≡ some ++ left → Leaves now before old all → KeepsWithOffers now some next → Leaves next left old all
-keeps_more old now next some left before all e h k net =
-    ap (λ (o : Option Offer). offered net left o) (k net)
-    ∙ sym (offered_all net some left (get net_cmp now net))
-    ∙ ap (λ (es : List (NetAddr × Offer)). offered net es (get net_cmp now net)) (sym e)
-    ∙ h net
+keeps_more old now next some left before all e h k net = grind (arith, common_steps, offered_all)
 
 -- one list of offers after another, from an empty map
 pub starting : (old mid new : BTreeMap NetAddr Offer) (xs ys : List (NetAddr × Offer)) → old.entries ≡ [] → KeepsWithOffers old xs mid → KeepsWithOffers mid ys new → (net : NetAddr) → get net_cmp new net ≡ offered net ys (offered net xs None)
-starting old mid new xs ys empty h k net =
-    let none : get net_cmp old net ≡ None = ap (λ (es : List (NetAddr × Offer)). lookup (λ (q : NetAddr). is_eq (net_cmp net q)) es) empty in
-    k net ∙ ap (offered net ys) (h net ∙ ap (offered net xs) none)
+starting old mid new xs ys empty h k net = grind (arith, common_steps)

@@ -1,13 +1,13 @@
 -- A walk over the keys of an originator, for those that are outdated.
+use Rattle.std.proofs.lemmas.Grind.{common_steps}
 use Rattle.std.proofs.lemmas.Bool.{not-true}
-use Rattle.std.proofs.Common.{◌≡◌, ℕ, ◌≤◌, Bool, true, false, cond, not, nat_eq, ◌&&◌, ◌||◌, List, [], ◌∷◌, ◌++◌, refl, sym, ap, subst, ◌∙◌, arith, is_some, Option, Some, None, eq-eqb}
+use Rattle.std.proofs.Common.{◌≡◌, ℕ, ◌≤◌, Bool, true, false, not, nat_eq, ◌&&◌, ◌||◌, List, [], ◌∷◌, ◌++◌, refl, sym, ap, subst, ◌∙◌, arith, is_some, Option, Some, None, eq-eqb}
 use Rattle.std.specs.List.{list_any, filter, AllByRecursion}
 use Rattle.std.specs.List.Sorted.{IsStrictlySortedBy}
 use Rattle.std.specs.Ordering.{is_gt, is_le, is_eq}
 use Rattle.std.specs.declared.cmp.Ordering.{Ordering}
 use Rattle.std.specs.declared.cmp.Ordering.TheVariants.{Less, Equal, Greater}
 use Rattle.std.specs.Cmp.{IsEquivalence}
-use Rattle.std.specs.BTreeMap.{is_at}
 use Rattle.std.specs.BTreeSet.{BTreeSet, contains}
 use Rattle.std.proofs.lemmas.Map.Keys.{sorted_head, sorted_tail}
 use Rattle.mesh_atoms.specs.declared.addr.Addr4.{Addr4}
@@ -17,14 +17,8 @@ use Rattle.mesh_atoms.proofs.Lists.{any_filter}
 use Rattle.mesh_atoms.proofs.Lookups.{same_addr}
 
 any_last : {K : Type 0} (p : K → Bool) (xs : List K) (k : K) → list_any p (xs ++ k ∷ []) ≡ (list_any p xs || p k)
-any_last p [] k = by_test (p k) where
-  by_test : (b : Bool) → (b || false) ≡ b
-  by_test true = refl
-  by_test false = refl
-any_last p (x ∷ xs) k = by_head (p x) (any_last p xs k) where
-  by_head : (b : Bool) → list_any p (xs ++ k ∷ []) ≡ (list_any p xs || p k) → (b || list_any p (xs ++ k ∷ [])) ≡ ((b || list_any p xs) || p k)
-  by_head true h = refl
-  by_head false h = h
+any_last p [] k = grind (arith, common_steps)
+any_last p (x ∷ xs) k = grind (arith, common_steps, any_last p xs k)
 
 -- one that is found and one that isn't
 found_more : (o a e r : Bool) → (e ≡ true → o ≡ true) → o ≡ (a || (o && (e || r))) → o ≡ ((a || e) || (o && r))
@@ -54,10 +48,7 @@ any_has {K} {eq} exact P q (x ∷ xs) all h = by_head (eq q x) refl (any_has {eq
 
 pub all_filter : {K : Type 0} (P : K → Type 0) (test : K → Bool) (xs : List K) → ((x : K) → test x ≡ true → P x) → AllByRecursion P (filter test xs)
 all_filter P test [] each = tt
-all_filter {K} P test (x ∷ xs) each = by_test (test x) refl (all_filter P test xs each) where
-  by_test : (b : Bool) → test x ≡ b → AllByRecursion P (filter test xs) → AllByRecursion P (cond b (x ∷ filter test xs) (filter test xs))
-  by_test true is behind = (each x is, behind)
-  by_test false is behind = behind
+all_filter {K} P test (x ∷ xs) each = grind (arith, common_steps, all_filter P test xs each)
 
 module _ {K : Type 0} {eq : K → K → Bool} (laws : IsEquivalence eq) (exact : (a b : K) → eq a b ≡ true → a ≡ b) (out : K → Bool) where
   -- each key that is outdated is found, or still to come
@@ -65,17 +56,10 @@ module _ {K : Type 0} {eq : K → K → Bool} (laws : IsEquivalence eq) (exact :
   Walks found rest = (q : K) → out q ≡ (list_any (eq q) found || (out q && list_any (eq q) rest))
 
   pub walk_begins : (test : K → Bool) (xs found rest : List K) → found ≡ [] → rest ≡ filter test xs → ((q : K) → out q ≡ true → (list_any (eq q) xs ≡ true) × (test q ≡ true)) → Walks found rest
-  walk_begins test xs found rest none is each q = by_out (out q) refl ∙ ap (λ (l : List K). list_any (eq q) l || (out q && list_any (eq q) rest)) (sym none) where
-    by_out : (b : Bool) → out q ≡ b → out q ≡ (out q && list_any (eq q) rest)
-    by_out false e = rw e refl
-    by_out true e =
-        let (there, passes) = each q e in
-        rw e (sym (ap (list_any (eq q)) is ∙ any_filter test (eq q) xs (λ x same. subst (λ (k : K). test k ≡ true) (exact q x same) passes) there))
+  walk_begins test xs found rest none is each q = grind (arith, common_steps, any_filter)
 
   pub walk_finds : (found all rest : List K) (k : K) → all ≡ k ∷ rest → out k ≡ true → Walks found all → Walks (found ++ k ∷ []) rest
-  walk_finds found all rest k steps is walks q =
-      found_more (out q) (list_any (eq q) found) (eq q k) (list_any (eq q) rest) (λ same. ap out (exact q k same) ∙ is) (walks q ∙ ap (λ (l : List K). list_any (eq q) found || (out q && list_any (eq q) l)) steps)
-      ∙ ap (λ (b : Bool). b || (out q && list_any (eq q) rest)) (sym (any_last (eq q) found k))
+  walk_finds found all rest k steps is walks q = grind (arith, common_steps, found_more, any_last)
 
   pub walk_passes : (found all rest : List K) (k : K) → all ≡ k ∷ rest → out k ≡ false → Walks found all → Walks found rest
   walk_passes found all rest k steps is walks q =
@@ -146,17 +130,11 @@ module _ {K V : Type 0} (eq : K → K → Bool) (originator : Addr4) (ansn : ℕ
 
   -- it is so by the tests of its originator and its number
   pub outdated_is : (here : Addr4) (ne other : Bool) → ne ≡ not (nat_eq here.0 originator.0) → here ≡ from q → ne ≡ false → other ≡ has_other_number ansn number (find eq base q) → is_outdated eq originator ansn from number base q ≡ other
-  outdated_is here ne other is of same by = by_test (addr_eq (from q) originator) (sym (is ∙ ap (λ (a : Addr4). not (nat_eq a.0 originator.0)) of) ∙ same) where
-    by_test : (b : Bool) → not b ≡ false → (b && has_other_number ansn number (find eq base q)) ≡ other
-    by_test true h = sym by
-    by_test false h = absurd cc
+  outdated_is here ne other is of same by = grind (arith, common_steps, nat_eq)
 
   pub of_another : (here : Addr4) (ne : Bool) → ne ≡ not (nat_eq here.0 originator.0) → here ≡ from q → ne ≡ true → addr_eq (from q) originator ≡ false
   of_another here ne is of apart = not-true (addr_eq (from q) originator) (sym (is ∙ ap (λ (a : Addr4). not (nat_eq a.0 originator.0)) of) ∙ apart)
 
 -- a key of an ordered set, by the keys' own test
 pub any_key : {K : Type 0} (eq : K → K → Bool) (cmp : K → K → Ordering) (agree : (x y : K) → eq x y ≡ is_eq (cmp x y)) (keys : BTreeSet K) (q : K) → contains cmp keys q ≡ list_any (eq q) keys.keys
-any_key {K} eq cmp agree keys q = walk keys.keys where
-  walk : (xs : List K) → list_any (is_at (cmp q)) xs ≡ list_any (eq q) xs
-  walk [] = refl
-  walk (x ∷ xs) = ap (λ (b : Bool). b || list_any (is_at (cmp q)) xs) (sym (agree q x)) ∙ ap (λ (b : Bool). eq q x || b) (walk xs)
+any_key {K} eq cmp agree keys q = grind (arith, common_steps)

@@ -22,6 +22,3 @@ returns c =
       face_is = slice_get_read router.interfaces (length router.interfaces) c.args.arc.now.from_iface face refl (subst (λ (r : RouterSettings). c.args.arc.now.from_iface < length r.interfaces) same c.requires.iface) here;
       address = rw c.as_slice-3.ensures (slice_get-get_or face.addrs 0 (record { 0 = 0 }) face.sound.few.at_least);
     }
-
-pub bounds-as_slice-arc : goal.bounds-as_slice-arc
-bounds-as_slice-arc c = rw c.as_slice.ensures (slice_get_within _ _ _ c.requires.stands)

@@ -1,9 +1,5 @@
-use Rattle.std.proofs.Common.{◌≡◌, arith, length}
 use Rattle.mesh_machine.proofs.LeavingArcs.{all_more}
 use Rattle.mesh_machine.proofs.ways.ways_of.Goals as goal
 
 pub loop-x-preserved : goal.loop-x-preserved
 loop-x-preserved c = all_more _ _ _ c.index-routers-x.result _ _ _ c.loop-x-test.true c.index-routers-x.is c.in_ok-push.ensures.ok (rw (← c.len.ensures) c.in_ok-ways_of_router.ensures) c.loop-x.invariant
-
-pub returns : goal.returns
-returns c = let e : c.loop-x.x ≡ length c.args.routers.now = omega (arith, c.loop-x-test.false, c.loop-x.auto.x-end) in rw (← e) c.loop-x.invariant

@@ -25,6 +25,3 @@ returns c =
       slice_get_read router.interfaces (length router.interfaces) i face refl inside here,
       rw c.as_slice-3.ensures (slice_get-get_or face.addrs 0 (record { 0 = 0 }) face.sound.few.at_least),
     )
-
-pub bounds-as_slice-frame : goal.bounds-as_slice-frame
-bounds-as_slice-frame c = let (settings, stands, less) = c.requires in rw c.as_slice.ensures (slice_get_within c.args.scenario.now.routers c.args.frame.now.router settings stands)

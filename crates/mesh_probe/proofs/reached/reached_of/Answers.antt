@@ -1,12 +1,9 @@
 use Rattle.std.proofs.Common.{◌≢◌, ◌≡◌, ℕ, ◌≤◌, length, arith, true}
 use Rattle.mesh_probe.specs.Probes.{HearsOne}
 use Rattle.mesh_probe.proofs.Hearers.{hears_inside}
-use Rattle.mesh_probe.proofs.Listing.{all_listed, none_listed, one_listed, one_passed}
+use Rattle.mesh_probe.proofs.Listing.{all_listed, one_listed, one_passed}
 use Rattle.mesh_probe.proofs.reached.reached_of.Goals as goal
 use Rattle.mesh_probe.proofs.reached.reached_of.Goals.{then-is_reached+in_ok-push, else-is_reached}
-
-pub loop-router-init : goal.loop-router-init
-loop-router-init c = rw c.new-reached.ensures (none_listed (λ z. (z ≢ c.args.origin) × HearsOne c.args.scenario.now c.args.sends.now z))
 
 pub loop-router-preserved : goal.loop-router-preserved
 loop-router-preserved c =

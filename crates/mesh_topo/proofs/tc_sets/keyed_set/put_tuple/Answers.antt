@@ -1,6 +1,6 @@
 use Rattle.std.proofs.Common.{is_some, sym, ap, ◌∙◌}
 use Rattle.mesh_expire.proofs.Laws.{renewed, renewed-none}
-use Rattle.mesh_topo.proofs.TcSetsLemmas.Laws.{keys_held, put_new, put_same}
+use Rattle.mesh_topo.proofs.TcSetsLemmas.Laws.{keys_held, put_same}
 use Rattle.mesh_topo.proofs.tc_sets.keyed_set.put_tuple.Goals as goal
 
 pub returns-in-Some-clause-keys : goal.returns-in-Some-clause-keys
@@ -29,10 +29,3 @@ pub returns-clause-ok : goal.returns-clause-ok
 returns-clause-ok g c =
     let same = renewed-none g.met.K.Eq.laws c.args.key (c.args.tuple, c.args.until) (g.T.Table.content c.args.table.now) _ (sym c.in_default.is ∙ c.in_ok-before.ensures.before) c.in_ok-before.ensures.ok in
     rw (← same) c.in_ok-put_keyed.ensures.ok
-
-pub returns-clause-same : goal.returns-clause-same
-returns-clause-same g c =
-    let base = g.T.Table.content c.args.table.now in
-    let none = sym c.in_default.is ∙ c.in_ok-before.ensures.before in
-    let same = renewed-none g.met.K.Eq.laws c.args.key (c.args.tuple, c.args.until) base (g.T.Table.content c.renew.new.self) none c.in_ok-before.ensures.ok in
-    put_new g.K.PartialEq.eq g.V.TopologyTuple.says g.met.K.Eq.laws c.args.key c.args.tuple c.args.until base (g.T.Table.content c.put_keyed.new.table) none (rw (← same) c.in_ok-put_keyed.ensures.ok)

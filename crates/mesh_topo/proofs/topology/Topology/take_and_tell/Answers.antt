@@ -1,12 +1,6 @@
 use Rattle.mesh_topo.proofs.Soundness.{tc_fresh, tc_sound}
 use Rattle.mesh_topo.proofs.topology.Topology.take_and_tell.Goals as goal
 
-pub returns-clause-ok : goal.returns-clause-ok
-returns-clause-ok g c = rw (← c.self.view_is) c.take.ensures.ok
-
-pub returns-clause-within : goal.returns-clause-within
-returns-clause-within g c = rw (← c.self.view_is) c.take.ensures.within
-
 pub returns-clause-fresh : goal.returns-clause-fresh
 returns-clause-fresh g c = rw (← c.self.view_is) (tc_fresh c.args.now c.args.tc.now _ _ c.take.result c.take.ensures.ok)
 
