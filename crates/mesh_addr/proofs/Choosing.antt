@@ -1,5 +1,6 @@
 -- The best of the choices within the limits, as the search finds it.
-use Rattle.std.proofs.Common.{◌≡◌, ℕ, ◌+◌, ◌-◌, ◌*◌, ◌<◌, ◌≤◌, Bool, true, false, cond, ltb, refl, sym, ap, subst, ◌∙◌, arith}
+use Rattle.std.proofs.Common.{◌≡◌, ℕ, ◌+◌, ◌-◌, ◌*◌, ◌<◌, ◌≤◌, Bool, true, false, cond, ltb, refl, arith}
+use Rattle.std.proofs.lemmas.Grind.{common_steps}
 use Rattle.std.proofs.lemmas.Bool.{ltb-false, ltb-true}
 use Rattle.std.proofs.Math.Nat.{mul-add, mul-le-mul_right}
 use Rattle.mesh_addr.specs.declared.choices.Choice.{Choice}
@@ -19,10 +20,7 @@ rank_below w choice small fits = omega (arith, rank_most choice.tail)
 
 -- of two choices in the order of preference the cheaper one weighs no more than either
 pub cheaper_least : (w count : ℕ) (a b : Choice) → w ≤ 16 → a.head + tail_len a.tail ≤ w → b.head + tail_len b.tail ≤ w → choice_rank a ≤ choice_rank b → (weight w count (cheaper w count a b) ≤ weight w count a) × (weight w count (cheaper w count a b) ≤ weight w count b)
-cheaper_least w count a b small fits fits' before = either (ltb (cost w count b) (cost w count a)) refl where
-  either : (q : Bool) → ltb (cost w count b) (cost w count a) ≡ q → (weight w count (cond q b a) ≤ weight w count a) × (weight w count (cond q b a) ≤ weight w count b)
-  either true e = let lt : cost w count b < cost w count a = ltb-true _ _ e in (omega (arith, lt, rank_most b.tail), omega arith)
-  either false e = let le : cost w count a ≤ cost w count b = ltb-false _ _ e in (omega arith, omega (arith, le, before))
+cheaper_least w count a b small fits fits' before = grind (arith, common_steps, ltb-true, rank_most, ltb-false)
 
 -- what holds of both holds of the cheaper one
 pub cheaper_either : (P : Choice → Type 0) (w count : ℕ) (a b : Choice) → P a → P b → P (cheaper w count a b)
@@ -45,9 +43,7 @@ module _ (w count head : ℕ) where
 
   -- middle parts that are longer by some octets
   longer : (n m : ℕ) → n ≤ m → head + m ≤ w → count * (w - (head + n)) ≡ count * (w - (head + m)) + count * (m - n)
-  longer n m le fits =
-      let e : w - (head + n) ≡ (w - (head + m)) + (m - n) = omega arith in
-      ap (λ (k : ℕ). count * k) e ∙ mul-add count (w - (head + m)) (m - n)
+  longer n m le fits = grind (arith, common_steps, mul-add)
 
   -- so many octets of each address are no fewer than those of some
   times : (some n : ℕ) → some ≤ count → some * n ≤ count * n
@@ -66,9 +62,7 @@ module _ (w count head : ℕ) where
   -- with one address no tail weighs less than a full one
   plain_lighter : (n : ℕ) → count ≡ 1 → head + n ≤ w → weight w count plain ≤ weight w count (with_full n)
   unfolding cost
-  plain_lighter n one fits =
-      let e : count * (n - 0) ≡ n = ap (λ (k : ℕ). k * (n - 0)) one ∙ omega arith in
-      omega (arith, longer 0 n (omega arith) fits, e)
+  plain_lighter n one fits = grind (arith, common_steps, longer)
 
 -- the best of three tails is the best of all
 module _ (w count head : ℕ) (limits : Limits) (zeros full : ℕ) (small : w ≤ 16) (some : 0 < count) (within : head ≤ limits.head) (fits : head ≤ w)
@@ -93,9 +87,7 @@ module _ (w count head : ℕ) (limits : Limits) (zeros full : ℕ) (small : w �
   IsOf c = HasHead w limits head c × (choice_rank c ≤ choice_rank three)
 
   first_is : IsOf first
-  first_is = cheaper_either IsOf w count one two
-      ((refl, record { fits = omega arith; head = within; tail = tt }), omega arith)
-      ((refl, record { fits = zeros_fit; head = within; tail = zeros_low }), omega arith)
+  first_is = grind (arith, common_steps, cheaper_either)
 
   first_least : (weight w count first ≤ weight w count one) × (weight w count first ≤ weight w count two)
   first_least = cheaper_least w count one two small (omega arith) zeros_fit (omega arith)
@@ -119,7 +111,4 @@ module _ (w count head : ℕ) (limits : Limits) (zeros full : ℕ) (small : w �
         omega (arith, all_least.0, first_least.0, lighter)
 
   pub best_of_head : IsBestOf w count (HasHead w limits head) least
-  best_of_head = record {
-    among = cheaper_either (HasHead w limits head) w count first three first_is.0 (refl, record { fits = full_fit; head = within; tail = full_low });
-    least = λ other h. subst (λ (x : ℕ). IsWithinLimits w limits (record { head = x; tail = other.tail }) → weight w count least ≤ weight w count (record { head = x; tail = other.tail })) (sym h.0) (least_tail other.tail) h.1;
-  }
+  best_of_head = grind (arith, common_steps, cheaper_either, first_is, least_tail)

@@ -1,5 +1,6 @@
 -- The cheapest choice is spelled, and no spelling has fewer octets.
 use Rattle.std.proofs.Common.{◌≡◌, ℕ, zero, suc, ◌+◌, ◌-◌, ◌*◌, ◌<◌, ◌≤◌, Bool, true, false, cond, eqb, List, [], ◌∷◌, ◌++◌, length, take, refl, sym, ap, subst, ◌∙◌, arith, append_assoc, length-append}
+use Rattle.std.proofs.lemmas.Grind.{common_steps}
 use Rattle.std.specs.Prelude.{slice_range, replicate, not, ◌&&◌}
 use Rattle.std.proofs.lemmas.Bool.{eq-eqb, eqb-true, ne_eqb}
 use Rattle.std.proofs.lemmas.List.{take_at, drop_at, length-replicate, length-take, length-take-le, nil_from_length}
@@ -50,10 +51,7 @@ module _ (w : ℕ) (head tail : List ℕ) (fits : length head + length tail ≤ 
       ((is ∙ sym ends.0, more.0), (is' ∙ sym ends.1, more.1))
 
 head_cost_most : (n : ℕ) → head_cost n ≤ 1 + n
-head_cost_most n = either (eqb n 0) where
-  either : (b : Bool) → cond b 0 (1 + n) ≤ 1 + n
-  either true = omega arith
-  either false = omega arith
+head_cost_most n = grind (arith, common_steps)
 
 head_least : (b : Bool) (head text : List ℕ) → SpellsHead b head text → head_cost (length head) ≤ length text
 head_least true head text h = omega (arith, ap length h, head_cost_most (length head))
@@ -104,9 +102,7 @@ false_true : false ≡ true → ⊥
 false_true e = absurd cc
 
 raw_long : (w : ℕ) (a : RawAddr) → w ≤ 16 → a.octets ≡ padded (take w a.octets) → w ≤ length a.octets
-raw_long w a small is =
-    let z : List ℕ = replicate (16 - length (take w a.octets)) 0 in
-    omega (arith, ap length is, length-append (take w a.octets) z, length-replicate {A = ℕ} (16 - length (take w a.octets)) 0, length-take w a.octets)
+raw_long w a small is = grind (arith, common_steps, length-append, length-replicate, length-take)
 
 three_parts : (w head tail : ℕ) (octets : List ℕ) → head + tail ≤ w → w ≤ length octets → take w octets ≡ take head octets ++ (slice_range octets head (w - tail) ++ slice_range octets (w - tail) w)
 three_parts w head tail octets fits long =
@@ -187,10 +183,7 @@ form_least : (w : ℕ) (first : RawAddr) (more : List RawAddr) (none one b16 b8 
 form_least w first more true one b16 b8 text is is' h = omega arith
 form_least w first more false one false false text is is' h = let no : have_prefix (8 * w) (first ∷ more) ≡ true = so_all_have (8 * w) (first ∷ more) h.0 in absurd (false_true (sym is ∙ no))
 form_least w first more false true true false text is is' h = rw h.3 (omega arith)
-form_least w first more false false true false text is is' h =
-    let all = first_all h.0 first.prefix (prefixes more) h.2 in
-    let same : AreAll first.prefix (prefixes (first ∷ more)) = subst (λ (p : ℕ). AreAll p (prefixes (first ∷ more))) (sym all.0) h.2 in
-    absurd (false_true (sym is' ∙ so_all_have first.prefix (first ∷ more) same))
+form_least w first more false false true false text is is' h = grind (arith, common_steps, first_all, false_true, so_all_have)
 form_least w first more false true false true text is is' h = rw h.1 (omega arith)
 form_least w first more false false false true text is is' h = rw h.1 (omega arith)
 form_least w first more false one true true text is is' h = absurd h
@@ -222,10 +215,7 @@ bits_are false (tails.Full n) forms.One = (refl, refl, refl, refl, refl)
 bits_are false (tails.Full n) forms.Each = (refl, refl, refl, refl, refl)
 
 head_text_long : (head : ℕ) (first : RawAddr) → length (take head first.octets) ≡ head → length (head_text head first) ≡ head_cost head
-head_text_long head first long = either (eqb head 0) where
-  either : (b : Bool) → length (cond b [] (head ∷ take head first.octets)) ≡ cond b 0 (1 + head)
-  either true = refl
-  either false = omega (arith, long)
+head_text_long head first long = grind (arith, common_steps)
 
 tail_text_long : (w : ℕ) (first : RawAddr) (t : TailForm) → length (last_octets w (tail_len t) first) ≡ tail_len t → length (tail_text t w first) ≡ tail_cost t
 tail_text_long w first tails.Absent long = refl
@@ -281,11 +271,7 @@ module _ (w : ℕ) (first : RawAddr) (more : List RawAddr) (choice : Choice) (sm
 
   text_long : length text ≡ 2 + cost w (length (first ∷ more)) choice + length (prefixes_text (form_for none one) first (first ∷ more))
   unfolding text_of cost
-  text_long =
-      let mids : List ℕ = mids_text choice.head (w - tail_len choice.tail) (first ∷ more) in
-      let prefix : List ℕ = prefixes_text (form_for none one) first (first ∷ more) in
-      let long : length mids ≡ length (first ∷ more) * (w - (choice.head + tail_len choice.tail)) = rw (head_long, tail_long) at (mids_long head tail (w - (length head + length tail)) (first ∷ more) mids mids_are) in
-      omega (arith, long, head_text_long choice.head first head_long, tail_text_long w first choice.tail tail_long, length-append (head_text choice.head first) (tail_text choice.tail w first ++ (mids ++ prefix)), length-append (tail_text choice.tail w first) (mids ++ prefix), length-append mids prefix)
+  text_long = grind (arith, common_steps, choice, head_long, tail_long, mids_long, mids_are, head_text_long, tail_text_long, length-append)
 
 tail_bits : (t : TailForm) → cond (is_full t) 2 (cond (is_zeros t) 1 0) ≡ tail_rank t
 tail_bits tails.Absent = refl
@@ -303,10 +289,7 @@ form_first : (w : ℕ) (first : RawAddr) (more : List RawAddr) (none one b16 b8 
 form_first w first more true one b16 b8 text is is' h = omega arith
 form_first w first more false one false false text is is' h = let no : have_prefix (8 * w) (first ∷ more) ≡ true = so_all_have (8 * w) (first ∷ more) h.0 in absurd (false_true (sym is ∙ no))
 form_first w first more false true true false text is is' h = omega arith
-form_first w first more false false true false text is is' h =
-    let all = first_all h.0 first.prefix (prefixes more) h.2 in
-    let same : AreAll first.prefix (prefixes (first ∷ more)) = subst (λ (p : ℕ). AreAll p (prefixes (first ∷ more))) (sym all.0) h.2 in
-    absurd (false_true (sym is' ∙ so_all_have first.prefix (first ∷ more) same))
+form_first w first more false false true false text is is' h = grind (arith, common_steps, first_all, false_true, so_all_have)
 form_first w first more false true false true text is is' h = omega arith
 form_first w first more false false false true text is is' h = omega arith
 form_first w first more false one true true text is is' h = absurd h
@@ -366,9 +349,7 @@ flags_of_form forms.One = refl
 flags_of_form forms.Each = refl
 
 unreserved_flags : (choice : Choice) (form : PrefixForm) → flags_of choice form ≡ known_flags (flags_of choice form)
-unreserved_flags choice form =
-    let are = bits_are (eqb choice.head 0) choice.tail form in
-    rw (are.0, are.1, are.2, are.3, are.4) (omega (arith, flag_of_head (eqb choice.head 0), flags_of_tail choice.tail, flags_of_form form))
+unreserved_flags choice form = grind (arith, common_steps, bits_are, choice, flag_of_head, flags_of_tail, flags_of_form)
 
 least_text : (w : ℕ) (first : RawAddr) (more : List RawAddr) (choice : Choice) → w ≤ 16 → AreRaw w (first ∷ more) → IsBestOf w (length (first ∷ more)) (IsPossible w first (first ∷ more)) choice → IsLeast w (first ∷ more) (text_of w first (first ∷ more) choice (form_of w first (first ∷ more)))
 unfolding form_of text_spelled

@@ -1,5 +1,6 @@
 -- Reading one after the other, as a loop does.
 use Rattle.std.proofs.Common.{◌≡◌, ℕ, suc, ◌+◌, ◌-◌, ◌*◌, ◌≤◌, ◌<◌, List, [], ◌∷◌, ◌++◌, Result, Ok, Err, refl, sym, ap, ◌∙◌, append_assoc, arith}
+use Rattle.std.proofs.lemmas.Grind.{common_steps}
 use Rattle.std.specs.Prelude.{slice_range}
 use Rattle.std.proofs.lemmas.List.{append-nil}
 use Rattle.std.proofs.lemmas.Bool.{lt-ltb, le-ltb}
@@ -16,10 +17,7 @@ next_part i size = let e : i + 1 ≡ suc i = omega arith in rw e (suc-mul i size
 module _ (limit i place end size : ℕ) (total : Result ℕ Refusal) (lt : i < limit) (so_far : parts_end (limit - i) place end size ≡ total) where
   pub part_short : end - place < size → refuse place 1 ≡ total
   unfolding parts_end
-  part_short short =
-      let k : limit - i ≡ suc (limit - (i + 1)) = omega arith in
-      let one : parts_end (limit - i) place end size ≡ refuse place 1 = rw (k, lt-ltb (end - place) size short) refl in
-      sym one ∙ so_far
+  part_short short = grind (arith, common_steps, lt-ltb)
 
   pub part_passed : size ≤ end - place → parts_end (limit - (i + 1)) (place + size) end size ≡ total
   unfolding parts_end
@@ -30,10 +28,7 @@ module _ (limit i place end size : ℕ) (total : Result ℕ Refusal) (lt : i < l
 
 pub parts_done : (limit i place end size : ℕ) (total : Result ℕ Refusal) → limit ≤ i → parts_end (limit - i) place end size ≡ total → Ok place ≡ total
 unfolding parts_end
-parts_done limit i place end size total le so_far =
-    let k : limit - i ≡ 0 = omega arith in
-    let one : parts_end (limit - i) place end size ≡ Ok place = rw k refl in
-    sym one ∙ so_far
+parts_done limit i place end size total le so_far = grind (arith, common_steps)
 
 -- what was read before, and what is still read
 abbrev pub with_front : List RawAddr → Result (List RawAddr × ℕ) Refusal → Result (List RawAddr × ℕ) Refusal
@@ -59,14 +54,8 @@ module _ (frame : List ℕ) (shape : ShapeFields) (front : List RawAddr) (limit 
 
   pub ends : i < limit → (e : Refusal) → own_at frame shape.prefix at end shape.width ≡ Err e → total ≡ Err e
   unfolding addrs_at
-  ends lt e h =
-      let k : limit - i ≡ suc (limit - (i + 1)) = omega arith in
-      let one : with_front front (addrs_at (limit - i) frame shape mid at end) ≡ Err e = rw (k, h) refl in
-      sym so_far ∙ one
+  ends lt e h = grind (arith, common_steps)
 
   pub is_done : limit ≤ i → total ≡ Ok (front, at)
   unfolding addrs_at
-  is_done le =
-      let k : limit - i ≡ 0 = omega arith in
-      let one : with_front front (addrs_at (limit - i) frame shape mid at end) ≡ Ok (front, at) = rw k (ap (λ (l : List RawAddr). Ok (l, at)) (append-nil front)) in
-      sym so_far ∙ one
+  is_done le = grind (arith, common_steps, append-nil)

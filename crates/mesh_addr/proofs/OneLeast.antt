@@ -1,7 +1,8 @@
 -- A block has at most one least spelling: its rank tells the lengths of head and tail and the forms of tail and prefix lengths,
 -- and with them all that is written.
 use Rattle.std.proofs.Common.{◌≡◌, ℕ, ◌+◌, ◌-◌, ◌*◌, ◌≤◌, Bool, true, false, cond, List, [], ◌∷◌, ◌++◌, length, take, drop, refl, sym, ap, subst, ◌∙◌, arith, append_assoc, length-append}
-use Rattle.std.specs.Prelude.{replicate, slice_range}
+use Rattle.std.proofs.lemmas.Grind.{common_steps}
+use Rattle.std.specs.Prelude.{slice_range}
 use Rattle.std.proofs.lemmas.List.{take_at, drop_at}
 use Rattle.mesh_atoms.specs.Reading.{has}
 use Rattle.mesh_addr.specs.declared.records.RawAddr.{RawAddr}
@@ -60,10 +61,7 @@ prefixes_once false false false false most r ps text more h k i = (refl, refl, h
 
 -- where an address has its middle part
 mid_is : (head mid tail octets : List ℕ) → octets ≡ padded (head ++ (mid ++ tail)) → take (length mid) (drop (length head) octets) ≡ mid
-mid_is head mid tail octets is =
-    let z : List ℕ = replicate (16 - length (head ++ (mid ++ tail))) 0 in
-    let parts : octets ≡ head ++ (mid ++ (tail ++ z)) = is ∙ append_assoc head (mid ++ tail) z ∙ ap (λ (l : List ℕ). head ++ l) (append_assoc mid tail z) in
-    ap (λ (l : List ℕ). take (length mid) (drop (length head) l)) parts ∙ ap (take (length mid)) (drop_at head (mid ++ (tail ++ z)) (length head) refl) ∙ take_at mid (tail ++ z) (length mid) refl
+mid_is head mid tail octets is = grind (arith, common_steps, append_assoc, drop_at, take_at)
 
 mids_once : (head tail : List ℕ) (size : ℕ) (addrs : List RawAddr) (text more : List ℕ) → SpellsMids head tail size addrs text → SpellsMids head tail size addrs more → text ≡ more
 mids_once head tail size [] text more h k = h ∙ sym k

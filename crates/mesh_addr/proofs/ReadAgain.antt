@@ -1,5 +1,6 @@
 -- What is spelled is read, whatever follows.
 use Rattle.std.proofs.Common.{◌≡◌, ℕ, zero, suc, ◌+◌, ◌-◌, ◌*◌, ◌<◌, ◌≤◌, Bool, true, false, List, [], ◌∷◌, ◌++◌, length, Option, Some, None, Result, Ok, refl, sym, ap, subst, ◌∙◌, arith, length-append}
+use Rattle.std.proofs.lemmas.Grind.{common_steps}
 use Rattle.std.specs.Prelude.{slice_range, replicate, ◌&&◌}
 use Rattle.std.proofs.lemmas.Bool.{le-ltb, ne_eqb}
 use Rattle.std.proofs.Math.Nat.{suc-mul}
@@ -62,10 +63,7 @@ prefixes_apart false each most ps text h = refl
 pub parts_again : (n at end size : ℕ) → at + n * size ≤ end → parts_end n at end size ≡ Ok (at + n * size)
 unfolding parts_end
 parts_again zero at end size le = let e : at ≡ at + 0 * size = omega arith in ap (λ (m : ℕ). done m) e
-parts_again (suc n) at end size le =
-    let more : suc n * size ≡ n * size + size = suc-mul n size in
-    let later : at + size + n * size ≡ at + suc n * size = omega arith in
-    rw (le-ltb (end - at) size (omega arith), parts_again n (at + size) end size (omega arith), later) refl
+parts_again (suc n) at end size le = grind (arith, common_steps, suc-mul, le-ltb, parts_again n (at + size) end size (omega arith))
 
 pub prefix_again : (s : List ℕ) (at p width : ℕ) (rest : List ℕ) (end : ℕ) → Stands s at (p ∷ []) rest end → p ≤ 8 * width → prefix_at s at end width ≡ Ok (p, at + 1)
 unfolding prefix_at
@@ -83,9 +81,7 @@ module _ (s : List ℕ) (end width : ℕ) (head tail : List ℕ) where
 
   -- the address of the next middle part
   next_addr : (a : RawAddr) (mid_at : ℕ) (mid more rest : List ℕ) → length mid ≡ size → a.octets ≡ padded (head ++ (mid ++ tail)) → Stands s mid_at (mid ++ more) rest end → addr_of (shape None) (slice_range s mid_at (mid_at + size)) a.prefix ≡ a
-  next_addr a mid_at mid more rest long is stands =
-      let e : slice_range s mid_at (mid_at + size) ≡ mid = subst (λ (n : ℕ). slice_range s mid_at (mid_at + n) ≡ mid) long (front_is s mid_at mid (more ++ rest) end (stands_first s mid_at mid more rest end stands)) in
-      ap (λ (l : List ℕ). addr_of (shape None) l a.prefix) e ∙ ap (λ (o : List ℕ). record { octets = o; prefix = a.prefix }) (sym is)
+  next_addr a mid_at mid more rest long is stands = grind (arith, common_steps, front_is, stands_first)
 
   common_again : (p : ℕ) (addrs : List RawAddr) (mid_at at : ℕ) (mids rest : List ℕ) → SpellsMids head tail size addrs mids → AreAll p (prefixes addrs) → Stands s mid_at mids rest end → addrs_at (length addrs) s (shape (Some p)) mid_at at end ≡ Ok (addrs, at)
   unfolding addrs_at
@@ -110,9 +106,7 @@ module _ (s : List ℕ) (end width : ℕ) (head tail : List ℕ) where
   prefixes_again : (flags : ℕ) (addrs : List RawAddr) (mid_at at : ℕ) (mids text rest others : List ℕ) (one each : Bool) → has flags 16 ≡ one → has flags 8 ≡ each → SpellsMids head tail size addrs mids → SpellsPrefixes one each (8 * width) (prefixes addrs) text → Stands s mid_at mids rest end → Stands s at text others end
       → (common_at s flags at end width >>= λ common. addrs_at (length addrs) s (shape common.0) mid_at common.1 end) ≡ Ok (addrs, at + length text)
   unfolding common_at
-  prefixes_again flags addrs mid_at at mids text rest others false false is is' h k stands stands' =
-      let e : at ≡ at + 0 = omega arith in
-      rw (is, is', k.1, common_again (8 * width) addrs mid_at at mids rest h k.0 stands) (ap (λ (n : ℕ). done {A = List RawAddr × ℕ} (addrs, n)) e)
+  prefixes_again flags addrs mid_at at mids text rest others false false is is' h k stands stands' = grind (arith, common_steps, common_again)
   prefixes_again flags addrs mid_at at mids text rest others true false is is' h k stands stands' =
       rw (is, prefix_again s at k.0 width others end (subst (λ (l : List ℕ). Stands s at l others end) k.3 stands') k.1, common_again k.0 addrs mid_at (at + 1) mids rest h k.2 stands, k.3) refl
   prefixes_again flags addrs mid_at at mids text rest others false true is is' h k stands stands' =

@@ -1,5 +1,6 @@
 -- What is read is spelled so, and what is refused has its first fault there.
-use Rattle.std.proofs.Common.{◌≡◌, ℕ, zero, suc, ◌+◌, ◌-◌, ◌*◌, ◌<◌, ◌≤◌, Bool, true, false, eqb, ltb, List, [], ◌∷◌, ◌++◌, length, take, drop, Option, Some, None, refl, sym, ap, subst, ◌∙◌, arith, inl, inr, ◌⊎◌}
+use Rattle.std.proofs.Common.{◌≡◌, ℕ, zero, suc, ◌+◌, ◌-◌, ◌*◌, ◌<◌, ◌≤◌, Bool, true, false, eqb, ltb, List, [], ◌∷◌, ◌++◌, length, Option, Some, None, refl, sym, ap, subst, ◌∙◌, arith, inl, inr, ◌⊎◌}
+use Rattle.std.proofs.lemmas.Grind.{common_steps}
 use Rattle.std.specs.Prelude.{slice_range, MatchResult, replicate, ◌&&◌}
 use Rattle.std.proofs.lemmas.Bool.{ltb-false, ltb-true, eqb-true, eqb-false, or_cases as or_true, or_parts as or_false}
 use Rattle.std.proofs.lemmas.List.{length-replicate}
@@ -192,9 +193,7 @@ AddrFault s shape n at end e = (shape.prefix ≡ None) × Faulty at (λ k reason
 
 addrs_take : (n : ℕ) (s : List ℕ) (shape : ShapeFields) (mid at end : ℕ) → at ≤ end → end ≤ length s → mid + n * mid_of shape ≤ end → MatchResult (addrs_at n s shape mid at end) (AreAddrs s shape n mid at end) (AddrFault s shape n at end)
 unfolding addrs_at
-addrs_take zero s shape mid at end le fits room =
-    let z : mid + 0 * mid_of shape - mid ≡ 0 = omega arith in
-    (refl, ap (λ (n : ℕ). take n (drop mid s)) z, ([], own_none shape.prefix (8 * shape.width), takes_none s at end le))
+addrs_take zero s shape mid at end le fits room = grind (arith, common_steps, own_none, takes_none)
 addrs_take (suc n) s shape mid at end le fits room =
     let size : ℕ = mid_of shape in
     let most : ℕ = 8 * shape.width in
