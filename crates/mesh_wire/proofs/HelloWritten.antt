@@ -13,8 +13,6 @@ use Rattle.mesh_atoms.specs.declared.hello.OtherStatus.{OtherStatus}
 use Rattle.mesh_atoms.specs.declared.hello.OtherStatus.TheVariants as others
 use Rattle.mesh_atoms.specs.declared.hello.HelloRow.{HelloRow}
 use Rattle.mesh_atoms.specs.declared.hello.Hello.{Hello}
-use Rattle.mesh_atoms.specs.declared.hello.Metrics.{Metrics}
-use Rattle.mesh_atoms.specs.declared.hello.Mpr.{Mpr as MprFlags}
 use Rattle.mesh_atoms.specs.declared.codes.metric.Metric.{Metric}
 use Rattle.mesh_atoms.specs.Nodes.{IsBefore}
 use Rattle.mesh_addr.specs.declared.records.RawAddr.{RawAddr}
@@ -25,10 +23,12 @@ use Rattle.mesh_packet.specs.Grammar.{Spells}
 use Rattle.mesh_packet.specs.Least.{IsEncodableMessage, LeastForm}
 use Rattle.mesh_tlv.specs.Fields.{TlvFields}
 use Rattle.mesh_wire.specs.declared.lines.AddressTlvKind.{AddressTlvKind}
-use Rattle.mesh_wire.specs.declared.lines.AddressTlvKind.TheVariants.{Local, Link, Other, Mpr, AddrType, Gateway, LinkIn, LinkOut, NearIn, NearOut}
+use Rattle.mesh_wire.specs.declared.lines.AddressTlvKind.TheVariants.{Octet, LinkIn, LinkOut, NearIn, NearOut}
 use Rattle.mesh_wire.specs.declared.lines.AddressRecord.{AddressRecord}
+use Rattle.mesh_wire.specs.declared.octets.OctetKind.TheVariants.{Local, Link, Other, Mpr}
 use Rattle.mesh_wire.specs.Drafts.{octet_of, whole, HasHelloValues, heading_of, IsHelloMessage, FitsAlone}
 use Rattle.mesh_wire.specs.Hello.{local_value, link_value, other_value, OriginatorIs, TellsOther, IsReadHelloRow, HelloIs}
+use Rattle.mesh_wire.specs.HelloRows.{sender_row}
 use Rattle.mesh_wire.specs.HelloRules.{BreaksHello, AddressWidth, HopLimit, HopCount, NoValidity, WrongInterval, WrongWilling, Undefined, TwoValues, ShortPrefix, WrongMetric}
 use Rattle.mesh_wire.specs.Kinds.{validity_time, local_if, link_metric, mpr_willing, IsStatusBelow}
 use Rattle.mesh_wire.specs.Lines.{kind_of, octet_pair, value_of, hello_line, narrow, flags_number}
@@ -42,7 +42,7 @@ use Rattle.mesh_wire.proofs.Fits.{message_fits, HasFewParts, fits_alone}
 use Rattle.mesh_wire.proofs.Headings.{validity_told, one_validity, interval_is, interval_told, willing_is, read_of_hello}
 use Rattle.mesh_wire.proofs.Laid.{whole_number}
 use Rattle.mesh_wire.proofs.LinesSay.{octet_value, metric_octets, has_flag, metric_value, column_of, metric_of}
-use Rattle.mesh_wire.proofs.OneHello.{one_hello}
+use Rattle.mesh_wire.proofs.OneHello.{alone_row, one_hello}
 use Rattle.mesh_wire.proofs.RowLines.{of_value, alone_again}
 use Rattle.mesh_wire.proofs.RowsSay.{row_stands, row_at, part_there, said_of, row_of, not_two, right_metric, octet_said, flags_said, metric_said}
 use Rattle.mesh_atoms.proofs.Lists.{contains_map_cases as unmapped}
@@ -60,11 +60,9 @@ none_there c l e = ap (λ (o : Option (ℕ × ℕ)). cond (is_some o) 1 0) e
 few_of : (row : HelloRow) (local : Option LocalIf) → row.local ≡ local → (IsSome row.local → IsAlone row) → HasFewParts (hello_line row)
 few_of row None e sender =
     let l = hello_line row in
-    omega (arith, none_there Local l (ap (λ (o : Option LocalIf). narrow (option_map local_value o)) e), bit_most (has_part Link l), bit_most (has_part Other l), bit_most (has_part Mpr l), bit_most (has_part LinkIn l), bit_most (has_part LinkOut l), bit_most (has_part NearIn l), bit_most (has_part NearOut l))
+    omega (arith, none_there (Octet Local) l (ap (λ (o : Option LocalIf). narrow (option_map local_value o)) e), bit_most (has_part (Octet Link) l), bit_most (has_part (Octet Other) l), bit_most (has_part (Octet Mpr) l), bit_most (has_part LinkIn l), bit_most (has_part LinkOut l), bit_most (has_part NearIn l), bit_most (has_part NearOut l))
 few_of row (Some x) e sender =
-    let l = hello_line row in
-    let t = sender (subst IsSome (sym e) refl) in
-    omega (arith, bit_most (has_part Local l), none_there Link l (ap (λ (o : Option LinkStatus). narrow (option_map link_value o)) t.link), none_there Other l (ap (λ (o : Option OtherStatus). narrow (option_map other_value o)) t.other), bit_most (has_part Mpr l), bit_most (has_part LinkIn l), bit_most (has_part LinkOut l), bit_most (has_part NearIn l), bit_most (has_part NearOut l))
+    subst (λ (r : HelloRow). HasFewParts (hello_line r)) (sym (alone_row row (sender (subst IsSome (sym e) refl)))) (let l = hello_line (sender_row row.addr row.local) in omega (arith, bit_most (has_part (Octet Local) l)))
 
 -- ---- originator
 
@@ -105,38 +103,23 @@ metric_read : (row : HelloRow) (k : MetricKind) (kind : ℕ) (octets : List ℕ)
 metric_read row k kind octets e v = inr (inr (inr (e, (k, metric_flagged k (metric_of k row.metrics) octets (sym (metric_value k (hello_line row)) ∙ v)))))
 
 other_read : (row : HelloRow) (kind : ℕ) (octets : List ℕ) (c : AddressTlvKind) → kind ≡ kind_of c → value_of c (hello_line row) ≡ Some octets → row.local ≡ None → IsReadOfOther kind octets
-other_read row kind octets Local e v none =
-    absurd (none_not {o = option_map (λ (n : ℕ). n ∷ []) (option_map local_value row.local)} (ap (λ (o : Option LocalIf). option_map (λ (n : ℕ). n ∷ []) (option_map local_value o)) none) (sym (octet_value (hello_line row).local) ∙ v))
-other_read row kind octets Link e v none = inl e
-other_read row kind octets Other e v none = inr (inl e)
-other_read row kind octets Mpr e v none = inr (inr (inl (e, flags_octet row.mpr.flooding row.mpr.routing octets (sym (octet_value (hello_line row).mpr) ∙ v))))
-other_read row kind octets AddrType e v none = cc
-other_read row kind octets Gateway e v none = cc
+other_read row kind octets (Octet Local) e v none =
+    absurd (none_not {o = value_of (Octet Local) (hello_line row)} (octet_value (option_map local_value row.local) ∙ ap (λ (o : Option LocalIf). option_map (λ (n : ℕ). n ∷ []) (option_map local_value o)) none) v)
+other_read row kind octets (Octet Link) e v none = inl e
+other_read row kind octets (Octet Other) e v none = inr (inl e)
+other_read row kind octets (Octet Mpr) e v none = inr (inr (inl (e, flags_octet row.mpr.flooding row.mpr.routing octets (sym (octet_value (flags_number row.mpr.flooding row.mpr.routing)) ∙ v))))
+other_read row kind octets (Octet k) e v none = cc
 other_read row kind octets LinkIn e v none = metric_read row Link_in kind octets e v
 other_read row kind octets LinkOut e v none = metric_read row Link_out kind octets e v
 other_read row kind octets NearIn e v none = metric_read row Near_in kind octets e v
 other_read row kind octets NearOut e v none = metric_read row Near_out kind octets e v
 
-no_metric : (row : HelloRow) (k : MetricKind) (octets : List ℕ) → IsAlone row → value_of (column_of k) (hello_line row) ≡ Some octets → ⊥
-no_metric row k octets t v = none_not {o = option_map (metric_octets k) (metric_of k row.metrics)} (ap (λ (x : Metrics). option_map (metric_octets k) (metric_of k x)) t.metrics ∙ nothing k) (sym (metric_value k (hello_line row)) ∙ v)
-  where
-    nothing : (k : MetricKind) → option_map (metric_octets k) (metric_of k (record { link_in = None; link_out = None; near_in = None; near_out = None })) ≡ None
-    nothing Link_in = refl
-    nothing Link_out = refl
-    nothing Near_in = refl
-    nothing Near_out = refl
+sender_read : (addr : NetAddr) (local : Option LocalIf) (kind : ℕ) (octets : List ℕ) (c : AddressTlvKind) → kind ≡ kind_of c → value_of c (hello_line (sender_row addr local)) ≡ Some octets → kind ≡ local_if
+sender_read addr local kind octets (Octet Local) e v = e
+sender_read addr local kind octets c e v = cc
 
 only_local : (row : HelloRow) (kind : ℕ) (octets : List ℕ) (c : AddressTlvKind) → kind ≡ kind_of c → value_of c (hello_line row) ≡ Some octets → IsAlone row → kind ≡ local_if
-only_local row kind octets Local e v t = e
-only_local row kind octets Link e v t = absurd (none_not {o = option_map (λ (n : ℕ). n ∷ []) (option_map link_value row.link)} (ap (λ (o : Option LinkStatus). option_map (λ (n : ℕ). n ∷ []) (option_map link_value o)) t.link) (sym (octet_value (hello_line row).link) ∙ v))
-only_local row kind octets Other e v t = absurd (none_not {o = option_map (λ (n : ℕ). n ∷ []) (option_map other_value row.other)} (ap (λ (o : Option OtherStatus). option_map (λ (n : ℕ). n ∷ []) (option_map other_value o)) t.other) (sym (octet_value (hello_line row).other) ∙ v))
-only_local row kind octets Mpr e v t = absurd (none_not {o = option_map (λ (n : ℕ). n ∷ []) (flags_number row.mpr.flooding row.mpr.routing)} (ap (λ (x : MprFlags). option_map (λ (n : ℕ). n ∷ []) (flags_number x.flooding x.routing)) t.mpr) (sym (octet_value (hello_line row).mpr) ∙ v))
-only_local row kind octets AddrType e v t = cc
-only_local row kind octets Gateway e v t = cc
-only_local row kind octets LinkIn e v t = absurd (no_metric row Link_in octets t v)
-only_local row kind octets LinkOut e v t = absurd (no_metric row Link_out octets t v)
-only_local row kind octets NearIn e v t = absurd (no_metric row Near_in octets t v)
-only_local row kind octets NearOut e v t = absurd (no_metric row Near_out octets t v)
+only_local row kind octets c e v t = sender_read row.addr row.local kind octets c e (subst (λ (r : HelloRow). value_of c (hello_line r) ≡ Some octets) (alone_row row t) v)
 
 -- ---- the rows
 
@@ -144,10 +127,9 @@ module _ (hello : Hello) (values : List ℕ) (m : MessageFields) (h : IsHelloMes
     (up : AllPairs (λ (a b : HelloRow). IsBefore a.addr b.addr) hello.rows) (sender : HaveSenderAlone hello.rows) (is_whole : HaveStatusWhole hello.rows) where
   other_is : (row : HelloRow) → Contains hello.rows row → TellsOther m row
   other_is row there =
-      let l = hello_line row in
-      let flags = flags_said hello_line hello.rows m h.blocks up row there Mpr refl row.mpr.flooding row.mpr.routing (octet_value l.mpr) in record {
-        link = octet_said hello_line hello.rows m h.blocks up row there Link refl (option_map link_value row.link) (octet_value l.link);
-        other = octet_said hello_line hello.rows m h.blocks up row there Other refl (option_map other_value row.other) (octet_value l.other);
+      let flags = flags_said hello_line hello.rows m h.blocks up row there Mpr row.mpr.flooding row.mpr.routing refl in record {
+        link = octet_said hello_line hello.rows m h.blocks up row there Link;
+        other = octet_said hello_line hello.rows m h.blocks up row there Other;
         link_in = metric_said hello_line hello.rows m h.blocks up row there Link_in;
         link_out = metric_said hello_line hello.rows m h.blocks up row there Link_out;
         near_in = metric_said hello_line hello.rows m h.blocks up row there Near_in;
@@ -158,7 +140,7 @@ module _ (hello : Hello) (values : List ℕ) (m : MessageFields) (h : IsHelloMes
 
   row_is : (row : HelloRow) → Contains hello.rows row → IsReadHelloRow m row
   row_is row there = record {
-    local = octet_said hello_line hello.rows m h.blocks up row there Local refl (option_map local_value row.local) (octet_value (hello_line row).local);
+    local = octet_said hello_line hello.rows m h.blocks up row there Local;
     of_other = λ none. other_is row there;
     of_sender = sender row there;
   }
@@ -205,22 +187,22 @@ module _ (hello : Hello) (values : List ℕ) (m : MessageFields) (h : IsHelloMes
 
   status_is : (net : NetAddr) (kind bound : ℕ) → IsStatusBelow kind bound → (octets : List ℕ) → HasValue m net kind octets → StatusIs net bound octets
   status_is net kind bound (inl (k, b)) octets s =
-      let (row, there, of, v) = row_of hello_line hello.rows m h.blocks up Local refl net kind k octets s in
-      let (n, is, below, some) = of_value local_value 2 local_below row.local octets (sym (octet_value (hello_line row).local) ∙ v) in
+      let (row, there, of, v) = row_of hello_line hello.rows m h.blocks up Local net kind k octets s in
+      let (n, is, below, some) = of_value local_value 2 local_below row.local octets v in
       record { row = row; there = there; of = of; octet = n; is = is; below = omega (arith, below, b); shown_is = inl some }
   status_is net kind bound (inr (inl (k, b))) octets s =
-      let (row, there, of, v) = row_of hello_line hello.rows m h.blocks up Link refl net kind k octets s in
-      let (n, is, below, some) = of_value link_value 3 link_below row.link octets (sym (octet_value (hello_line row).link) ∙ v) in
+      let (row, there, of, v) = row_of hello_line hello.rows m h.blocks up Link net kind k octets s in
+      let (n, is, below, some) = of_value link_value 3 link_below row.link octets v in
       record { row = row; there = there; of = of; octet = n; is = is; below = omega (arith, below, b); shown_is = inr (inl some) }
   status_is net kind bound (inr (inr (k, b))) octets s =
-      let (row, there, of, v) = row_of hello_line hello.rows m h.blocks up Other refl net kind k octets s in
-      let (n, is, below, some) = of_value other_value 2 other_below row.other octets (sym (octet_value (hello_line row).other) ∙ v) in
+      let (row, there, of, v) = row_of hello_line hello.rows m h.blocks up Other net kind k octets s in
+      let (n, is, below, some) = of_value other_value 2 other_below row.other octets v in
       record { row = row; there = there; of = of; octet = n; is = is; below = omega (arith, below, b); shown_is = inr (inr some) }
 
   status_once : (net : NetAddr) (kind bound : ℕ) → IsStatusBelow kind bound → HasTwoValues m net kind → ⊥
-  status_once net kind bound (inl (k, b)) two = not_two hello_line hello.rows m h.blocks up Local refl net kind k two
-  status_once net kind bound (inr (inl (k, b))) two = not_two hello_line hello.rows m h.blocks up Link refl net kind k two
-  status_once net kind bound (inr (inr (k, b))) two = not_two hello_line hello.rows m h.blocks up Other refl net kind k two
+  status_once net kind bound (inl (k, b)) two = not_two hello_line hello.rows m h.blocks up Local net kind k two
+  status_once net kind bound (inr (inl (k, b))) two = not_two hello_line hello.rows m h.blocks up Link net kind k two
+  status_once net kind bound (inr (inr (k, b))) two = not_two hello_line hello.rows m h.blocks up Other net kind k two
 
   keeps : Keeps (BreaksHello m)
   keeps n a (AddressWidth wide) = wide h.width
@@ -242,8 +224,8 @@ module _ (hello : Hello) (values : List ℕ) (m : MessageFields) (h : IsHelloMes
 
   no_local : (row : HelloRow) → Contains hello.rows row → row.local ≡ None → HasType m row.addr local_if → ⊥
   no_local row there e (octets, s) =
-      let v = said_of hello_line hello.rows m h.blocks up row there Local refl local_if refl octets s in
-      none_not {o = option_map (λ (n : ℕ). n ∷ []) (option_map local_value row.local)} (ap (λ (o : Option LocalIf). option_map (λ (n : ℕ). n ∷ []) (option_map local_value o)) e) (sym (octet_value (hello_line row).local) ∙ v)
+      none_not {o = option_map (λ (n : ℕ). n ∷ []) (option_map local_value row.local)} (ap (λ (o : Option LocalIf). option_map (λ (n : ℕ). n ∷ []) (option_map local_value o)) e)
+      (said_of hello_line hello.rows m h.blocks up row there Local local_if refl octets s)
 
   part_read : (net : NetAddr) (part : TlvFields) → HasPart m net part → IsReadOfHelloAddress m net part
   part_read net part p =

@@ -1,5 +1,5 @@
 -- Blocks of lines say what the lines say.
-use Rattle.std.proofs.Common.{◌≡◌, ℕ, ◌+◌, ◌-◌, ◌*◌, ◌/◌, ◌%◌, ◌^◌, ◌<◌, ◌≤◌, inl, inr, List, [], ◌∷◌, ◌++◌, length, take, refl, sym, ap, subst, ◌∙◌, arith, length-append}
+use Rattle.std.proofs.Common.{◌≡◌, ℕ, ◌+◌, ◌-◌, ◌*◌, ◌/◌, ◌%◌, ◌^◌, ◌<◌, ◌≤◌, inl, inr, List, [], ◌∷◌, ◌++◌, length, map, take, refl, sym, ap, subst, ◌∙◌, arith, length-append}
 use Rattle.std.specs.Prelude.{slice_get, Contains, Option, Some, None}
 use Rattle.std.specs.Option.{option_map}
 use Rattle.std.specs.List.{flat_map}
@@ -17,13 +17,15 @@ use Rattle.mesh_packet.specs.Fields.{BlockFields, MessageFields}
 use Rattle.mesh_tlv.specs.Fields.{TlvFields, AddrTlvFields}
 use Rattle.mesh_tlv.specs.Least.{least_addr_tlv}
 use Rattle.mesh_wire.specs.declared.lines.AddressTlvKind.{AddressTlvKind}
-use Rattle.mesh_wire.specs.declared.lines.AddressTlvKind.TheVariants.{Local, Link, Other, Mpr, AddrType, Gateway, LinkIn, LinkOut, NearIn, NearOut}
+use Rattle.mesh_wire.specs.declared.lines.AddressTlvKind.TheVariants.{Octet, LinkIn, LinkOut, NearIn, NearOut}
 use Rattle.mesh_wire.specs.declared.lines.AddressRecord.{AddressRecord}
-use Rattle.mesh_wire.specs.Lines.{kind_of, value_of, columns}
+use Rattle.mesh_wire.specs.Lines.{kind_of, value_of, columns, metric_columns}
+use Rattle.mesh_wire.specs.OctetKinds.{kinds}
 use Rattle.mesh_wire.specs.Parts.{octets_of, IsIn, value_at}
 use Rattle.mesh_wire.specs.Rows.{HoldsAddressAt, HoldsAddress, HasPart, HasValue}
 use Rattle.mesh_wire.specs.Runs.{host_octets, raw_of, present, IsColumnTlv, LaysAll, IsBlock, AreBlocks}
-use Rattle.mesh_atoms.proofs.Lists.{contains_at as at_place, place_of, contains_head as at_head, contains_tail as in_tail, contains_cases, contains_none as none_in}
+use Rattle.mesh_wire.proofs.OctetKinds.{each_kind}
+use Rattle.mesh_atoms.proofs.Lists.{contains_at as at_place, contains_map, place_of, contains_head as at_head, contains_tail as in_tail, contains_cases, contains_none as none_in}
 use Rattle.mesh_atoms.proofs.Values.{same_addr}
 use Rattle.mesh_atoms.proofs.Options.{same_some}
 
@@ -52,16 +54,11 @@ in_same net other h = same_net net other (same_addr net.addr other.addr ((is_in 
 -- ---- columns
 
 pub each_column : (c : AddressTlvKind) → Contains columns c
-each_column Local = at_place columns 0 Local refl
-each_column Link = at_place columns 1 Link refl
-each_column Other = at_place columns 2 Other refl
-each_column Mpr = at_place columns 3 Mpr refl
-each_column AddrType = at_place columns 4 AddrType refl
-each_column Gateway = at_place columns 5 Gateway refl
-each_column LinkIn = at_place columns 6 LinkIn refl
-each_column LinkOut = at_place columns 7 LinkOut refl
-each_column NearIn = at_place columns 8 NearIn refl
-each_column NearOut = at_place columns 9 NearOut refl
+each_column (Octet k) = Contains-append_left (map Octet kinds) metric_columns (Octet k) (contains_map Octet kinds k (each_kind k))
+each_column LinkIn = Contains-append_right (map Octet kinds) metric_columns LinkIn (at_place metric_columns 0 LinkIn refl)
+each_column LinkOut = Contains-append_right (map Octet kinds) metric_columns LinkOut (at_place metric_columns 1 LinkOut refl)
+each_column NearIn = Contains-append_right (map Octet kinds) metric_columns NearIn (at_place metric_columns 2 NearIn refl)
+each_column NearOut = Contains-append_right (map Octet kinds) metric_columns NearOut (at_place metric_columns 3 NearOut refl)
 
 pub runs_of_all : (cs : List AddressTlvKind) (lines : List AddressRecord) (tlvs : List AddrTlvFields) → LaysAll cs lines tlvs → (tlv : AddrTlvFields) → Contains tlvs tlv → (c : AddressTlvKind) × IsColumnTlv c lines tlv
 runs_of_all [] lines tlvs h tlv has = absurd (none_in tlv (subst (λ (l : List AddrTlvFields). Contains l tlv) h has))

@@ -38,6 +38,7 @@ mod Kept
 mod LeastAlone
 mod LinesSay
 mod Made
+mod OctetKinds
 mod Ranks
 mod RowsSay
 mod Ruled

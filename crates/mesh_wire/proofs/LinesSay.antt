@@ -10,37 +10,25 @@ use Rattle.mesh_atoms.proofs.Rows.{same_metric}
 use Rattle.mesh_packet.specs.Fields.{MessageFields}
 use Rattle.mesh_packet.proofs.FlagSums.{tells_128, tells_64, tells_32, tells_16}
 use Rattle.mesh_wire.specs.declared.lines.AddressTlvKind.{AddressTlvKind}
-use Rattle.mesh_wire.specs.declared.lines.AddressTlvKind.TheVariants.{Local, Link, Other, Mpr, AddrType, Gateway, LinkIn, LinkOut, NearIn, NearOut}
+use Rattle.mesh_wire.specs.declared.lines.AddressTlvKind.TheVariants.{Octet, LinkIn, LinkOut, NearIn, NearOut}
 use Rattle.mesh_wire.specs.declared.lines.AddressRecord.{AddressRecord}
+use Rattle.mesh_wire.specs.declared.octets.OctetKind.{OctetKind}
 use Rattle.mesh_wire.specs.Kinds.{link_metric}
-use Rattle.mesh_wire.specs.Lines.{kind_of, is_wide, narrow, flagged, value_of, flags_number}
+use Rattle.mesh_wire.specs.Lines.{kind_of, narrow, flagged, value_of, flags_number}
 use Rattle.mesh_wire.specs.Metrics.{MetricKind, Link_in, Link_out, Near_in, Near_out, flag_of, metric_in, ShowsMetric, MetricIs}
+use Rattle.mesh_wire.specs.OctetKinds.{type_of, at}
 use Rattle.mesh_wire.specs.Rows.{HasValue, OctetIs, SaysFlag}
 use Rattle.mesh_wire.specs.Runs.{AreBlocks}
 use Rattle.mesh_wire.proofs.Laid.{said, says}
+use Rattle.mesh_wire.proofs.OctetKinds.{same_type, not_metric}
+use Rattle.mesh_atoms.proofs.Options.{none_not}
 
 -- ---- the one column of a type whose values are octets
 
-of_kind : ℕ → AddressTlvKind
-of_kind n = if n == 2 then Local else if n == 3 then Link else if n == 4 then Other else if n == 8 then Mpr else if n == 9 then AddrType else if n == 10 then Gateway else LinkIn
-
-narrow_told : (c : AddressTlvKind) → is_wide c ≡ false → of_kind (kind_of c) ≡ c
-unfolding of_kind
-narrow_told Local e = refl
-narrow_told Link e = refl
-narrow_told Other e = refl
-narrow_told Mpr e = refl
-narrow_told AddrType e = refl
-narrow_told Gateway e = refl
-narrow_told LinkIn e = cc
-narrow_told LinkOut e = cc
-narrow_told NearIn e = cc
-narrow_told NearOut e = cc
-
-only : (c d : AddressTlvKind) → is_wide c ≡ false → kind_of c ≡ kind_of d → d ≡ c
-only c d narrow_c same =
-    let narrow_d : is_wide d ≡ false = ap (λ (kind : ℕ). kind == link_metric) (sym same) ∙ narrow_c in
-    sym (narrow_told d narrow_d) ∙ ap of_kind (sym same) ∙ narrow_told c narrow_c
+only : (k : OctetKind) (c : AddressTlvKind) → type_of k ≡ kind_of c → c ≡ Octet k
+only k (Octet j) e = ap Octet (sym (same_type k j e))
+only k LinkIn e = absurd (not_metric k e)
+only k c e = absurd (not_metric k e)
 
 -- the value of an octet
 pub octet_value : (o : Option ℕ) → option_map (λ (p : ℕ × ℕ). p.0 ∷ []) (narrow o) ≡ option_map (λ (n : ℕ). n ∷ []) o
@@ -63,18 +51,11 @@ metric_of Near_out m = m.near_out
 
 pub column_kind : (k : MetricKind) → kind_of (column_of k) ≡ link_metric
 column_kind Link_in = refl
-column_kind Link_out = refl
-column_kind Near_in = refl
-column_kind Near_out = refl
+column_kind k = refl
 
 -- a column of that type is one of a kind of metric
 pub metric_column : (c : AddressTlvKind) → link_metric ≡ kind_of c → (k : MetricKind) × (c ≡ column_of k)
-metric_column Local e = absurd (omega arith)
-metric_column Link e = absurd (omega arith)
-metric_column Other e = absurd (omega arith)
-metric_column Mpr e = absurd (omega arith)
-metric_column AddrType e = absurd (omega arith)
-metric_column Gateway e = absurd (omega arith)
+metric_column (Octet kind) e = absurd (not_metric kind (sym e))
 metric_column LinkIn e = (Link_in, refl)
 metric_column LinkOut e = (Link_out, refl)
 metric_column NearIn e = (Near_in, refl)
@@ -141,7 +122,7 @@ metric_again Near_out m = let less = m.in_range in same_metric m _ (omega arith)
 same_two : (a b x y : ℕ) → Some (a ∷ (b ∷ [])) ≡ Some (x ∷ (y ∷ [])) → (a ≡ x) × (b ≡ y)
 same_two a b x y e = (cc, cc)
 
-pub same_one : (a b : ℕ) → Some (a ∷ []) ≡ Some (b ∷ []) → a ≡ b
+same_one : (a b : ℕ) → Some (a ∷ []) ≡ Some (b ∷ []) → a ≡ b
 same_one a b e = cc
 
 -- ---- what is said of the address of a line
@@ -154,33 +135,36 @@ module _ (m : MessageFields) (lines : List AddressRecord) (are : AreBlocks lines
       (c, k, ap (value_of c) (sym same) ∙ v ∙ ap Some (sym is))
 
   -- of a type whose values are octets
-  pub says_only : (c : AddressTlvKind) → is_wide c ≡ false → (octets : List ℕ) → HasValue m line.net (kind_of c) octets → value_of c line ≡ Some octets
-  says_only c narrow octets s =
-      let (d, k, v) = line_says (kind_of c) octets s in
-      subst (λ (x : AddressTlvKind). value_of x line ≡ Some octets) (only c d narrow k) v
+  pub says_only : (k : OctetKind) (octets : List ℕ) → HasValue m line.net (type_of k) octets → option_map (λ (n : ℕ). n ∷ []) (at k line.octets) ≡ Some octets
+  says_only k octets s =
+      let (c, e, v) = line_says (type_of k) octets s in
+      sym (octet_value (at k line.octets)) ∙ subst (λ (x : AddressTlvKind). value_of x line ≡ Some octets) (only k c e) v
 
-  pub octet_is : (c : AddressTlvKind) → is_wide c ≡ false → (o : Option ℕ) → value_of c line ≡ option_map (λ (n : ℕ). n ∷ []) o → OctetIs m line.net (kind_of c) o
-  octet_is c narrow None e = λ octets s. (let f = says_only c narrow octets s in cc)
-  octet_is c narrow (Some n) e = says m lines are line c (n ∷ []) among e
+  octet_from : (k : OctetKind) (o : Option ℕ) → at k line.octets ≡ o → OctetIs m line.net (type_of k) o
+  octet_from k None e = λ octets s. none_not {o = option_map (λ (n : ℕ). n ∷ []) (at k line.octets)} (ap (option_map (λ (n : ℕ). n ∷ [])) e) (says_only k octets s)
+  octet_from k (Some n) e = says m lines are line (Octet k) (n ∷ []) among (octet_value (at k line.octets) ∙ ap (option_map (λ (n : ℕ). n ∷ [])) e)
+
+  pub octet_is : (k : OctetKind) → OctetIs m line.net (type_of k) (at k line.octets)
+  octet_is k = octet_from k (at k line.octets) refl
 
   -- one of two values is said, where the value is known
-  flag_said : (c : AddressTlvKind) → is_wide c ≡ false → (n flag : ℕ) → value_of c line ≡ Some (n ∷ []) → SaysFlag m line.net (kind_of c) flag → (n ≡ flag) ⊎ (n ≡ 3)
-  flag_said c narrow n flag e (inl s) = inl (same_one n flag (sym e ∙ says_only c narrow (flag ∷ []) s))
-  flag_said c narrow n flag e (inr s) = inr (same_one n 3 (sym e ∙ says_only c narrow (3 ∷ []) s))
+  flag_said : (k : OctetKind) (n flag : ℕ) → at k line.octets ≡ Some n → SaysFlag m line.net (type_of k) flag → (n ≡ flag) ⊎ (n ≡ 3)
+  flag_said k n flag e (inl s) = inl (same_one n flag (sym (ap (option_map (λ (i : ℕ). i ∷ [])) e) ∙ says_only k (flag ∷ []) s))
+  flag_said k n flag e (inr s) = inr (same_one n 3 (sym (ap (option_map (λ (i : ℕ). i ∷ [])) e) ∙ says_only k (3 ∷ []) s))
 
-  none_flag : (c : AddressTlvKind) → is_wide c ≡ false → (flag : ℕ) → value_of c line ≡ None → SaysFlag m line.net (kind_of c) flag → ⊥
-  none_flag c narrow flag e (inl s) = let f = says_only c narrow (flag ∷ []) s in cc
-  none_flag c narrow flag e (inr s) = let f = says_only c narrow (3 ∷ []) s in cc
+  none_flag : (k : OctetKind) (flag : ℕ) → at k line.octets ≡ None → SaysFlag m line.net (type_of k) flag → ⊥
+  none_flag k flag e (inl s) = octet_from k None e (flag ∷ []) s
+  none_flag k flag e (inr s) = octet_from k None e (3 ∷ []) s
 
   apart : (n flag : ℕ) → (n ≡ flag → ⊥) → (n ≡ 3 → ⊥) → (n ≡ flag) ⊎ (n ≡ 3) → ⊥
   apart n flag a b (inl e) = a e
   apart n flag a b (inr e) = b e
 
-  pub flags_are : (c : AddressTlvKind) → is_wide c ≡ false → (a b : Bool) → value_of c line ≡ option_map (λ (n : ℕ). n ∷ []) (flags_number a b) → (IsTrue a ↔ SaysFlag m line.net (kind_of c) 1) × (IsTrue b ↔ SaysFlag m line.net (kind_of c) 2)
-  flags_are c narrow false false e = ((λ t. cc, λ s. absurd (none_flag c narrow 1 e s)), (λ t. cc, λ s. absurd (none_flag c narrow 2 e s)))
-  flags_are c narrow true false e = ((λ t. inl (says m lines are line c (1 ∷ []) among e), λ s. refl), (λ t. cc, λ s. absurd (apart 1 2 (λ f. omega (arith, f)) (λ f. omega (arith, f)) (flag_said c narrow 1 2 e s))))
-  flags_are c narrow false true e = ((λ t. cc, λ s. absurd (apart 2 1 (λ f. omega (arith, f)) (λ f. omega (arith, f)) (flag_said c narrow 2 1 e s))), (λ t. inl (says m lines are line c (2 ∷ []) among e), λ s. refl))
-  flags_are c narrow true true e = ((λ t. inr (says m lines are line c (3 ∷ []) among e), λ s. refl), (λ t. inr (says m lines are line c (3 ∷ []) among e), λ s. refl))
+  pub flags_are : (k : OctetKind) (a b : Bool) → at k line.octets ≡ flags_number a b → (IsTrue a ↔ SaysFlag m line.net (type_of k) 1) × (IsTrue b ↔ SaysFlag m line.net (type_of k) 2)
+  flags_are k false false e = ((λ t. cc, λ s. absurd (none_flag k 1 e s)), (λ t. cc, λ s. absurd (none_flag k 2 e s)))
+  flags_are k true false e = ((λ t. inl (octet_from k (Some 1) e), λ s. refl), (λ t. cc, λ s. absurd (apart 1 2 (λ f. omega (arith, f)) (λ f. omega (arith, f)) (flag_said k 1 2 e s))))
+  flags_are k false true e = ((λ t. cc, λ s. absurd (apart 2 1 (λ f. omega (arith, f)) (λ f. omega (arith, f)) (flag_said k 2 1 e s))), (λ t. inl (octet_from k (Some 2) e), λ s. refl))
+  flags_are k true true e = ((λ t. inr (octet_from k (Some 3) e), λ s. refl), (λ t. inr (octet_from k (Some 3) e), λ s. refl))
 
   -- a metric that is said is the line's
   from_metric : (k j : MetricKind) (o : Option Metric) (x y : ℕ) → metric_of k line.metrics ≡ o → option_map (metric_octets k) o ≡ Some (x ∷ (y ∷ [])) → has x (flag_of j) ≡ true → metric_of j line.metrics ≡ Some (metric_in x y)

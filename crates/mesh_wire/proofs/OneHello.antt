@@ -21,6 +21,7 @@ use Rattle.mesh_atoms.specs.Writable.{IsAlone}
 use Rattle.mesh_atoms.proofs.Equal.{same_willing}
 use Rattle.mesh_atoms.proofs.Options.{same_answer}
 use Rattle.mesh_wire.specs.Hello.{local_value, link_value, other_value, HasWilling, WillingIs, TellsOther, IsReadHelloRow, HelloIs}
+use Rattle.mesh_wire.specs.HelloRows.{sender_row}
 use Rattle.mesh_wire.specs.HelloRules.{BreaksHello, TwoValues, WrongMetric}
 use Rattle.mesh_wire.specs.Kinds.{local_if, link_status, other_neighb, IsStatusBelow}
 use Rattle.mesh_packet.specs.Fields.{MessageFields}
@@ -96,6 +97,10 @@ same_row r s a l alike =
     ∙ ap (λ (x : Option OtherStatus). row_of s.addr s.local s.link x r.metrics r.mpr) alike.other
     ∙ ap (λ (x : Metrics). row_of s.addr s.local s.link s.other x r.mpr) alike.metrics
     ∙ ap (λ (x : Mpr). row_of s.addr s.local s.link s.other s.metrics x) alike.mpr
+
+-- a row of the sender's, of which nothing else is said
+pub alone_row : (r : HelloRow) → IsAlone r → r ≡ sender_row r.addr r.local
+alone_row r h = same_row r (sender_row r.addr r.local) refl refl (record { link = h.link; other = h.other; metrics = h.metrics; mpr = h.mpr })
 
 -- ---- what rows of one address say
 

@@ -1,6 +1,6 @@
 -- What a message of lines says of the rows that the lines are of.
 use Rattle.std.proofs.Common.{◌≡◌, ℕ, inl, inr, List, [], ◌∷◌, length, map, refl, sym, ap, subst, ◌∙◌}
-use Rattle.std.specs.Prelude.{◌↔◌, Contains, AllPairs, Option, Some, Bool, false, IsTrue}
+use Rattle.std.specs.Prelude.{◌↔◌, Contains, AllPairs, Some, Bool, IsTrue}
 use Rattle.std.specs.Option.{option_map}
 use Rattle.mesh_atoms.specs.declared.addr.NetAddr.{NetAddr}
 use Rattle.mesh_atoms.specs.declared.codes.metric.Metric.{Metric}
@@ -9,9 +9,11 @@ use Rattle.mesh_packet.specs.Fields.{MessageFields}
 use Rattle.mesh_tlv.specs.Fields.{TlvFields}
 use Rattle.mesh_wire.specs.declared.lines.AddressTlvKind.{AddressTlvKind}
 use Rattle.mesh_wire.specs.declared.lines.AddressRecord.{AddressRecord}
+use Rattle.mesh_wire.specs.declared.octets.OctetKind.{OctetKind}
 use Rattle.mesh_wire.specs.Kinds.{link_metric}
-use Rattle.mesh_wire.specs.Lines.{kind_of, is_wide, value_of, flags_number}
+use Rattle.mesh_wire.specs.Lines.{kind_of, value_of, flags_number}
 use Rattle.mesh_wire.specs.Metrics.{MetricKind, ShowsMetric, MetricIs, HasWrongMetric}
+use Rattle.mesh_wire.specs.OctetKinds.{type_of, at}
 use Rattle.mesh_wire.specs.Parts.{octets_of}
 use Rattle.mesh_wire.specs.Rows.{HoldsAddress, HasPart, HasValue, HasTwoValues, OctetIs, SaysFlag}
 use Rattle.mesh_wire.specs.Runs.{AreBlocks}
@@ -47,24 +49,24 @@ module _ {Row : Type 0} (line_of : Row → AddressRecord) (rows : List Row) (m :
   row_there : (net : NetAddr) (kind : ℕ) (octets : List ℕ) → HasValue m net kind octets → (row : Row) × Contains rows row × ((line_of row).net ≡ net)
   row_there net kind octets (value, part, is) = let (row, c, there, of, k, ext, v) = part_there net (record { kind = kind; ext = 0; value = value }) part in (row, there, of)
 
-  pub said_of : (row : Row) → Contains rows row → (c : AddressTlvKind) → is_wide c ≡ false → (kind : ℕ) → kind ≡ kind_of c → (octets : List ℕ) → HasValue m (line_of row).net kind octets → value_of c (line_of row) ≡ Some octets
-  said_of row there c narrow kind e octets s =
-      says_only m (map line_of rows) are unique (line_of row) (among row there) c narrow octets (subst (λ (k : ℕ). HasValue m (line_of row).net k octets) e s)
+  pub said_of : (row : Row) → Contains rows row → (k : OctetKind) (kind : ℕ) → kind ≡ type_of k → (octets : List ℕ) → HasValue m (line_of row).net kind octets → option_map (λ (n : ℕ). n ∷ []) (at k (line_of row).octets) ≡ Some octets
+  said_of row there k kind e octets s =
+      says_only m (map line_of rows) are unique (line_of row) (among row there) k octets (subst (λ (n : ℕ). HasValue m (line_of row).net n octets) e s)
 
   at_row : (row : Row) (net : NetAddr) → (line_of row).net ≡ net → (kind : ℕ) (octets : List ℕ) → HasValue m net kind octets → HasValue m (line_of row).net kind octets
   at_row row net e kind octets s = subst (λ (n : NetAddr). HasValue m n kind octets) (sym e) s
 
   -- what is said of an address, of a type whose values are octets, is the value of its row
-  pub row_of : (c : AddressTlvKind) → is_wide c ≡ false → (net : NetAddr) (kind : ℕ) → kind ≡ kind_of c → (octets : List ℕ) → HasValue m net kind octets → (row : Row) × Contains rows row × ((line_of row).net ≡ net) × (value_of c (line_of row) ≡ Some octets)
-  row_of c narrow net kind k octets s =
+  pub row_of : (k : OctetKind) (net : NetAddr) (kind : ℕ) → kind ≡ type_of k → (octets : List ℕ) → HasValue m net kind octets → (row : Row) × Contains rows row × ((line_of row).net ≡ net) × (option_map (λ (n : ℕ). n ∷ []) (at k (line_of row).octets) ≡ Some octets)
+  row_of k net kind e octets s =
       let (row, there, of) = row_there net kind octets s in
-      (row, there, of, said_of row there c narrow kind k octets (at_row row net of kind octets s))
+      (row, there, of, said_of row there k kind e octets (at_row row net of kind octets s))
 
   -- it is one
-  pub not_two : (c : AddressTlvKind) → is_wide c ≡ false → (net : NetAddr) (kind : ℕ) → kind ≡ kind_of c → HasTwoValues m net kind → ⊥
-  not_two c narrow net kind k (x, y, s, t, other) =
-      let (row, there, of, v) = row_of c narrow net kind k x s in
-      other (same_some v (said_of row there c narrow kind k y (at_row row net of kind y t)))
+  pub not_two : (k : OctetKind) (net : NetAddr) (kind : ℕ) → kind ≡ type_of k → HasTwoValues m net kind → ⊥
+  not_two k net kind e (x, y, s, t, other) =
+      let (row, there, of, v) = row_of k net kind e x s in
+      other (same_some v (said_of row there k kind e y (at_row row net of kind y t)))
 
   -- one metric of a kind
   one_metric : (row : Row) → Contains rows row → (k : MetricKind) (a b : Metric) → ShowsMetric m (line_of row).net k a → ShowsMetric m (line_of row).net k b → a ≡ b
@@ -84,10 +86,10 @@ module _ {Row : Type 0} (line_of : Row → AddressRecord) (rows : List Row) (m :
   -- ---- what is said of a row
 
   module _ (row : Row) (there : Contains rows row) where
-    pub octet_said : (c : AddressTlvKind) → is_wide c ≡ false → (o : Option ℕ) → value_of c (line_of row) ≡ option_map (λ (n : ℕ). n ∷ []) o → OctetIs m (line_of row).net (kind_of c) o
+    pub octet_said : (k : OctetKind) → OctetIs m (line_of row).net (type_of k) (at k (line_of row).octets)
     octet_said = octet_is m (map line_of rows) are unique (line_of row) (among row there)
 
-    pub flags_said : (c : AddressTlvKind) → is_wide c ≡ false → (a b : Bool) → value_of c (line_of row) ≡ option_map (λ (n : ℕ). n ∷ []) (flags_number a b) → (IsTrue a ↔ SaysFlag m (line_of row).net (kind_of c) 1) × (IsTrue b ↔ SaysFlag m (line_of row).net (kind_of c) 2)
+    pub flags_said : (k : OctetKind) (a b : Bool) → at k (line_of row).octets ≡ flags_number a b → (IsTrue a ↔ SaysFlag m (line_of row).net (type_of k) 1) × (IsTrue b ↔ SaysFlag m (line_of row).net (type_of k) 2)
     flags_said = flags_are m (map line_of rows) are unique (line_of row) (among row there)
 
     pub metric_said : (k : MetricKind) → MetricIs m (line_of row).net k (metric_of k (line_of row).metrics)

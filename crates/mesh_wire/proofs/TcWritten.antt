@@ -16,8 +16,9 @@ use Rattle.mesh_packet.specs.Grammar.{Spells}
 use Rattle.mesh_packet.specs.Least.{IsEncodableMessage, LeastForm}
 use Rattle.mesh_tlv.specs.Fields.{TlvFields}
 use Rattle.mesh_wire.specs.declared.lines.AddressTlvKind.{AddressTlvKind}
-use Rattle.mesh_wire.specs.declared.lines.AddressTlvKind.TheVariants.{Local, Link, Other, Mpr, AddrType, Gateway, LinkIn, LinkOut, NearIn, NearOut}
+use Rattle.mesh_wire.specs.declared.lines.AddressTlvKind.TheVariants.{Octet, NearOut}
 use Rattle.mesh_wire.specs.declared.lines.AddressRecord.{AddressRecord}
+use Rattle.mesh_wire.specs.declared.octets.OctetKind.TheVariants.{AddrType, Gateway}
 use Rattle.mesh_wire.specs.Drafts.{HasTcValues, heading_of, IsTcMessage, FitsAlone}
 use Rattle.mesh_wire.specs.Kinds.{validity_time, nbr_addr_type, gateway, link_metric, cont_seq_num}
 use Rattle.mesh_wire.specs.Lines.{kind_of, value_of, flags_number, tc_line}
@@ -33,7 +34,7 @@ use Rattle.mesh_wire.specs.Writes.{IsSoleMessage, HasFlag, IsReadOfTcAddress, Wr
 use Rattle.mesh_wire.proofs.Fits.{message_fits, HasFewParts, fits_alone}
 use Rattle.mesh_wire.proofs.Headings.{validity_told, interval_is, interval_told, content_is, read_of_tc}
 use Rattle.mesh_wire.proofs.HelloWritten.{bit_most, originator_is, flags_octet, metric_flagged}
-use Rattle.mesh_wire.proofs.LinesSay.{octet_value, metric_value}
+use Rattle.mesh_wire.proofs.LinesSay.{metric_value}
 use Rattle.mesh_wire.proofs.OneTc.{one_tc}
 use Rattle.mesh_wire.proofs.RowLines.{alone_again}
 use Rattle.mesh_wire.proofs.Further.{further}
@@ -42,7 +43,7 @@ use Rattle.mesh_atoms.proofs.Lists.{contains_map_cases as unmapped}
 use Rattle.mesh_atoms.proofs.Options.{none_not}
 
 few_of : (row : TcRow) → HasFewParts (tc_line row)
-few_of row = let l = tc_line row in omega (arith, bit_most (has_part AddrType l), bit_most (has_part Gateway l), bit_most (has_part NearOut l))
+few_of row = let l = tc_line row in omega (arith, bit_most (has_part (Octet AddrType) l), bit_most (has_part (Octet Gateway) l), bit_most (has_part NearOut l))
 
 -- a flag is set where a type is said
 set_of : (a b : Bool) (octets : List ℕ) → option_map (λ (n : ℕ). n ∷ []) (flags_number a b) ≡ Some octets → IsTrue a ⊎ IsTrue b
@@ -56,27 +57,20 @@ distance_octet None octets e = cc
 distance_octet (Some n) octets e = let f : octets ≡ n ∷ [] = cc in ap length f
 
 part_of : (row : TcRow) (kind : ℕ) (octets : List ℕ) (c : AddressTlvKind) → kind ≡ kind_of c → value_of c (tc_line row) ≡ Some octets → (kind ≡ nbr_addr_type) ⊎ ((kind ≡ gateway) ⊎ ((kind ≡ link_metric) × HasFlag Near_out octets))
-part_of row kind octets Local e v = cc
-part_of row kind octets Link e v = cc
-part_of row kind octets Other e v = cc
-part_of row kind octets Mpr e v = cc
-part_of row kind octets AddrType e v = inl e
-part_of row kind octets Gateway e v = inr (inl e)
-part_of row kind octets LinkIn e v = cc
-part_of row kind octets LinkOut e v = cc
-part_of row kind octets NearIn e v = cc
+part_of row kind octets (Octet AddrType) e v = inl e
+part_of row kind octets (Octet Gateway) e v = inr (inl e)
 part_of row kind octets NearOut e v = inr (inr (e, metric_flagged Near_out row.metric octets (sym (metric_value Near_out (tc_line row)) ∙ v)))
+part_of row kind octets c e v = cc
 
 module _ (tc : Tc) (hop_limit : ℕ) (validity values : List ℕ) (m : MessageFields) (h : IsTcMessage tc hop_limit validity (map tc_line tc.rows) values m) (has : HasTcValues tc (map tc_line tc.rows) values)
     (up : AllPairs (λ (a b : TcRow). IsBefore a.dest b.dest) tc.rows) (one_type : AreOneType tc.rows) (is_whole : HaveTypeWhole tc.rows)
     (value : IsTimeValue validity) (near : time_at_distance 1 validity ≡ tc.validity) where
   row_is : (row : TcRow) → Contains tc.rows row → IsReadTcRow m row
   row_is row there =
-      let l = tc_line row in
-      let flags = flags_said tc_line tc.rows m h.blocks up row there AddrType refl row.origin row.routable (octet_value l.addr_type) in record {
+      let flags = flags_said tc_line tc.rows m h.blocks up row there AddrType row.origin row.routable refl in record {
         origin = flags.0;
         routable = flags.1;
-        gateway_is = octet_said tc_line tc.rows m h.blocks up row there Gateway refl row.gateway (octet_value l.gateway);
+        gateway_is = octet_said tc_line tc.rows m h.blocks up row there Gateway;
         metric = metric_said tc_line tc.rows m h.blocks up row there Near_out;
       }
 
@@ -115,20 +109,15 @@ module _ (tc : Tc) (hop_limit : ℕ) (validity values : List ℕ) (m : MessageFi
   -- ---- rules
 
   type_of : (net : NetAddr) (octets : List ℕ) → HasValue m net nbr_addr_type octets → (row : TcRow) × Contains tc.rows row × (row.dest ≡ net) × (option_map (λ (n : ℕ). n ∷ []) (flags_number row.origin row.routable) ≡ Some octets)
-  type_of net octets s =
-      let (row, there, of, v) = row_of tc_line tc.rows m h.blocks up AddrType refl net nbr_addr_type refl octets s in
-      (row, there, of, sym (octet_value (tc_line row).addr_type) ∙ v)
+  type_of net octets s = row_of tc_line tc.rows m h.blocks up AddrType net nbr_addr_type refl octets s
 
   gateway_of : (net : NetAddr) (octets : List ℕ) → HasValue m net gateway octets → (row : TcRow) × Contains tc.rows row × (row.dest ≡ net) × (option_map (λ (n : ℕ). n ∷ []) row.gateway ≡ Some octets)
-  gateway_of net octets s =
-      let (row, there, of, v) = row_of tc_line tc.rows m h.blocks up Gateway refl net gateway refl octets s in
-      (row, there, of, sym (octet_value (tc_line row).gateway) ∙ v)
+  gateway_of net octets s = row_of tc_line tc.rows m h.blocks up Gateway net gateway refl octets s
 
   -- a row with a type has no gateway
   no_gateway : (row : TcRow) → Contains tc.rows row → (octets : List ℕ) → HasValue m row.dest nbr_addr_type octets → row.gateway ≡ None
   no_gateway row there octets s =
-      let v = said_of tc_line tc.rows m h.blocks up row there AddrType refl nbr_addr_type refl octets s in
-      one_type row there (set_of row.origin row.routable octets (sym (octet_value (tc_line row).addr_type) ∙ v))
+      one_type row there (set_of row.origin row.routable octets (said_of tc_line tc.rows m h.blocks up row there AddrType nbr_addr_type refl octets s))
 
   keeps : Keeps (BreaksTc m)
   keeps n a (AddressWidth wide) = wide h.width
@@ -140,14 +129,14 @@ module _ (tc : Tc) (hop_limit : ℕ) (validity values : List ℕ) (m : MessageFi
   keeps n a (AddrTypeRule net (octets, s, wrong)) =
       let (row, there, of, v) = type_of net octets s in
       wrong (flags_octet row.origin row.routable octets v)
-  keeps n a (TwoAddrTypes net two) = not_two tc_line tc.rows m h.blocks up AddrType refl net nbr_addr_type refl two
+  keeps n a (TwoAddrTypes net two) = not_two tc_line tc.rows m h.blocks up AddrType net nbr_addr_type refl two
   keeps n a (ShortPrefix net (octets, s) short) =
       let (row, there, of, v) = type_of net octets s in
       omega (arith, short, is_whole row there (set_of row.origin row.routable octets v), ap (λ (x : NetAddr). x.prefix) of)
   keeps n a (GatewayOctet net (octets, s, other)) =
       let (row, there, of, v) = gateway_of net octets s in
       other (distance_octet row.gateway octets v)
-  keeps n a (TwoGateways net two) = not_two tc_line tc.rows m h.blocks up Gateway refl net gateway refl two
+  keeps n a (TwoGateways net two) = not_two tc_line tc.rows m h.blocks up Gateway net gateway refl two
   keeps n a (Beside net (octets, s) (x, t)) =
       let (row, there, of, v) = gateway_of net octets s in
       let none = no_gateway row there x (subst (λ (p : NetAddr). HasValue m p nbr_addr_type x) (sym of) t) in

@@ -1,7 +1,8 @@
 -- How the row of a HELLO is made of what is kept of its address.
 use Rattle.std.proofs.Common.{zero, suc}
-use Rattle.std.specs.Prelude.{◌≡◌, ℕ, None, IsSome}
+use Rattle.std.specs.Prelude.{◌≡◌, ℕ, Option, None, false, IsSome}
 use Rattle.std.specs.Option.{option_map}
+use Rattle.mesh_atoms.specs.declared.addr.NetAddr.{NetAddr}
 use Rattle.mesh_atoms.specs.declared.hello.LocalIf.{LocalIf}
 use Rattle.mesh_atoms.specs.declared.hello.LocalIf.TheVariants.{This, Other}
 use Rattle.mesh_atoms.specs.declared.hello.LinkStatus.{LinkStatus}
@@ -28,6 +29,17 @@ link_from (suc (suc n)) = link.Heard
 abbrev pub other_from : ℕ → OtherStatus
 other_from zero = other.Lost
 other_from (suc n) = other.Symmetric
+
+-- a row of which nothing is said but whether its address is the sender's
+abbrev pub sender_row : NetAddr → Option LocalIf → HelloRow
+sender_row addr local = record {
+  addr = addr;
+  local = local;
+  link = None;
+  other = None;
+  metrics = record { link_in = None; link_out = None; near_in = None; near_out = None };
+  mpr = record { flooding = false; routing = false };
+}
 
 -- status, metrics and relays as they are kept
 pub record TellsKept (told : AddressParts) (row : HelloRow) : Type 0 where

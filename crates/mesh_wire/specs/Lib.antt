@@ -16,6 +16,7 @@ pub mod Laws
 pub mod Lines
 pub mod Made
 pub mod Metrics
+pub mod OctetKinds
 pub mod Parts
 pub mod Rehop
 pub mod RowRules

@@ -1,32 +1,26 @@
 -- What is written of each address, by what its TLVs may say.
-use Rattle.std.specs.Prelude.{ℕ, ◌+◌, ◌/◌, ◌%◌, List, [], ◌∷◌, Option, Some, None, Bool, true, false, ◌==◌, if◌then◌else◌, unwrap_or}
+use Rattle.std.specs.Prelude.{ℕ, ◌+◌, ◌/◌, ◌%◌, List, [], ◌∷◌, ◌++◌, map, Option, Some, None, Bool, true, false, if◌then◌else◌, unwrap_or}
 use Rattle.std.specs.Option.{option_map}
 use Rattle.std.specs.List.{flat_map}
 use Rattle.mesh_atoms.specs.declared.hello.HelloRow.{HelloRow}
 use Rattle.mesh_atoms.specs.declared.codes.metric.Metric.{Metric}
 use Rattle.mesh_atoms.specs.declared.tc.TcRow.{TcRow}
 use Rattle.mesh_wire.specs.Hello.{local_value, link_value, other_value}
-use Rattle.mesh_wire.specs.Kinds.{local_if, link_status, other_neighb, mpr, nbr_addr_type, gateway, link_metric}
+use Rattle.mesh_wire.specs.Kinds.{link_metric}
 use Rattle.mesh_wire.specs.declared.lines.AddressTlvKind.{AddressTlvKind}
-use Rattle.mesh_wire.specs.declared.lines.AddressTlvKind.TheVariants.{Local, Link, Other, Mpr, AddrType, Gateway, LinkIn, LinkOut, NearIn, NearOut}
+use Rattle.mesh_wire.specs.declared.lines.AddressTlvKind.TheVariants.{Octet, LinkIn, LinkOut, NearIn, NearOut}
 use Rattle.mesh_wire.specs.declared.lines.AddressRecord.{AddressRecord}
+use Rattle.mesh_wire.specs.OctetKinds.{kinds, type_of, at}
 
 -- the type of TLV
 abbrev pub kind_of : AddressTlvKind → ℕ
-kind_of Local = local_if
-kind_of Link = link_status
-kind_of Other = other_neighb
-kind_of Mpr = mpr
-kind_of AddrType = nbr_addr_type
-kind_of Gateway = gateway
-kind_of LinkIn = link_metric
-kind_of LinkOut = link_metric
-kind_of NearIn = link_metric
-kind_of NearOut = link_metric
+kind_of (Octet kind) = type_of kind
+kind_of metric = link_metric
 
 -- whether a value has two octets, as that of a metric, and not one
 abbrev pub is_wide : AddressTlvKind → Bool
-is_wide c = kind_of c == link_metric
+is_wide (Octet kind) = false
+is_wide metric = true
 
 -- how many octets a value has
 abbrev pub width_of : AddressTlvKind → ℕ
@@ -42,12 +36,7 @@ flagged flag metric = option_map (λ (m : Metric). (flag + m.code / 256, m.code 
 
 -- what is said of an address, as two octets, of which a value has the first or both
 abbrev pub octet_pair : AddressTlvKind → AddressRecord → Option (ℕ × ℕ)
-octet_pair Local l = narrow l.local
-octet_pair Link l = narrow l.link
-octet_pair Other l = narrow l.other
-octet_pair Mpr l = narrow l.mpr
-octet_pair AddrType l = narrow l.addr_type
-octet_pair Gateway l = narrow l.gateway
+octet_pair (Octet kind) l = narrow (at kind l.octets)
 octet_pair LinkIn l = flagged 128 l.metrics.link_in
 octet_pair LinkOut l = flagged 64 l.metrics.link_out
 octet_pair NearIn l = flagged 32 l.metrics.near_in
@@ -72,12 +61,14 @@ flags_number true true = Some 3
 abbrev pub hello_line : HelloRow → AddressRecord
 hello_line r = record {
   net = r.addr;
-  local = option_map local_value r.local;
-  link = option_map link_value r.link;
-  other = option_map other_value r.other;
-  mpr = flags_number r.mpr.flooding r.mpr.routing;
-  addr_type = None;
-  gateway = None;
+  octets = record {
+    local = option_map local_value r.local;
+    link = option_map link_value r.link;
+    other = option_map other_value r.other;
+    mpr = flags_number r.mpr.flooding r.mpr.routing;
+    addr_type = None;
+    gateway = None;
+  };
   metrics = r.metrics;
 }
 
@@ -85,18 +76,17 @@ hello_line r = record {
 abbrev pub tc_line : TcRow → AddressRecord
 tc_line r = record {
   net = r.dest;
-  local = None;
-  link = None;
-  other = None;
-  mpr = None;
-  addr_type = flags_number r.origin r.routable;
-  gateway = r.gateway;
+  octets = record { local = None; link = None; other = None; mpr = None; addr_type = flags_number r.origin r.routable; gateway = r.gateway };
   metrics = record { link_in = None; link_out = None; near_in = None; near_out = r.metric };
 }
 
+-- the columns of metrics
+abbrev pub metric_columns : List AddressTlvKind
+metric_columns = LinkIn ∷ (LinkOut ∷ (NearIn ∷ (NearOut ∷ [])))
+
 -- all columns, in the order in which they are written
 abbrev pub columns : List AddressTlvKind
-columns = Local ∷ (Link ∷ (Other ∷ (Mpr ∷ (AddrType ∷ (Gateway ∷ (LinkIn ∷ (LinkOut ∷ (NearIn ∷ (NearOut ∷ [])))))))))
+columns = map Octet kinds ++ metric_columns
 
 -- the octets that are laid for an address: its value, or zeros of that length
 abbrev pub laid : AddressTlvKind → AddressRecord → List ℕ

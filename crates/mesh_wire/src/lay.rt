@@ -2,23 +2,9 @@
 ghost use Rattle.std.specs.Prelude.{◌≡◌, ◌+◌, ◌*◌, ◌++◌, OnOk};
 ghost use Rattle.mesh_wire.specs.Lines.{octets_of, columns, column_text, columns_text};
 
-use crate::lines::{AddressRecord, AddressTlvKind};
+use crate::lines::{AddressRecord, AddressTlvKind, COLUMNS};
 use mesh_atoms::Bytes;
 use std::alloc::AllocError;
-
-/// All columns, in the order in which they are laid and written.
-pub(crate) const COLUMNS: [AddressTlvKind; 10] = [
-    AddressTlvKind::Local,
-    AddressTlvKind::Link,
-    AddressTlvKind::Other,
-    AddressTlvKind::Mpr,
-    AddressTlvKind::AddrType,
-    AddressTlvKind::Gateway,
-    AddressTlvKind::LinkIn,
-    AddressTlvKind::LinkOut,
-    AddressTlvKind::NearIn,
-    AddressTlvKind::NearOut,
-];
 
 // Appends the value of two octets.
 fn put_value(column: AddressTlvKind, pair: (u8, u8), out: &mut Bytes) -> Result<(), AllocError>

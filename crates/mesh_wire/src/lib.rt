@@ -8,6 +8,7 @@ mod hop;
 mod laws;
 mod lay;
 mod lines;
+mod octets;
 mod parts;
 mod rows;
 mod rules;

@@ -4,9 +4,8 @@ ghost use Rattle.std.specs.Option.{option_map};
 ghost use Rattle.mesh_wire.specs.Hello.{local_value, link_value, other_value};
 ghost use Rattle.mesh_wire.specs.Lines.{kind_of, is_wide, width_of, narrow, flagged, octet_pair, flags_number, hello_line, tc_line};
 
-use mesh_atoms::tlv_type::{
-    GATEWAY, LINK_METRIC, LINK_STATUS, LOCAL_IF, MPR, NBR_ADDR_TYPE, OTHER_NEIGHB,
-};
+use crate::octets::{ByKind, OctetKind};
+use mesh_atoms::tlv_type::LINK_METRIC;
 use mesh_atoms::{
     HelloRow, LinkStatus, LocalIf, Metric, Metrics, NetAddr, OtherStatus, Seq, TcRow,
 };
@@ -15,28 +14,32 @@ use std::alloc::{AllocError, Global};
 /// What a TLV may say of an address: its type, and for LINK_METRIC which metric.
 #[derive(Clone, Copy)]
 pub(crate) enum AddressTlvKind {
-    Local,
-    Link,
-    Other,
-    Mpr,
-    AddrType,
-    Gateway,
+    Octet(OctetKind),
     LinkIn,
     LinkOut,
     NearIn,
     NearOut,
 }
 
+/// All columns, in the order in which they are laid and written.
+pub(crate) const COLUMNS: [AddressTlvKind; 10] = [
+    AddressTlvKind::Octet(OctetKind::Local),
+    AddressTlvKind::Octet(OctetKind::Link),
+    AddressTlvKind::Octet(OctetKind::Other),
+    AddressTlvKind::Octet(OctetKind::Mpr),
+    AddressTlvKind::Octet(OctetKind::AddrType),
+    AddressTlvKind::Octet(OctetKind::Gateway),
+    AddressTlvKind::LinkIn,
+    AddressTlvKind::LinkOut,
+    AddressTlvKind::NearIn,
+    AddressTlvKind::NearOut,
+];
+
 /// All that is written of one address.
 #[derive(Clone, Copy)]
 pub(crate) struct AddressRecord {
     pub net: NetAddr,
-    pub local: Option<u8>,
-    pub link: Option<u8>,
-    pub other: Option<u8>,
-    pub mpr: Option<u8>,
-    pub addr_type: Option<u8>,
-    pub gateway: Option<u8>,
+    pub octets: ByKind<Option<u8>>,
     pub metrics: Metrics,
 }
 
@@ -46,16 +49,8 @@ impl AddressTlvKind {
         ensures { result ≡ kind_of self }
     {
         match self {
-            AddressTlvKind::Local => LOCAL_IF,
-            AddressTlvKind::Link => LINK_STATUS,
-            AddressTlvKind::Other => OTHER_NEIGHB,
-            AddressTlvKind::Mpr => MPR,
-            AddressTlvKind::AddrType => NBR_ADDR_TYPE,
-            AddressTlvKind::Gateway => GATEWAY,
-            AddressTlvKind::LinkIn
-            | AddressTlvKind::LinkOut
-            | AddressTlvKind::NearIn
-            | AddressTlvKind::NearOut => LINK_METRIC,
+            AddressTlvKind::Octet(kind) => kind.tlv_type(),
+            _ => LINK_METRIC,
         }
     }
 
@@ -63,7 +58,10 @@ impl AddressTlvKind {
     pub(crate) fn is_wide(self) -> bool
         ensures { result ≡ is_wide self }
     {
-        self.kind() == LINK_METRIC
+        match self {
+            AddressTlvKind::Octet(_) => false,
+            _ => true,
+        }
     }
 }
 
@@ -94,12 +92,7 @@ impl AddressRecord {
         ensures { result ≡ octet_pair column self.now }
     {
         match column {
-            AddressTlvKind::Local => narrow(self.local),
-            AddressTlvKind::Link => narrow(self.link),
-            AddressTlvKind::Other => narrow(self.other),
-            AddressTlvKind::Mpr => narrow(self.mpr),
-            AddressTlvKind::AddrType => narrow(self.addr_type),
-            AddressTlvKind::Gateway => narrow(self.gateway),
+            AddressTlvKind::Octet(kind) => narrow(self.octets.at(kind)),
             AddressTlvKind::LinkIn => flagged(128, self.metrics.link_in),
             AddressTlvKind::LinkOut => flagged(64, self.metrics.link_out),
             AddressTlvKind::NearIn => flagged(32, self.metrics.near_in),
@@ -157,12 +150,14 @@ fn hello_line(row: &HelloRow) -> AddressRecord
 {
     AddressRecord {
         net: row.addr,
-        local: local_value(row.local),
-        link: link_value(row.link),
-        other: other_value(row.other),
-        mpr: flags_number(row.mpr.flooding, row.mpr.routing),
-        addr_type: None,
-        gateway: None,
+        octets: ByKind {
+            local: local_value(row.local),
+            link: link_value(row.link),
+            other: other_value(row.other),
+            mpr: flags_number(row.mpr.flooding, row.mpr.routing),
+            addr_type: None,
+            gateway: None,
+        },
         metrics: row.metrics,
     }
 }
@@ -173,12 +168,14 @@ fn tc_line(row: &TcRow) -> AddressRecord
 {
     AddressRecord {
         net: row.dest,
-        local: None,
-        link: None,
-        other: None,
-        mpr: None,
-        addr_type: flags_number(row.origin, row.routable),
-        gateway: row.gateway,
+        octets: ByKind {
+            local: None,
+            link: None,
+            other: None,
+            mpr: None,
+            addr_type: flags_number(row.origin, row.routable),
+            gateway: row.gateway,
+        },
         metrics: Metrics {
             link_in: None,
             link_out: None,

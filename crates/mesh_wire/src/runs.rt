@@ -5,8 +5,7 @@ ghost use Rattle.mesh_packet.specs.Fields.{fields_of_block};
 ghost use Rattle.mesh_wire.specs.Lines.{columns, column_text, columns_text};
 ghost use Rattle.mesh_wire.specs.Runs.{host_octets, raw_of, leading, have_pair, run_of, Adds, Lays, LaysAll, IsBlock, AreBlocks};
 
-use crate::lay::COLUMNS;
-use crate::lines::{AddressRecord, AddressTlvKind};
+use crate::lines::{AddressRecord, AddressTlvKind, COLUMNS};
 use mesh_addr::{AddrBlock, RawAddr};
 use mesh_atoms::{Addr4, Seq, octets_of_address};
 use mesh_packet::Block;

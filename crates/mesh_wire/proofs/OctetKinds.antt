@@ -1,0 +1,30 @@
+-- Laws of the types of address TLV whose values are one octet, by their list.
+use Rattle.std.proofs.Common.{◌≡◌, ℕ, ◌+◌, ap, ◌∙◌, refl, arith, List, [], ◌∷◌}
+use Rattle.std.specs.Prelude.{Contains, Some, slice_get, ◌==◌, if◌then◌else◌}
+use Rattle.mesh_wire.specs.declared.octets.OctetKind.{OctetKind}
+use Rattle.mesh_wire.specs.declared.octets.OctetKind.TheVariants.{Local}
+use Rattle.mesh_wire.specs.Kinds.{link_metric}
+use Rattle.mesh_wire.specs.OctetKinds.{kinds, type_of}
+use Rattle.mesh_atoms.proofs.Lists.{contains_at}
+use Rattle.mesh_atoms.proofs.Options.{same_some}
+
+-- the place of the first of that number
+place_of : ℕ → List OctetKind → ℕ
+place_of n [] = 0
+place_of n (k ∷ ks) = if n == type_of k then 0 else 1 + place_of n ks
+
+at_place : (k : OctetKind) → slice_get kinds (place_of (type_of k) kinds) ≡ Some k
+unfolding place_of
+at_place Local = refl
+at_place k = refl
+
+pub each_kind : (k : OctetKind) → Contains kinds k
+each_kind k = contains_at kinds (place_of (type_of k) kinds) k (at_place k)
+
+-- each has a number of its own
+pub same_type : (a b : OctetKind) → type_of a ≡ type_of b → a ≡ b
+same_type a b e = same_some (at_place a) (ap (λ (n : ℕ). slice_get kinds (place_of n kinds)) e ∙ at_place b)
+
+pub not_metric : (k : OctetKind) → type_of k ≡ link_metric → ⊥
+not_metric Local e = absurd (omega arith)
+not_metric k e = absurd (omega arith)
