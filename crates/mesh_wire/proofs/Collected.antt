@@ -6,7 +6,7 @@ use Rattle.mesh_atoms.specs.declared.addr.NetAddr.{NetAddr}
 use Rattle.mesh_wire.specs.declared.parts.RowParts.{RowParts}
 use Rattle.mesh_wire.specs.Entries.{Entry, is_of, put_said, collected}
 use Rattle.mesh_wire.specs.KeptParts.{no_parts}
-use Rattle.mesh_wire.proofs.Slots.{IsMore, RowIs, row_more, row_same, row_none}
+use Rattle.mesh_wire.proofs.Slots.{IsMoreOf, RowIs, row_more, row_same, row_none}
 use Rattle.mesh_atoms.proofs.Options.{some_equal}
 
 -- one of the entries is so
@@ -39,7 +39,7 @@ module _ (net : NetAddr) where
   same_said : (p q : ℕ × List ℕ) → Some p ≡ Some q → (q.0 ≡ p.0) × (q.1 ≡ p.1)
   same_said p q e = let f = sym (some_equal p q e) in (ap (λ (r : ℕ × List ℕ). r.0) f, ap (λ (r : ℕ × List ℕ). r.1) f)
 
-  is_more : (e : Entry) (S : ℕ → List ℕ → Type 0) (k : ℕ) (x : List ℕ) → is_of net e ≡ true → e.said ≡ Some (k, x) → IsMore S (With e S) k x
+  is_more : (e : Entry) (S : ℕ → List ℕ → Type 0) (k : ℕ) (x : List ℕ) → is_of net e ≡ true → e.said ≡ Some (k, x) → IsMoreOf S (With e S) k x
   is_more e S k x of is = record {
     split = λ m y u. elim u [ inl s ↦ inl s | inr h ↦ inr (same_said (k, x) (m, y) (subst (λ (o : Option (ℕ × List ℕ)). o ≡ Some (m, y)) is h.1)) ];
     keep = λ m y s. inl s;

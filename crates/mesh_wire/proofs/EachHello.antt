@@ -1,7 +1,6 @@
 -- Each message reads as a HELLO or breaks a first rule of one.
-use Rattle.std.proofs.Common.{◌≡◌, ℕ, ◌<◌, ◌/◌, ◌%◌, inl, inr, refl, sym, ap, arith, List}
-use Rattle.std.specs.Prelude.{Option, Some, None, false}
-use Rattle.std.specs.Option.{option_map}
+use Rattle.std.proofs.Common.{◌≡◌, ℕ, ◌<◌, ◌/◌, ◌%◌, inl, inr, refl, arith, List}
+use Rattle.std.specs.Prelude.{Option, Some, None}
 use Rattle.std.proofs.lemmas.Bool.{cases_eq}
 use Rattle.mesh_atoms.specs.declared.addr.Addr4.{Addr4}
 use Rattle.mesh_atoms.specs.declared.hello.Hello.{Hello}
@@ -9,58 +8,20 @@ use Rattle.mesh_atoms.specs.declared.hello.HelloRow.{HelloRow}
 use Rattle.mesh_atoms.specs.Octets.{address_in}
 use Rattle.mesh_addr.specs.declared.records.RawAddr.{RawAddr}
 use Rattle.mesh_packet.specs.Fields.{MessageFields}
-use Rattle.mesh_wire.specs.declared.collect.AddressParts.{AddressParts}
 use Rattle.mesh_wire.specs.declared.hello.HelloHeader.{HelloHeader}
 use Rattle.mesh_wire.specs.Entries.{of_blocks}
 use Rattle.mesh_wire.specs.Hello.{OriginatorIs, HelloIs}
 use Rattle.mesh_wire.specs.HelloHeading.{HeadingIs}
-use Rattle.mesh_wire.specs.HelloRows.{local_from, link_from, other_from, HelloRowFrom}
+use Rattle.mesh_wire.specs.HelloRows.{hello_row, HelloRowFrom}
 use Rattle.mesh_wire.specs.HelloRules.{BreaksHello, AddressWidth, HopLimit, HopCount, NoValidity, WrongInterval, WrongWilling}
 use Rattle.mesh_wire.specs.Laws.{HasOctets, ReadsOrBreaks}
 use Rattle.mesh_wire.specs.Made.{HasRows}
 use Rattle.mesh_wire.specs.RowRules.{hello_rule}
 use Rattle.mesh_wire.specs.Rules.{Keeps}
-use Rattle.mesh_wire.specs.Singles.{value_from}
 use Rattle.mesh_wire.proofs.Deciding.{other_or, validity_or, interval_or, willing_or, willing_octet}
 use Rattle.mesh_wire.proofs.HelloHeading.{first_number, width_kept, limit_kept, count_kept, validity_kept, interval_kept, willing_kept}
 use Rattle.mesh_wire.proofs.HelloRead.{rule_found, rows_found}
 use Rattle.mesh_wire.proofs.InOrder.{NoneBelow, Decided, Outcome, first_or_none, of_either, of_rows}
-
--- ---- a row of what is kept
-
-row_by : (t : AddressParts) (o : Option ℕ) → value_from t.parts.local.one ≡ o → (r : HelloRow) × HelloRowFrom t r
-row_by t (Some n) e = (
-  record {
-    addr = t.net;
-    local = Some (local_from n);
-    link = None;
-    other = None;
-    metrics = record { link_in = None; link_out = None; near_in = None; near_out = None };
-    mpr = record { flooding = false; routing = false };
-  },
-  record {
-    addr = refl;
-    local = ap (option_map local_from) (sym e);
-    of_other = λ none. absurd (cc);
-    of_sender = λ some. record { link = refl; other = refl; metrics = refl; mpr = refl };
-  },
-)
-row_by t None e = (
-  record {
-    addr = t.net;
-    local = None;
-    link = option_map link_from (value_from t.parts.link.one);
-    other = option_map other_from (value_from t.parts.other.one);
-    metrics = record { link_in = value_from t.parts.link_in; link_out = value_from t.parts.link_out; near_in = value_from t.parts.near_in; near_out = value_from t.parts.near_out };
-    mpr = record { flooding = t.parts.flooding; routing = t.parts.routing };
-  },
-  record {
-    addr = refl;
-    local = ap (option_map local_from) (sym e);
-    of_other = λ none. record { link = refl; other = refl; link_in = refl; link_out = refl; near_in = refl; near_out = refl; flooding = refl; routing = refl };
-    of_sender = λ some. absurd (cc);
-  },
-)
 
 originator_of : (o : Option RawAddr) → (a : Option Addr4) × OriginatorIs o a
 originator_of None = (None, tt)
@@ -70,7 +31,7 @@ originator_of (Some address) = (Some (record { 0 = address_in address.octets }),
 
 module _ (m : MessageFields) (octets : HasOctets m) where
   of_heading : (heading : HelloHeader) → HeadingIs m heading → Outcome (HelloIs m) (BreaksHello m)
-  of_heading heading h = of_rows m HelloRowFrom hello_rule (HelloIs m) (BreaksHello m) (λ t. row_by t (value_from t.parts.local.one) refl) (rule_found m heading h) value
+  of_heading heading h = of_rows m HelloRowFrom hello_rule (HelloIs m) (BreaksHello m) (λ t. (hello_row t, refl)) (rule_found m heading h) value
     where
       value : (rows : List HelloRow) → HasRows HelloRowFrom hello_rule (of_blocks m.blocks) rows → (hello : Hello) × HelloIs m hello × Keeps (BreaksHello m)
       value rows has =

@@ -9,7 +9,6 @@ use Rattle.mesh_atoms.specs.Octets.{address_in}
 use Rattle.mesh_atoms.proofs.Options.{none_not}
 use Rattle.mesh_addr.specs.declared.records.RawAddr.{RawAddr}
 use Rattle.mesh_packet.specs.Fields.{MessageFields}
-use Rattle.mesh_wire.specs.declared.collect.AddressParts.{AddressParts}
 use Rattle.mesh_wire.specs.declared.tc.TcHeader.{TcHeader}
 use Rattle.mesh_wire.specs.Entries.{of_blocks}
 use Rattle.mesh_wire.specs.Hello.{OriginatorIs}
@@ -18,20 +17,13 @@ use Rattle.mesh_wire.specs.Made.{HasRows}
 use Rattle.mesh_wire.specs.RowRules.{tc_rule}
 use Rattle.mesh_wire.specs.Rules.{Keeps}
 use Rattle.mesh_wire.specs.Tc.{TcIs}
-use Rattle.mesh_wire.specs.TcHeading.{TcHeadingIs, TcRowFrom}
+use Rattle.mesh_wire.specs.TcHeading.{TcHeadingIs, tc_row, TcRowFrom}
 use Rattle.mesh_wire.specs.TcRules.{BreaksTc, AddressWidth, NoOriginator, NoSequence, NoValidity, WrongInterval, Content}
 use Rattle.mesh_wire.specs.Times.{distance_of}
-use Rattle.mesh_wire.specs.Singles.{value_from}
 use Rattle.mesh_wire.proofs.Deciding.{validity_or, interval_or, content_or}
 use Rattle.mesh_wire.proofs.InOrder.{NoneBelow, Decided, Outcome, first_or_none, of_either, of_rows}
 use Rattle.mesh_wire.proofs.TcHeading.{first_number, width_kept, header_kept, validity_kept, interval_kept, content_kept, an_originator}
 use Rattle.mesh_wire.proofs.TcRead.{rule_found, rows_found}
-
-row_of : (t : AddressParts) → (r : TcRow) × TcRowFrom t r
-row_of t = (
-  record { dest = t.net; origin = t.parts.origin; routable = t.parts.routable; gateway = value_from t.parts.gateway; metric = value_from t.parts.near_out },
-  record { dest = refl; origin = refl; routable = refl; gateway = refl; metric = refl },
-)
 
 self_of : RawAddr → Addr4
 self_of address = record { 0 = address_in address.octets }
@@ -47,7 +39,7 @@ there_or (Some a) = inl (a, refl)
 
 module _ (m : MessageFields) (octets : HasOctets m) where
   of_heading : (heading : TcHeader) → TcHeadingIs m heading → Outcome (TcIs m) (BreaksTc m)
-  of_heading heading h = of_rows m TcRowFrom tc_rule (TcIs m) (BreaksTc m) row_of (rule_found m heading h) value
+  of_heading heading h = of_rows m TcRowFrom tc_rule (TcIs m) (BreaksTc m) (λ t. (tc_row t, refl)) (rule_found m heading h) value
     where
       value : (rows : List TcRow) → HasRows TcRowFrom tc_rule (of_blocks m.blocks) rows → (tc : Tc) × TcIs m tc × Keeps (BreaksTc m)
       value rows has = let (keeps, true_rows) = rows_found m heading h rows has in (

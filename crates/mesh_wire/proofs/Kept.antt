@@ -1,22 +1,31 @@
 -- What is kept of the addresses of a message.
-use Rattle.std.proofs.Common.{◌≡◌, ℕ, ◌⊎◌, inl, inr, refl, sym, ◌∙◌, subst, arith, true, false, List, [], ◌∷◌, Contains}
-use Rattle.std.specs.Prelude.{Option, Some, None, ◌≢◌}
-use Rattle.std.proofs.lemmas.Bool.{cases_lt}
+use Rattle.std.proofs.Common.{◌≡◌, ℕ, ◌⊎◌, inl, inr, refl, sym, ◌∙◌, ap, subst, Bool, true, false, cond, List, [], ◌∷◌, Contains}
+use Rattle.std.specs.Prelude.{Option, Some, None, ◌≢◌, nat_le, nat_lt}
+use Rattle.std.proofs.lemmas.Bool.{ltb-true, leb-true, lt-ltb, le-leb, and_from as and_both, and_parts as both}
 use Rattle.mesh_atoms.specs.declared.addr.NetAddr.{NetAddr}
+use Rattle.mesh_atoms.specs.declared.codes.metric.Metric.{Metric}
+use Rattle.mesh_atoms.specs.Reading.{has}
+use Rattle.mesh_atoms.proofs.Options.{none_not, some_equal}
 use Rattle.mesh_packet.specs.Fields.{MessageFields}
 use Rattle.mesh_wire.specs.declared.collect.AddressParts.{AddressParts}
 use Rattle.mesh_wire.specs.declared.singles.Single.{Single}
 use Rattle.mesh_wire.specs.declared.singles.Single.TheVariants.{Absent, Value, Conflict}
-use Rattle.mesh_wire.specs.declared.parts.Octets.{Octets}
+use Rattle.mesh_wire.specs.declared.octets.OctetKind.{OctetKind}
+use Rattle.mesh_wire.specs.declared.octets.Octets.{Octets}
+use Rattle.mesh_wire.specs.declared.parts.MetricParts.{MetricParts}
 use Rattle.mesh_wire.specs.declared.parts.RowParts.{RowParts}
 use Rattle.mesh_wire.specs.Collects.{AreCollected}
 use Rattle.mesh_wire.specs.Entries.{of_blocks, collected}
+use Rattle.mesh_wire.specs.KeptParts.{octet_in, shown_in, metric_at}
+use Rattle.mesh_wire.specs.Kinds.{link_metric}
+use Rattle.mesh_wire.specs.Metrics.{MetricKind, flag_of, metric_in, ShowsMetric}
+use Rattle.mesh_wire.specs.OctetKinds.{is_within, is_value}
 use Rattle.mesh_wire.specs.Rows.{HoldsAddress, HasValue, AreRows}
 use Rattle.mesh_wire.specs.Rules.{IsOctet}
-use Rattle.mesh_wire.specs.Singles.{is_conflict, is_said}
+use Rattle.mesh_wire.specs.Singles.{is_conflict, is_said, value_from}
 use Rattle.mesh_wire.proofs.Collected.{AnyOf, At, StandsOf, SaysOf, collected_is}
 use Rattle.mesh_wire.proofs.Entries.{says_of, of_says, has_of, of_has}
-use Rattle.mesh_wire.proofs.Slots.{OneIs, InRange, OctetsAre, RowIs, row_same}
+use Rattle.mesh_wire.proofs.Slots.{OneIs, one_same, Reads, OctetsAre, MetricsAre, RowIs, row_same}
 
 -- ---- what is kept
 
@@ -51,31 +60,7 @@ told_of m rows are net has =
 pub says_has : (m : MessageFields) (net : NetAddr) (k : ℕ) (x : List ℕ) → HasValue m net k x → HoldsAddress m net
 says_has m net k x (value, part, is) = (part.block, part.place, part.address)
 
--- ---- values of one octet
-
-pub octet_or : (low bound : ℕ) (x : List ℕ) → IsOctet low bound x ⊎ (IsOctet low bound x → ⊥)
-octet_or low bound [] = inr (λ i. let e : [] ≡ i.0 ∷ [] = i.1 in cc)
-octet_or low bound (a ∷ b ∷ rest) = inr (λ i. let e : a ∷ b ∷ rest ≡ i.0 ∷ [] = i.1 in cc)
-octet_or low bound (n ∷ []) = elim (cases_lt n low) [
-  | inl below ↦ inr (λ i. let e : n ≡ i.0 = head_of n i.0 i.1 in omega (arith, i.2))
-  | inr up ↦ elim (cases_lt n bound) [
-    | inl down ↦ inl (n, refl, up, down)
-    | inr above ↦ inr (λ i. let e : n ≡ i.0 = head_of n i.0 i.1 in omega (arith, i.3))
-  ]
-]
-  where
-    head_of : (a b : ℕ) → ◌≡◌ {A = List ℕ} (a ∷ []) (b ∷ []) → a ≡ b
-    head_of a b e = cc
-
--- where no value is wrong, each is one octet
-pub right_octet : (S : List ℕ → Type 0) (low bound : ℕ) (o : Octets) → OctetsAre S low bound o → o.wrong ≡ false → (x : List ℕ) → S x → IsOctet low bound x
-right_octet S low bound o h e x s = elim (octet_or low bound x) [
-  | inl i ↦ i
-  | inr bad ↦ absurd (let t : o.wrong ≡ true = h.wrong.1 (x, s, bad) in cc)
-]
-
-pub in_range : (S : List ℕ → Type 0) (low bound : ℕ) (x : List ℕ) → S x → (i : IsOctet low bound x) → InRange S low bound i.0
-in_range S low bound x s i = (subst S i.1 s, i.2, i.3)
+-- ---- of several values
 
 -- two values that differ are a conflict
 pub differ_conflict : {X : Type 0} (T : X → Type 0) (one : Single X) (a b : X) → OneIs T one → T a → T b → a ≢ b → is_conflict one ≡ true
@@ -97,3 +82,87 @@ pub said_one : {X : Type 0} (T : X → Type 0) (one : Single X) → OneIs T one 
 said_one T Absent h e = absurd (cc)
 said_one T (Value n) h e = (n, h.0)
 said_one T Conflict (a, b, x, y, d) e = (a, x)
+
+-- ---- values of one octet
+
+-- an octet is read of one value
+pub octet_back : (kind : OctetKind) (x : List ℕ) (n : ℕ) → octet_in kind x ≡ Some n → (x ≡ n ∷ []) × (is_value kind n ≡ true)
+octet_back kind [] n e = cc
+octet_back kind (a ∷ b ∷ rest) n e = cc
+octet_back kind (a ∷ []) n e = by (is_value kind a) refl e
+  where
+    by : (b : Bool) → is_value kind a ≡ b → cond b (Some a) None ≡ Some n → (a ∷ [] ≡ n ∷ []) × (is_value kind n ≡ true)
+    by true v f = let same = some_equal a n f in (ap (λ (i : ℕ). i ∷ []) same, subst (λ (i : ℕ). is_value kind i ≡ true) same v)
+    by false v f = cc
+
+-- whether a value has an octet in the range
+pub undefined_of : (kind : OctetKind) (low bound : ℕ) → ((n : ℕ) → is_value kind n ≡ is_within low bound n) → (x : List ℕ) → octet_in kind x ≡ None → IsOctet low bound x → ⊥
+undefined_of kind low bound is x e (n, f, up, down) =
+    let v : is_value kind n ≡ true = is n ∙ and_both (nat_le low n) (nat_lt n bound) (le-leb low n up) (lt-ltb n bound down) in
+    none_not (ap (octet_in kind) (sym f) ∙ e) (ap (λ (b : Bool). cond b (Some n) None) v)
+
+pub of_undefined : (kind : OctetKind) (low bound : ℕ) → ((n : ℕ) → is_value kind n ≡ is_within low bound n) → (x : List ℕ) → (IsOctet low bound x → ⊥) → octet_in kind x ≡ None
+of_undefined kind low bound is x bad = by (octet_in kind x) refl
+  where
+    by : (o : Option ℕ) → octet_in kind x ≡ o → octet_in kind x ≡ None
+    by None e = e
+    by (Some n) e =
+        let (f, v) = octet_back kind x n e in
+        let p = both (nat_le low n) (nat_lt n bound) (sym (is n) ∙ v) in
+        absurd (bad (n, f, leb-true low n p.0, ltb-true n bound p.1))
+
+module _ (kind : OctetKind) (S : List ℕ → Type 0) (o : Octets) (h : OctetsAre kind S o) where
+  -- a value is wrong, or its octet is read
+  pub read_or : (x : List ℕ) → S x → (o.wrong ≡ true) ⊎ ((n : ℕ) × (octet_in kind x ≡ Some n))
+  read_or x s = by (octet_in kind x) refl
+    where
+      by : (p : Option ℕ) → octet_in kind x ≡ p → (o.wrong ≡ true) ⊎ ((n : ℕ) × (octet_in kind x ≡ Some n))
+      by None e = inl (h.wrong.1 (x, s, e))
+      by (Some n) e = inr (n, e)
+
+  -- one is wrong, or it is kept that there is one
+  pub said_found : (x : List ℕ) → S x → (o.wrong ≡ true) ⊎ (is_said o.one ≡ true)
+  said_found x s = elim (read_or x s) [ inl w ↦ inl w | inr (n, e) ↦ inr (one_said (Reads (octet_in kind) S) o.one n h.one (x, s, e)) ]
+
+  pub type_said : is_said o.one ≡ true → (x : List ℕ) × S x
+  type_said e = let (n, (x, s, is)) = said_one (Reads (octet_in kind) S) o.one h.one e in (x, s)
+
+  -- one is wrong, or it is kept that there are two
+  pub two_found : (x y : List ℕ) → S x → S y → x ≢ y → (o.wrong ≡ true) ⊎ (is_conflict o.one ≡ true)
+  two_found x y s t d = elim (read_or x s) [
+    | inl w ↦ inl w
+    | inr (i, e) ↦ elim (read_or y t) [
+      | inl w ↦ inl w
+      | inr (j, f) ↦ inr (differ_conflict (Reads (octet_in kind) S) o.one i j h.one (x, s, e) (y, t, f) (λ same. d ((octet_back kind x i e).0 ∙ ap (λ (n : ℕ). n ∷ []) same ∙ sym (octet_back kind y j f).0)))
+    ]
+  ]
+
+  pub two_said : is_conflict o.one ≡ true → (x : List ℕ) × (y : List ℕ) × S x × S y × (x ≢ y)
+  two_said e =
+      let (a, b, (x, s, is_a), (y, t, is_b), d) = conflict_differ (Reads (octet_in kind) S) o.one h.one e in
+      (x, y, s, t, λ same. d (some_equal a b (sym is_a ∙ ap (octet_in kind) same ∙ is_b)))
+
+  -- an octet that is kept is a value of the type
+  pub kept_value : (n : ℕ) → value_from o.one ≡ Some n → is_value kind n ≡ true
+  kept_value = by o.one h.one
+    where
+      by : (one : Single ℕ) → OneIs (Reads (octet_in kind) S) one → (n : ℕ) → value_from one ≡ Some n → is_value kind n ≡ true
+      by Absent g n e = cc
+      by (Value k) ((x, s, is), only) n e = subst (λ (i : ℕ). is_value kind i ≡ true) (some_equal k n e) (octet_back kind x k is).1
+      by Conflict g n e = cc
+
+-- ---- metrics
+
+-- the metrics of a kind that are shown
+pub metrics_told : (m : MessageFields) (net : NetAddr) (parts : MetricParts) → MetricsAre (HasValue m net link_metric) parts → (kind : MetricKind) → OneIs (ShowsMetric m net kind) (metric_at kind parts)
+metrics_told m net parts h kind = one_same (Reads (shown_in (flag_of kind)) (HasValue m net link_metric)) (ShowsMetric m net kind) (metric_at kind parts)
+    (λ metric (high, low, s, on, is). (high ∷ low ∷ [], s, ap (λ (b : Bool). cond b (Some (metric_in high low)) None) on ∙ ap Some (sym is)))
+    (λ metric (x, s, e). shown x metric s e) (h.each kind)
+  where
+    by : (high low : ℕ) (metric : Metric) → HasValue m net link_metric (high ∷ low ∷ []) → (b : Bool) → has high (flag_of kind) ≡ b → cond b (Some (metric_in high low)) None ≡ Some metric → ShowsMetric m net kind metric
+    by high low metric s true on e = (high, low, s, on, sym (some_equal (metric_in high low) metric e))
+    by high low metric s false on e = cc
+
+    shown : (x : List ℕ) (metric : Metric) → HasValue m net link_metric x → shown_in (flag_of kind) x ≡ Some metric → ShowsMetric m net kind metric
+    shown (high ∷ low ∷ []) metric s e = by high low metric s (has high (flag_of kind)) refl e
+    shown x metric s e = cc

@@ -23,6 +23,7 @@ mod EachTc
 mod Entries
 mod Examples
 mod ExamplesTc
+mod FirstTest
 mod Fits
 pub mod Further
 mod Gathered

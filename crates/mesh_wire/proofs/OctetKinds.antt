@@ -4,7 +4,7 @@ use Rattle.std.specs.Prelude.{Contains, Some, slice_get, ◌==◌, if◌then◌e
 use Rattle.mesh_wire.specs.declared.octets.OctetKind.{OctetKind}
 use Rattle.mesh_wire.specs.declared.octets.OctetKind.TheVariants.{Local}
 use Rattle.mesh_wire.specs.Kinds.{link_metric}
-use Rattle.mesh_wire.specs.OctetKinds.{kinds, type_of}
+use Rattle.mesh_wire.specs.OctetKinds.{kinds, type_of, at, by_kind}
 use Rattle.mesh_atoms.proofs.Lists.{contains_at}
 use Rattle.mesh_atoms.proofs.Options.{same_some}
 
@@ -28,3 +28,7 @@ same_type a b e = same_some (at_place a) (ap (λ (n : ℕ). slice_get kinds (pla
 pub not_metric : (k : OctetKind) → type_of k ≡ link_metric → ⊥
 not_metric Local e = absurd (omega arith)
 not_metric k e = absurd (omega arith)
+
+pub at_by_kind : {T : Type 0} (f : OctetKind → T) (k : OctetKind) → at k (by_kind f) ≡ f k
+at_by_kind f Local = refl
+at_by_kind f k = refl

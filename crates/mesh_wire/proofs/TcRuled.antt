@@ -1,193 +1,137 @@
 -- The rules on the addresses of a TC, by tests of what is kept.
-use Rattle.std.proofs.Common.{◌≡◌, ℕ, ◌<◌, ◌≤◌, ◌⊎◌, inl, inr, refl, sym, ◌∙◌, ap, subst, arith, Bool, true, false, cond, List, [], ◌∷◌, Contains, lit≤}
-use Rattle.std.specs.Prelude.{◌||◌, ◌&&◌, Option, Some, None, nat_lt}
-use Rattle.std.proofs.lemmas.Bool.{cases_Bool, ltb-true, lt-ltb, and_parts as both, or_parts, or_cases, or_left, or_right, and_from as and_both}
+use Rattle.std.proofs.Common.{◌≡◌, ℕ, ◌<◌, ◌≤◌, inl, inr, refl, sym, ap, arith, Bool, true, List, [], ◌∷◌, Contains, lit≤, length}
+use Rattle.std.specs.Prelude.{◌||◌, ◌&&◌, ◌≢◌, Option, Some, None, nat_lt, slice_get}
+use Rattle.std.proofs.lemmas.Bool.{ltb-true, lt-ltb, and_parts as both, or_parts, or_cases, or_left, or_right, and_from as and_both}
 use Rattle.mesh_atoms.specs.declared.addr.NetAddr.{NetAddr}
-use Rattle.mesh_atoms.proofs.Lists.{single_of}
+use Rattle.mesh_atoms.proofs.Lists.{contains_at}
 use Rattle.mesh_packet.specs.Fields.{MessageFields}
 use Rattle.mesh_wire.specs.declared.collect.AddressParts.{AddressParts}
+use Rattle.mesh_wire.specs.declared.octets.OctetKind.TheVariants as kinds
+use Rattle.mesh_wire.specs.declared.octets.Octets.{Octets}
 use Rattle.mesh_wire.specs.declared.parts.RowParts.{RowParts}
-use Rattle.mesh_wire.specs.RowRules.{has_wrong_type, has_wrong_gateway, has_wrong_metric, tc_rule}
+use Rattle.mesh_wire.specs.KeptParts.{octet_in}
+use Rattle.mesh_wire.specs.RowRules.{has_wrong_type, has_wrong_gateway, has_wrong_metric, tc_tests, tc_rule}
 use Rattle.mesh_wire.specs.Kinds.{nbr_addr_type, gateway}
-use Rattle.mesh_wire.specs.Rows.{HasValue, HasType, HasTwoValues}
-use Rattle.mesh_wire.specs.Rules.{HasUndefined, IsOctet}
+use Rattle.mesh_wire.specs.Metrics.{Near_out}
+use Rattle.mesh_wire.specs.Rows.{HasValue}
 use Rattle.mesh_wire.specs.TcRules.{BreaksTc, AddressWidth, NoOriginator, NoSequence, NoValidity, WrongInterval, Content, AddrType, TwoAddrTypes, ShortPrefix, GatewayOctet, TwoGateways, Beside, WrongMetric}
 use Rattle.mesh_wire.specs.Singles.{is_conflict, is_said}
-use Rattle.mesh_wire.proofs.HelloRuled.{wrong_metric, metric_wrong, wrong_metric_has}
-use Rattle.mesh_wire.proofs.Kept.{AreTold, told_of, says_has, right_octet, in_range, differ_conflict, conflict_differ, one_said, said_one}
+use Rattle.mesh_wire.proofs.FirstTest.{AtMost, given, failed, at_most, at_most_more}
+use Rattle.mesh_wire.proofs.HelloRuled.{wrong_metric, metric_wrong, right_metric, wrong_metric_has}
+use Rattle.mesh_wire.proofs.Kept.{AreTold, told_of, says_has, undefined_of, of_undefined, said_found, type_said, two_found, two_said}
 use Rattle.mesh_wire.proofs.Ruled.{Decides, Reaches}
-use Rattle.mesh_wire.proofs.Slots.{InRange, Octet, RowIs, same_octet as head_of}
-use Rattle.mesh_wire.proofs.TcRows.{IsSound, right_length}
+use Rattle.mesh_wire.proofs.Slots.{RowIs}
+use Rattle.mesh_wire.proofs.TcRows.{IsSound}
 
--- ---- the type of an address
+-- ---- a value that isn't one octet
 
-type_broken : (m : MessageFields) (net : NetAddr) (r : RowParts) → RowIs (HasValue m net) r → has_wrong_type net.prefix r ≡ true → BreaksTc m 37 (Some net)
-type_broken m net r h e = elim (or_cases r.addr_type.wrong (is_conflict r.addr_type.one || (nat_lt net.prefix 32 && is_said r.addr_type.one)) e) [
-  | inl w ↦ AddrType net (h.addr_type.wrong.0 w)
-  | inr rest ↦ elim (or_cases (is_conflict r.addr_type.one) (nat_lt net.prefix 32 && is_said r.addr_type.one) rest) [
-    | inl two ↦ let (a, b, x, y, d) = conflict_differ (InRange (HasValue m net nbr_addr_type) 1 4) r.addr_type.one h.addr_type.one two in TwoAddrTypes net (a ∷ [], b ∷ [], x.0, y.0, λ same. d (head_of a b same))
-    | inr short ↦
-        let p = both (nat_lt net.prefix 32) (is_said r.addr_type.one) short in
-        let (a, x) = said_one (InRange (HasValue m net nbr_addr_type) 1 4) r.addr_type.one h.addr_type.one p.1 in
-        ShortPrefix net (a ∷ [], x.0) (ltb-true net.prefix 32 p.0)
-  ]
-]
+length_other : (x : List ℕ) → octet_in kinds.Gateway x ≡ None → length x ≢ 1
+length_other [] e f = omega (arith, f)
+length_other (n ∷ []) e f = cc
+length_other (a ∷ b ∷ rest) e f = omega (arith, f)
 
--- a value is wrong, or it is kept
-type_said : (m : MessageFields) (net : NetAddr) (r : RowParts) → RowIs (HasValue m net) r → (x : List ℕ) → HasValue m net nbr_addr_type x → (r.addr_type.wrong ≡ true) ⊎ ((r.addr_type.wrong ≡ false) × IsOctet 1 4 x)
-type_said m net r h x said = elim (cases_Bool r.addr_type.wrong) [
-  | inl w ↦ inl w
-  | inr n ↦ inr (n, right_octet (HasValue m net nbr_addr_type) 1 4 r.addr_type h.addr_type n x said)
-]
+other_length : (x : List ℕ) → length x ≢ 1 → octet_in kinds.Gateway x ≡ None
+other_length [] d = refl
+other_length (n ∷ []) d = absurd (d refl)
+other_length (a ∷ b ∷ rest) d = refl
 
-module _ (m : MessageFields) (net : NetAddr) (prefix : ℕ) (same : prefix ≡ net.prefix) (r : RowParts) (h : RowIs (HasValue m net) r) where
-  abbrev short : Bool
-  short = nat_lt prefix 32 && is_said r.addr_type.one
-
-  wrong_is : r.addr_type.wrong ≡ true → has_wrong_type prefix r ≡ true
-  wrong_is w = or_left r.addr_type.wrong (is_conflict r.addr_type.one || short) w
-
-  undefined_type : HasUndefined m net nbr_addr_type 1 4 → has_wrong_type prefix r ≡ true
-  undefined_type u = wrong_is (h.addr_type.wrong.1 u)
-
-  two_types : HasTwoValues m net nbr_addr_type → has_wrong_type prefix r ≡ true
-  two_types (x, y, said_x, said_y, d) = elim (type_said m net r h x said_x) [
-    | inl w ↦ wrong_is w
-    | inr (n, i) ↦
-        let j = right_octet (HasValue m net nbr_addr_type) 1 4 r.addr_type h.addr_type n y said_y in
-        or_right r.addr_type.wrong (is_conflict r.addr_type.one || short) (or_left (is_conflict r.addr_type.one) short
-        (differ_conflict (InRange (HasValue m net nbr_addr_type) 1 4) r.addr_type.one i.0 j.0 h.addr_type.one (in_range (HasValue m net nbr_addr_type) 1 4 x said_x i) (in_range (HasValue m net nbr_addr_type) 1 4 y said_y j)
-        (λ e. d (i.1 ∙ ap (λ (k : ℕ). k ∷ []) e ∙ sym j.1))))
-  ]
-
-  short_type : HasType m net nbr_addr_type → net.prefix < 32 → has_wrong_type prefix r ≡ true
-  short_type (x, said) lt = elim (type_said m net r h x said) [
-    | inl w ↦ wrong_is w
-    | inr (n, i) ↦ or_right r.addr_type.wrong (is_conflict r.addr_type.one || short) (or_right (is_conflict r.addr_type.one) short
-        (and_both (nat_lt prefix 32) (is_said r.addr_type.one) (lt-ltb prefix 32 (omega (arith, same, lt))) (one_said (InRange (HasValue m net nbr_addr_type) 1 4) r.addr_type.one i.0 h.addr_type.one (in_range (HasValue m net nbr_addr_type) 1 4 x said i))))
-  ]
-
--- ---- the gateway
-
-gateway_broken : (m : MessageFields) (net : NetAddr) (r : RowParts) → RowIs (HasValue m net) r → has_wrong_gateway r ≡ true → BreaksTc m 38 (Some net)
-gateway_broken m net r h e = elim (or_cases r.wrong_gateway (is_conflict r.gateway || (is_said r.gateway && is_said r.addr_type.one)) e) [
-  | inl w ↦ GatewayOctet net (h.wrong_gateway.0 w)
-  | inr rest ↦ elim (or_cases (is_conflict r.gateway) (is_said r.gateway && is_said r.addr_type.one) rest) [
-    | inl two ↦ let (o, p, x, y, d) = conflict_differ (Octet (HasValue m net gateway)) r.gateway h.gateway two in TwoGateways net (o ∷ [], p ∷ [], x, y, λ same. d (head_of o p same))
-    | inr beside ↦
-        let p = both (is_said r.gateway) (is_said r.addr_type.one) beside in
-        let (o, x) = said_one (Octet (HasValue m net gateway)) r.gateway h.gateway p.0 in
-        let (b, y) = said_one (InRange (HasValue m net nbr_addr_type) 1 4) r.addr_type.one h.addr_type.one p.1 in
-        Beside net (o ∷ [], x) (b ∷ [], y.0)
-  ]
-]
-
--- a value is of another length, or it is kept
-gateway_said : (m : MessageFields) (net : NetAddr) (r : RowParts) → RowIs (HasValue m net) r → (x : List ℕ) → HasValue m net gateway x → (r.wrong_gateway ≡ true) ⊎ ((r.wrong_gateway ≡ false) × ((n : ℕ) × (x ≡ n ∷ [])))
-gateway_said m net r h x said = elim (cases_Bool r.wrong_gateway) [
-  | inl w ↦ inl w
-  | inr n ↦ inr (n, single_of x (right_length (HasValue m net gateway) 1 r.wrong_gateway h.wrong_gateway n x said))
-]
+-- ---- what a row has that breaks a rule
 
 module _ (m : MessageFields) (net : NetAddr) (r : RowParts) (h : RowIs (HasValue m net) r) where
+  abbrev type : Octets
+  type = r.octets.addr_type
+
+  abbrev distance : Octets
+  distance = r.octets.gateway
+
+  abbrev typed : List ℕ → Type 0
+  typed = HasValue m net nbr_addr_type
+
+  abbrev distant : List ℕ → Type 0
+  distant = HasValue m net gateway
+
+  type_broken : has_wrong_type net.prefix r ≡ true → BreaksTc m 37 (Some net)
+  type_broken e = elim (or_cases type.wrong (is_conflict type.one || (nat_lt net.prefix 32 && is_said type.one)) e) [
+    | inl w ↦ let (x, said, none) = (h.octets kinds.AddrType).wrong.0 w in AddrType net (x, said, undefined_of kinds.AddrType 1 4 (λ n. refl) x none)
+    | inr rest ↦ elim (or_cases (is_conflict type.one) (nat_lt net.prefix 32 && is_said type.one) rest) [
+      | inl two ↦ TwoAddrTypes net (two_said kinds.AddrType typed type (h.octets kinds.AddrType) two)
+      | inr short ↦
+          let p = both (nat_lt net.prefix 32) (is_said type.one) short in
+          ShortPrefix net (type_said kinds.AddrType typed type (h.octets kinds.AddrType) p.1) (ltb-true net.prefix 32 p.0)
+    ]
+  ]
+
+  gateway_broken : has_wrong_gateway r ≡ true → BreaksTc m 38 (Some net)
+  gateway_broken e = elim (or_cases distance.wrong (is_conflict distance.one || (is_said distance.one && is_said type.one)) e) [
+    | inl w ↦ let (x, said, none) = (h.octets kinds.Gateway).wrong.0 w in GatewayOctet net (x, said, length_other x none)
+    | inr rest ↦ elim (or_cases (is_conflict distance.one) (is_said distance.one && is_said type.one) rest) [
+      | inl two ↦ TwoGateways net (two_said kinds.Gateway distant distance (h.octets kinds.Gateway) two)
+      | inr beside ↦
+          let p = both (is_said distance.one) (is_said type.one) beside in
+          Beside net (type_said kinds.Gateway distant distance (h.octets kinds.Gateway) p.0) (type_said kinds.AddrType typed type (h.octets kinds.AddrType) p.1)
+    ]
+  ]
+
+module _ (prefix : ℕ) (r : RowParts) where
+  abbrev short : Bool
+  short = nat_lt prefix 32 && is_said r.octets.addr_type.one
+
   abbrev beside : Bool
-  beside = is_said r.gateway && is_said r.addr_type.one
+  beside = is_said r.octets.gateway.one && is_said r.octets.addr_type.one
 
-  other_is : r.wrong_gateway ≡ true → has_wrong_gateway r ≡ true
-  other_is w = or_left r.wrong_gateway (is_conflict r.gateway || beside) w
+  no_type : r.octets.addr_type.wrong ≡ true → has_wrong_type prefix r ≡ true
+  no_type w = or_left r.octets.addr_type.wrong (is_conflict r.octets.addr_type.one || short) w
 
-  two_gateways : HasTwoValues m net gateway → has_wrong_gateway r ≡ true
-  two_gateways (x, y, said_x, said_y, d) = elim (gateway_said m net r h x said_x) [
-    | inl w ↦ other_is w
-    | inr (f, (n, is_n)) ↦
-        let (k, is_k) = single_of y (right_length (HasValue m net gateway) 1 r.wrong_gateway h.wrong_gateway f y said_y) in
-        or_right r.wrong_gateway (is_conflict r.gateway || beside) (or_left (is_conflict r.gateway) beside
-        (differ_conflict (Octet (HasValue m net gateway)) r.gateway n k h.gateway (subst (HasValue m net gateway) is_n said_x) (subst (HasValue m net gateway) is_k said_y)
-        (λ e. d (is_n ∙ ap (λ (j : ℕ). j ∷ []) e ∙ sym is_k))))
-  ]
+  two_types : is_conflict r.octets.addr_type.one ≡ true → has_wrong_type prefix r ≡ true
+  two_types c = or_right r.octets.addr_type.wrong (is_conflict r.octets.addr_type.one || short) (or_left (is_conflict r.octets.addr_type.one) short c)
 
-  beside_type : r.addr_type.wrong ≡ false → HasType m net gateway → HasType m net nbr_addr_type → has_wrong_gateway r ≡ true
-  beside_type right (x, said) (y, typed) = elim (gateway_said m net r h x said) [
-    | inl w ↦ other_is w
-    | inr (f, (n, is)) ↦
-        let i = right_octet (HasValue m net nbr_addr_type) 1 4 r.addr_type h.addr_type right y typed in
-        or_right r.wrong_gateway (is_conflict r.gateway || beside) (or_right (is_conflict r.gateway) beside
-        (and_both (is_said r.gateway) (is_said r.addr_type.one) (one_said (Octet (HasValue m net gateway)) r.gateway n h.gateway (subst (HasValue m net gateway) is said))
-        (one_said (InRange (HasValue m net nbr_addr_type) 1 4) r.addr_type.one i.0 h.addr_type.one (in_range (HasValue m net nbr_addr_type) 1 4 y typed i))))
-  ]
+  short_type : prefix < 32 → is_said r.octets.addr_type.one ≡ true → has_wrong_type prefix r ≡ true
+  short_type lt s = or_right r.octets.addr_type.wrong (is_conflict r.octets.addr_type.one || short) (or_right (is_conflict r.octets.addr_type.one) short (and_both (nat_lt prefix 32) (is_said r.octets.addr_type.one) (lt-ltb prefix 32 lt) s))
 
--- ---- the first of three tests that is passed
+  no_octet : r.octets.gateway.wrong ≡ true → has_wrong_gateway r ≡ true
+  no_octet w = or_left r.octets.gateway.wrong (is_conflict r.octets.gateway.one || beside) w
 
-abbrev chosen : Bool → Bool → Bool → Option ℕ
-chosen a b c = cond a (Some 37) (cond b (Some 38) (cond c (Some 39) None))
+  two_gateways : is_conflict r.octets.gateway.one ≡ true → has_wrong_gateway r ≡ true
+  two_gateways c = or_right r.octets.gateway.wrong (is_conflict r.octets.gateway.one || beside) (or_left (is_conflict r.octets.gateway.one) beside c)
 
--- a rule of that number or of a lower one
-abbrev AtMost : Option ℕ → ℕ → Type 0
-AtMost o k = (n : ℕ) × (o ≡ Some n) × (n ≤ k)
-
-first_passed : (a b c : Bool) → a ≡ true → AtMost (chosen a b c) 37
-first_passed true b c e = (37, refl, lit≤ tt)
-first_passed false b c e = absurd (cc)
-
-second_passed : (a b c : Bool) → b ≡ true → AtMost (chosen a b c) 38
-second_passed true b c e = (37, refl, lit≤ tt)
-second_passed false true c e = (38, refl, lit≤ tt)
-second_passed false false c e = absurd (cc)
-
-third_passed : (a b c : Bool) → c ≡ true → AtMost (chosen a b c) 39
-third_passed true b c e = (37, refl, lit≤ tt)
-third_passed false true c e = (38, refl, lit≤ tt)
-third_passed false false true e = (39, refl, lit≤ tt)
-third_passed false false false e = absurd (cc)
-
-passed : (P : ℕ → Type 0) (a b c : Bool) (n : ℕ) → chosen a b c ≡ Some n → (a ≡ true → P 37) → (b ≡ true → P 38) → (c ≡ true → P 39) → P n
-passed P true b c n e f g h = subst P (let s : 37 ≡ n = cc in s) (f refl)
-passed P false true c n e f g h = subst P (let s : 38 ≡ n = cc in s) (g refl)
-passed P false false true n e f g h = subst P (let s : 39 ≡ n = cc in s) (h refl)
-passed P false false false n e f g h = absurd (cc)
-
-none_passed : (a b c : Bool) → chosen a b c ≡ None → (b ≡ false) × (c ≡ false)
-none_passed true b c e = cc
-none_passed false true c e = cc
-none_passed false false true e = cc
-none_passed false false false e = (refl, refl)
-
-abbrev typed : AddressParts → Bool
-typed t = has_wrong_type t.net.prefix t.parts
+  both_said : is_said r.octets.gateway.one ≡ true → is_said r.octets.addr_type.one ≡ true → has_wrong_gateway r ≡ true
+  both_said s t = or_right r.octets.gateway.wrong (is_conflict r.octets.gateway.one || beside) (or_right (is_conflict r.octets.gateway.one) beside (and_both (is_said r.octets.gateway.one) (is_said r.octets.addr_type.one) s t))
 
 pub sound_of : (t : AddressParts) → tc_rule t ≡ None → IsSound t
 sound_of t e =
-    let (g, w) = none_passed (typed t) (has_wrong_gateway t.parts) (has_wrong_metric t.parts) e in
-    let p = or_parts t.parts.wrong_gateway (is_conflict t.parts.gateway || (is_said t.parts.gateway && is_said t.parts.addr_type.one)) g in
-    let q = or_parts t.parts.wrong_metric ((is_conflict t.parts.link_in || is_conflict t.parts.link_out) || (is_conflict t.parts.near_in || is_conflict t.parts.near_out)) w in
+    let (typed, (gate, (wrong, none))) = failed (tc_tests t) e in
+    let o = t.parts.octets.gateway in
+    let p = or_parts o.wrong (is_conflict o.one || (is_said o.one && is_said t.parts.octets.addr_type.one)) gate in
     record {
       gateway = p.0;
-      one = (or_parts (is_conflict t.parts.gateway) (is_said t.parts.gateway && is_said t.parts.addr_type.one) p.1).0;
-      metric = (or_parts (is_conflict t.parts.near_in) (is_conflict t.parts.near_out) (or_parts (is_conflict t.parts.link_in || is_conflict t.parts.link_out) (is_conflict t.parts.near_in || is_conflict t.parts.near_out) q.1).1).1;
+      one = (or_parts (is_conflict o.one) (is_said o.one && is_said t.parts.octets.addr_type.one) p.1).0;
+      metric = right_metric t.parts wrong Near_out;
     }
 
 -- ---- the rules
 
 module _ (m : MessageFields) (rows : List AddressParts) (are : AreTold m rows) where
   breaks : (t : AddressParts) (n : ℕ) → Contains rows t → tc_rule t ≡ Some n → BreaksTc m n (Some t.net)
-  breaks t n has e = passed (λ (k : ℕ). BreaksTc m k (Some t.net)) (typed t) (has_wrong_gateway t.parts) (has_wrong_metric t.parts) n e
-      (type_broken m t.net t.parts (are.each t has).1) (gateway_broken m t.net t.parts (are.each t has).1) (λ w. WrongMetric t.net (wrong_metric m t.net t.parts (are.each t has).1 w))
+  breaks t n has e =
+      let h = (are.each t has).1 in
+      given (λ (k : ℕ). BreaksTc m k (Some t.net)) (tc_tests t) n e
+      (type_broken m t.net t.parts h, (gateway_broken m t.net t.parts h, (λ w. WrongMetric t.net (wrong_metric m t.net t.parts h w), tt)))
 
-  -- the row of an address that the message has
-  row_of : (net : NetAddr) (kind : ℕ) (x : List ℕ) → HasValue m net kind x → (t : AddressParts) × Contains rows t × (t.net ≡ net) × RowIs (HasValue m net) t.parts
-  row_of net kind x said = told_of m rows are net (says_has m net kind x said)
+  passed : (t : AddressParts) (place : ℕ) (b : Bool) (n : ℕ) → slice_get (tc_tests t) place ≡ Some (b, n) → b ≡ true → AtMost (tc_rule t) n
+  passed t place b n e on = at_most 37 (tc_tests t) (lit≤ tt, (lit≤ tt, (lit≤ tt, tt))) (b, n) (contains_at (tc_tests t) place (b, n) e) on
 
-  reached : (t : AddressParts) (net : NetAddr) (k : ℕ) → Contains rows t → t.net ≡ net → AtMost (tc_rule t) k → Reaches tc_rule rows k (Some net)
-  reached t net k has is (n, e, le) = record { told = t; there = has; is = ap Some (sym is); number = n; broken = e; most = le }
+  wrong_type : (t : AddressParts) → has_wrong_type t.net.prefix t.parts ≡ true → AtMost (tc_rule t) 37
+  wrong_type t e = passed t 0 (has_wrong_type t.net.prefix t.parts) 37 refl e
 
-  at_type : (t : AddressParts) (net : NetAddr) → Contains rows t → t.net ≡ net → has_wrong_type t.net.prefix t.parts ≡ true → Reaches tc_rule rows 37 (Some net)
-  at_type t net has is e = reached t net 37 has is (first_passed (typed t) (has_wrong_gateway t.parts) (has_wrong_metric t.parts) e)
+  wrong_gateway : (t : AddressParts) → has_wrong_gateway t.parts ≡ true → AtMost (tc_rule t) 38
+  wrong_gateway t e = passed t 1 (has_wrong_gateway t.parts) 38 refl e
 
-  at_gateway : (t : AddressParts) (net : NetAddr) → Contains rows t → t.net ≡ net → has_wrong_gateway t.parts ≡ true → Reaches tc_rule rows 38 (Some net)
-  at_gateway t net has is e = reached t net 38 has is (second_passed (typed t) (has_wrong_gateway t.parts) (has_wrong_metric t.parts) e)
-
-  prefix_is : (t : AddressParts) (net : NetAddr) → t.net ≡ net → t.net.prefix ≡ net.prefix
-  prefix_is t net is = ap (λ (n : NetAddr). n.prefix) is
+  -- a value of the address is said, and what is kept of it passes a test of that number at most
+  at_row : (net : NetAddr) (type : ℕ) (x : List ℕ) → HasValue m net type x → (number : ℕ) → ((t : AddressParts) → t.net ≡ net → RowIs (HasValue m net) t.parts → AtMost (tc_rule t) number) → Reaches tc_rule rows number (Some net)
+  at_row net type x said number passes =
+      let (t, has, is, h) = told_of m rows are net (says_has m net type x said) in
+      let (n, e, le) = passes t is h in
+      record { told = t; there = has; is = ap Some (sym is); number = n; broken = e; most = le }
 
   reaches : (k : ℕ) (a : Option NetAddr) → BreaksTc m k a → 37 ≤ k → Reaches tc_rule rows k a
   reaches k a (AddressWidth h) e = absurd (omega (arith, e))
@@ -196,27 +140,37 @@ module _ (m : MessageFields) (rows : List AddressParts) (are : AreTold m rows) w
   reaches k a (NoValidity none) e = absurd (omega (arith, e))
   reaches k a (WrongInterval none) e = absurd (omega (arith, e))
   reaches k a (Content none) e = absurd (omega (arith, e))
-  reaches k a (AddrType net (x, said, bad)) e =
-      let (t, has, is, h) = row_of net 9 x said in at_type t net has is (undefined_type m net t.net.prefix (prefix_is t net is) t.parts h (x, said, bad))
-  reaches k a (TwoAddrTypes net (x, y, said, said_y, d)) e =
-      let (t, has, is, h) = row_of net 9 x said in at_type t net has is (two_types m net t.net.prefix (prefix_is t net is) t.parts h (x, y, said, said_y, d))
-  reaches k a (ShortPrefix net (x, said) lt) e =
-      let (t, has, is, h) = row_of net 9 x said in at_type t net has is (short_type m net t.net.prefix (prefix_is t net is) t.parts h (x, said) lt)
-  reaches k a (GatewayOctet net (x, said, other)) e =
-      let (t, has, is, h) = row_of net 10 x said in at_gateway t net has is (other_is m net t.parts h (h.wrong_gateway.1 (x, said, other)))
-  reaches k a (TwoGateways net (x, y, said, said_y, d)) e =
-      let (t, has, is, h) = row_of net 10 x said in at_gateway t net has is (two_gateways m net t.parts h (x, y, said, said_y, d))
-  reaches k a (Beside net (x, said) (y, there)) e =
-      let (t, has, is, h) = row_of net 10 x said in
-      elim (cases_Bool t.parts.addr_type.wrong) [
-        | inl w ↦
-            let (n, f, le) = first_passed (typed t) (has_wrong_gateway t.parts) (has_wrong_metric t.parts) (or_left t.parts.addr_type.wrong (is_conflict t.parts.addr_type.one || (nat_lt t.net.prefix 32 && is_said t.parts.addr_type.one)) w) in
-            reached t net 38 has is (n, f, omega (arith, le))
-        | inr right ↦ at_gateway t net has is (beside_type m net t.parts h right (x, said) (y, there))
-      ]
+  reaches k a (AddrType net (x, said, bad)) e = at_row net nbr_addr_type x said 37 (λ t is h.
+      wrong_type t (no_type t.net.prefix t.parts ((h.octets kinds.AddrType).wrong.1 (x, said, of_undefined kinds.AddrType 1 4 (λ n. refl) x bad))))
+  reaches k a (TwoAddrTypes net (x, y, said, said_y, d)) e = at_row net nbr_addr_type x said 37 (λ t is h.
+      wrong_type t (elim (two_found kinds.AddrType (HasValue m net nbr_addr_type) t.parts.octets.addr_type (h.octets kinds.AddrType) x y said said_y d) [
+        | inl w ↦ no_type t.net.prefix t.parts w
+        | inr two ↦ two_types t.net.prefix t.parts two
+      ]))
+  reaches k a (ShortPrefix net (x, said) lt) e = at_row net nbr_addr_type x said 37 (λ t is h.
+      wrong_type t (elim (said_found kinds.AddrType (HasValue m net nbr_addr_type) t.parts.octets.addr_type (h.octets kinds.AddrType) x said) [
+        | inl w ↦ no_type t.net.prefix t.parts w
+        | inr some ↦ short_type t.net.prefix t.parts (let same : t.net.prefix ≡ net.prefix = ap (λ (n : NetAddr). n.prefix) is in omega (arith, same, lt)) some
+      ]))
+  reaches k a (GatewayOctet net (x, said, other)) e = at_row net gateway x said 38 (λ t is h.
+      wrong_gateway t (no_octet t.net.prefix t.parts ((h.octets kinds.Gateway).wrong.1 (x, said, other_length x other))))
+  reaches k a (TwoGateways net (x, y, said, said_y, d)) e = at_row net gateway x said 38 (λ t is h.
+      wrong_gateway t (elim (two_found kinds.Gateway (HasValue m net gateway) t.parts.octets.gateway (h.octets kinds.Gateway) x y said said_y d) [
+        | inl w ↦ no_octet t.net.prefix t.parts w
+        | inr two ↦ two_gateways t.net.prefix t.parts two
+      ]))
+  reaches k a (Beside net (x, said) (y, there)) e = at_row net gateway x said 38 (λ t is h.
+      elim (said_found kinds.AddrType (HasValue m net nbr_addr_type) t.parts.octets.addr_type (h.octets kinds.AddrType) y there) [
+        | inl w ↦ at_most_more (tc_rule t) 37 38 (lit≤ tt) (wrong_type t (no_type t.net.prefix t.parts w))
+        | inr typed ↦ wrong_gateway t (elim (said_found kinds.Gateway (HasValue m net gateway) t.parts.octets.gateway (h.octets kinds.Gateway) x said) [
+          | inl w ↦ no_octet t.net.prefix t.parts w
+          | inr some ↦ both_said t.net.prefix t.parts some typed
+        ])
+      ])
   reaches k a (WrongMetric net wrong) e =
       let (t, has, is, h) = told_of m rows are net (wrong_metric_has m net wrong) in
-      reached t net 39 has is (third_passed (typed t) (has_wrong_gateway t.parts) (has_wrong_metric t.parts) (metric_wrong m net t.parts h wrong))
+      let (n, f, le) = passed t 2 (has_wrong_metric t.parts) 39 refl (metric_wrong m net t.parts h wrong) in
+      record { told = t; there = has; is = ap Some (sym is); number = n; broken = f; most = le }
 
   pub tc_decides : Decides (BreaksTc m) tc_rule rows 37
   tc_decides = record { breaks = breaks; reaches = reaches }

@@ -9,6 +9,7 @@ use Rattle.mesh_atoms.specs.declared.hello.Hello.{Hello}
 use Rattle.mesh_addr.specs.declared.records.RawAddr.{RawAddr}
 use Rattle.mesh_tlv.specs.Fields.{AddrTlvFields}
 use Rattle.mesh_packet.specs.Fields.{BlockFields, MessageFields}
+use Rattle.mesh_wire.specs.HelloRows.{sender_row}
 
 -- the octets after those of an IPv4 address
 abbrev pub zeros : List ℕ
@@ -46,14 +47,7 @@ lone = record {
 
 -- its row
 abbrev pub own_row : HelloRow
-own_row = record {
-  addr = own_net;
-  local = Some This;
-  link = None;
-  other = None;
-  metrics = record { link_in = None; link_out = None; near_in = None; near_out = None };
-  mpr = record { flooding = false; routing = false };
-}
+own_row = sender_row own_net (Some This)
 
 -- what it reads as
 abbrev pub lone_hello : Hello

@@ -1,6 +1,6 @@
 -- How the row of a HELLO is made of what is kept of its address.
 use Rattle.std.proofs.Common.{zero, suc}
-use Rattle.std.specs.Prelude.{◌≡◌, ℕ, Option, None, false, IsSome}
+use Rattle.std.specs.Prelude.{◌≡◌, ℕ, Option, Some, None, false}
 use Rattle.std.specs.Option.{option_map}
 use Rattle.mesh_atoms.specs.declared.addr.NetAddr.{NetAddr}
 use Rattle.mesh_atoms.specs.declared.hello.LocalIf.{LocalIf}
@@ -10,7 +10,6 @@ use Rattle.mesh_atoms.specs.declared.hello.LinkStatus.TheVariants as link
 use Rattle.mesh_atoms.specs.declared.hello.OtherStatus.{OtherStatus}
 use Rattle.mesh_atoms.specs.declared.hello.OtherStatus.TheVariants as other
 use Rattle.mesh_atoms.specs.declared.hello.HelloRow.{HelloRow}
-use Rattle.mesh_atoms.specs.Writable.{IsAlone}
 use Rattle.mesh_wire.specs.declared.collect.AddressParts.{AddressParts}
 use Rattle.mesh_wire.specs.Singles.{value_from}
 
@@ -41,20 +40,27 @@ sender_row addr local = record {
   mpr = record { flooding = false; routing = false };
 }
 
--- status, metrics and relays as they are kept
-pub record TellsKept (told : AddressParts) (row : HelloRow) : Type 0 where
-  pub link : row.link ≡ option_map link_from (value_from told.parts.link.one)
-  pub other : row.other ≡ option_map other_from (value_from told.parts.other.one)
-  pub link_in : row.metrics.link_in ≡ value_from told.parts.link_in
-  pub link_out : row.metrics.link_out ≡ value_from told.parts.link_out
-  pub near_in : row.metrics.near_in ≡ value_from told.parts.near_in
-  pub near_out : row.metrics.near_out ≡ value_from told.parts.near_out
-  pub flooding : row.mpr.flooding ≡ told.parts.flooding
-  pub routing : row.mpr.routing ≡ told.parts.routing
+-- the row of what is kept of an address, by its LOCAL_IF: what else is said of an address of the sender's is left out
+abbrev pub row_with : AddressParts → Option LocalIf → HelloRow
+row_with told (Some local) = sender_row told.net (Some local)
+row_with told None = record {
+  addr = told.net;
+  local = None;
+  link = option_map link_from (value_from told.parts.octets.link.one);
+  other = option_map other_from (value_from told.parts.octets.other.one);
+  metrics = record {
+    link_in = value_from told.parts.metrics.link_in;
+    link_out = value_from told.parts.metrics.link_out;
+    near_in = value_from told.parts.metrics.near_in;
+    near_out = value_from told.parts.metrics.near_out;
+  };
+  mpr = record { flooding = told.parts.octets.mpr.first; routing = told.parts.octets.mpr.second };
+}
 
 -- the row of what is kept of an address
-pub record HelloRowFrom (told : AddressParts) (row : HelloRow) : Type 0 where
-  pub addr : row.addr ≡ told.net
-  pub local : row.local ≡ option_map local_from (value_from told.parts.local.one)
-  pub of_other : row.local ≡ None → TellsKept told row
-  pub of_sender : IsSome row.local → IsAlone row
+abbrev pub hello_row : AddressParts → HelloRow
+hello_row told = row_with told (option_map local_from (value_from told.parts.octets.local.one))
+
+-- it is that row
+abbrev pub HelloRowFrom : AddressParts → HelloRow → Type 0
+HelloRowFrom told row = row ≡ hello_row told

@@ -1,7 +1,7 @@
 -- The metrics that a message shows of an address (RFC 7181, section 13.3.2).
 use Rattle.std.proofs.Common.{lit<}
 use Rattle.std.proofs.lemmas.Nat.{mod_below}
-use Rattle.std.specs.Prelude.{◌≡◌, ℕ, ◌+◌, ◌*◌, ◌%◌, ◌⊎◌, ◌≢◌, [], ◌∷◌, Option, Some, None, true}
+use Rattle.std.specs.Prelude.{◌≡◌, ℕ, ◌+◌, ◌*◌, ◌%◌, ◌⊎◌, ◌≢◌, List, [], ◌∷◌, Option, Some, None, true}
 use Rattle.mesh_atoms.specs.declared.addr.NetAddr.{NetAddr}
 use Rattle.mesh_atoms.specs.declared.codes.metric.Metric.{Metric}
 use Rattle.mesh_atoms.specs.Reading.{has}
@@ -15,6 +15,10 @@ pub data MetricKind : Type 0 where
   Link_out : MetricKind
   Near_in : MetricKind
   Near_out : MetricKind
+
+-- all of them
+abbrev pub metric_kinds : List MetricKind
+metric_kinds = Link_in ∷ (Link_out ∷ (Near_in ∷ (Near_out ∷ [])))
 
 -- the flag of a kind, in the high octet
 abbrev pub flag_of : MetricKind → ℕ

@@ -1,52 +1,70 @@
 -- Which rule a row breaks, and the first that rows break.
 use Rattle.std.specs.Prelude.{ℕ, List, [], ◌∷◌, Option, Some, None, Bool, ◌||◌, ◌&&◌, nat_lt, if◌then◌else◌}
+use Rattle.std.specs.List.{list_any}
 use Rattle.mesh_atoms.specs.declared.addr.NetAddr.{NetAddr}
 use Rattle.mesh_atoms.specs.declared.hello_rule.TheConstants.{UNDEFINED, TWO_VALUES, PREFIX, METRIC}
 use Rattle.mesh_atoms.specs.declared.tc_rule.TheConstants as tc
 use Rattle.mesh_wire.specs.declared.collect.AddressParts.{AddressParts}
+use Rattle.mesh_wire.specs.declared.octets.OctetKind.{OctetKind}
+use Rattle.mesh_wire.specs.declared.octets.ByKind.{ByKind}
+use Rattle.mesh_wire.specs.declared.octets.Octets.{Octets}
 use Rattle.mesh_wire.specs.declared.parts.RowParts.{RowParts}
+use Rattle.mesh_wire.specs.KeptParts.{metric_at}
+use Rattle.mesh_wire.specs.Metrics.{MetricKind, metric_kinds}
+use Rattle.mesh_wire.specs.OctetKinds.{statuses, at}
 use Rattle.mesh_wire.specs.Singles.{is_conflict, is_said}
 
--- a LOCAL_IF, LINK_STATUS or OTHER_NEIGHB of undefined value
-abbrev pub is_undefined : RowParts → Bool
-is_undefined r = r.local.wrong || (r.link.wrong || r.other.wrong)
+-- whether what is kept of a LOCAL_IF, LINK_STATUS or OTHER_NEIGHB passes a test
+abbrev pub some_status : (Octets → Bool) → ByKind Octets → Bool
+some_status test by = list_any (λ (kind : OctetKind). test (at kind by)) statuses
 
--- two values of one of these
-abbrev pub has_two : RowParts → Bool
-has_two r = is_conflict r.local.one || (is_conflict r.link.one || is_conflict r.other.one)
+-- one of undefined value
+abbrev pub is_undefined : ByKind Octets → Bool
+is_undefined by = some_status (λ (o : Octets). o.wrong) by
+
+-- two values of one
+abbrev pub has_two : ByKind Octets → Bool
+has_two by = some_status (λ (o : Octets). is_conflict o.one) by
 
 -- one of these
-abbrev pub has_status : RowParts → Bool
-has_status r = is_said r.local.one || (is_said r.link.one || is_said r.other.one)
+abbrev pub has_status : ByKind Octets → Bool
+has_status by = some_status (λ (o : Octets). is_said o.one) by
 
 -- a metric that isn't of two octets, or two codes of one kind
 abbrev pub has_wrong_metric : RowParts → Bool
-has_wrong_metric r = r.wrong_metric || ((is_conflict r.link_in || is_conflict r.link_out) || (is_conflict r.near_in || is_conflict r.near_out))
+has_wrong_metric r = r.metrics.wrong || list_any (λ (kind : MetricKind). is_conflict (metric_at kind r.metrics)) metric_kinds
 
 -- a NBR_ADDR_TYPE of undefined value, two values of it, or one on a short prefix
 abbrev pub has_wrong_type : ℕ → RowParts → Bool
-has_wrong_type prefix r = r.addr_type.wrong || (is_conflict r.addr_type.one || (nat_lt prefix 32 && is_said r.addr_type.one))
+has_wrong_type prefix r = r.octets.addr_type.wrong || (is_conflict r.octets.addr_type.one || (nat_lt prefix 32 && is_said r.octets.addr_type.one))
 
 -- a GATEWAY that isn't one octet, two values of it, or one beside a NBR_ADDR_TYPE
 abbrev pub has_wrong_gateway : RowParts → Bool
-has_wrong_gateway r = r.wrong_gateway || (is_conflict r.gateway || (is_said r.gateway && is_said r.addr_type.one))
+has_wrong_gateway r = r.octets.gateway.wrong || (is_conflict r.octets.gateway.one || (is_said r.octets.gateway.one && is_said r.octets.addr_type.one))
 
--- the first rule on the addresses of a HELLO that a row breaks
+-- the number of the first test that is passed
+abbrev pub first_passed : List (Bool × ℕ) → Option ℕ
+first_passed [] = None
+first_passed (t ∷ tests) = if t.0 then Some t.1 else first_passed tests
+
+-- the rules on the addresses of a HELLO, and whether a row breaks them
+abbrev pub hello_tests : AddressParts → List (Bool × ℕ)
+hello_tests t =
+    (is_undefined t.parts.octets, UNDEFINED)
+    ∷ ((has_two t.parts.octets, TWO_VALUES) ∷ ((nat_lt t.net.prefix 32 && has_status t.parts.octets, PREFIX) ∷ ((has_wrong_metric t.parts, METRIC) ∷ [])))
+
+-- the first that it breaks
 abbrev pub hello_rule : AddressParts → Option ℕ
-hello_rule t =
-    if is_undefined t.parts then Some UNDEFINED
-    else if has_two t.parts then Some TWO_VALUES
-    else if nat_lt t.net.prefix 32 && has_status t.parts then Some PREFIX
-    else if has_wrong_metric t.parts then Some METRIC
-    else None
+hello_rule t = first_passed (hello_tests t)
 
 -- the same of a TC
+abbrev pub tc_tests : AddressParts → List (Bool × ℕ)
+tc_tests t =
+    (has_wrong_type t.net.prefix t.parts, tc.ADDR_TYPE)
+    ∷ ((has_wrong_gateway t.parts, tc.GATEWAY) ∷ ((has_wrong_metric t.parts, tc.METRIC) ∷ []))
+
 abbrev pub tc_rule : AddressParts → Option ℕ
-tc_rule t =
-    if has_wrong_type t.net.prefix t.parts then Some tc.ADDR_TYPE
-    else if has_wrong_gateway t.parts then Some tc.GATEWAY
-    else if has_wrong_metric t.parts then Some tc.METRIC
-    else None
+tc_rule t = first_passed (tc_tests t)
 
 -- the rule and the address that were found, or those of a later row, where its rule has a lower number
 abbrev pub sooner : Option (ℕ × NetAddr) → Option ℕ → NetAddr → Option (ℕ × NetAddr)

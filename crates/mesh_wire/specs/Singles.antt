@@ -9,6 +9,11 @@ also same Absent x = Value x
 also same (Value first) x = if same first x then Value first else Conflict
 also same Conflict x = Conflict
 
+-- one value more, if there is one
+abbrev pub also_some : {X : Type 0} → (X → X → Bool) → Single X → Option X → Single X
+also_some same one None = one
+also_some same one (Some x) = also same one x
+
 -- different values
 abbrev pub is_conflict : {X : Type 0} → Single X → Bool
 is_conflict Absent = false

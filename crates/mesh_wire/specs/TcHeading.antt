@@ -25,9 +25,15 @@ pub record TcHeadingIs (message : MessageFields) (heading : TcHeader) : Type 0 w
   pub content : ContentIs message heading.ansn heading.complete
 
 -- the row of what is kept of an address
-pub record TcRowFrom (told : AddressParts) (row : TcRow) : Type 0 where
-  pub dest : row.dest ≡ told.net
-  pub origin : row.origin ≡ told.parts.origin
-  pub routable : row.routable ≡ told.parts.routable
-  pub gateway : row.gateway ≡ value_from told.parts.gateway
-  pub metric : row.metric ≡ value_from told.parts.near_out
+abbrev pub tc_row : AddressParts → TcRow
+tc_row told = record {
+  dest = told.net;
+  origin = told.parts.octets.addr_type.first;
+  routable = told.parts.octets.addr_type.second;
+  gateway = value_from told.parts.octets.gateway.one;
+  metric = value_from told.parts.metrics.near_out;
+}
+
+-- it is that row
+abbrev pub TcRowFrom : AddressParts → TcRow → Type 0
+TcRowFrom told row = row ≡ tc_row told

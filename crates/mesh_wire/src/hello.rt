@@ -7,7 +7,7 @@ ghost use Rattle.mesh_packet.specs.Fields.{fields_of_message};
 ghost use Rattle.mesh_wire.specs.Answers.{IfBroken, GivesValue, RefusesAt};
 ghost use Rattle.mesh_wire.specs.Hello.{OriginatorIs, HelloIs};
 ghost use Rattle.mesh_wire.specs.HelloHeading.{IsOther, HeadingIs};
-ghost use Rattle.mesh_wire.specs.HelloRows.{local_from, link_from, other_from};
+ghost use Rattle.mesh_wire.specs.HelloRows.{local_from, link_from, other_from, sender_row, row_with};
 ghost use Rattle.mesh_wire.specs.HelloRules.{BreaksHello};
 ghost use Rattle.mesh_wire.specs.Rules.{Keeps, FirstBroken};
 ghost use Rattle.mesh_wire.specs.Singles.{value_from};
@@ -18,7 +18,7 @@ use crate::rows::{Row, rows_in};
 use crate::singles::Single;
 use crate::times;
 use mesh_atoms::{
-    Addr4, Hello, HelloRow, LinkStatus, LocalIf, Metrics, Mpr, OtherStatus, Seq, Willing,
+    Addr4, Hello, HelloRow, LinkStatus, LocalIf, Metrics, Mpr, NetAddr, OtherStatus, Seq, Willing,
     address_in, hello_rule,
 };
 use mesh_packet::Message;
@@ -104,6 +104,55 @@ fn other_from(one: Single<u8>) -> Option<OtherStatus>
     }
 }
 
+// A row of which nothing is said but whether its address is the sender's.
+fn sender_row(addr: NetAddr, local: Option<LocalIf>) -> HelloRow
+    ensures { result ≡ sender_row addr local }
+{
+    HelloRow {
+        addr,
+        local,
+        link: None,
+        other: None,
+        metrics: Metrics {
+            link_in: None,
+            link_out: None,
+            near_in: None,
+            near_out: None,
+        },
+        mpr: Mpr {
+            flooding: false,
+            routing: false,
+        },
+    }
+}
+
+// The row of what is kept of an address, by its LOCAL_IF.
+fn row_with(told: &AddressParts, local: Option<LocalIf>) -> HelloRow
+    ensures { result ≡ row_with told.now local }
+{
+    let octets = &told.parts.octets;
+    let metrics = &told.parts.metrics;
+    match local {
+        Some(local) => sender_row(told.net, Some(local)),
+        None => HelloRow {
+            addr: told.net,
+            local: None,
+            link: link_from(octets.link.one),
+            other: other_from(octets.other.one),
+            metrics: Metrics {
+                link_in: metrics.link_in.value(),
+                link_out: metrics.link_out.value(),
+                near_in: metrics.near_in.value(),
+                near_out: metrics.near_out.value(),
+            },
+            mpr: Mpr {
+                flooding: octets.mpr.first,
+                routing: octets.mpr.second,
+            },
+        },
+    }
+}
+
 impl Row for HelloRow {
     ghost use Rattle.std.specs.Prelude.{◌<◌, ◌^◌};
     ghost use Rattle.mesh_wire.specs.Hello.{IsReadHelloRow};
@@ -128,41 +177,7 @@ impl Row for HelloRow {
 
     // The row of what is kept of an address.
     fn of_told(told: &AddressParts) -> HelloRow {
-        let local = local_from(told.parts.local.one);
-        if local.is_some() {
-            return HelloRow {
-                addr: told.net,
-                local,
-                link: None,
-                other: None,
-                metrics: Metrics {
-                    link_in: None,
-                    link_out: None,
-                    near_in: None,
-                    near_out: None,
-                },
-                mpr: Mpr {
-                    flooding: false,
-                    routing: false,
-                },
-            };
-        }
-        HelloRow {
-            addr: told.net,
-            local,
-            link: link_from(told.parts.link.one),
-            other: other_from(told.parts.other.one),
-            metrics: Metrics {
-                link_in: told.parts.link_in.value(),
-                link_out: told.parts.link_out.value(),
-                near_in: told.parts.near_in.value(),
-                near_out: told.parts.near_out.value(),
-            },
-            mpr: Mpr {
-                flooding: told.parts.flooding,
-                routing: told.parts.routing,
-            },
-        }
+        row_with(told, local_from(told.parts.octets.local.one))
     }
 
     fn rule_of(told: &AddressParts) -> Option<u8> {

@@ -1,6 +1,6 @@
 //! Of several values: none, one, or different ones.
-ghost use Rattle.std.specs.Prelude.{◌≡◌};
-ghost use Rattle.mesh_wire.specs.Singles.{also, is_conflict, is_said, value_from};
+ghost use Rattle.std.specs.Prelude.{◌≡◌, ◌||◌};
+ghost use Rattle.mesh_wire.specs.Singles.{also, also_some, is_conflict, is_said, value_from};
 
 /// Of several values: none, one, though it may have come more than once, or different ones.
 #[derive(Clone, Copy)]
@@ -56,5 +56,24 @@ impl<T: Copy + PartialEq> Single<T> {
             }
             Single::Conflict => Single::Conflict,
         }
+    }
+
+    // One value more, if there is one.
+    pub(crate) fn also_some(self, value: Option<T>) -> Single<T>
+        ensures { result ≡ also_some T.eq self value }
+    {
+        match value {
+            Some(value) => self.also(value),
+            None => self,
+        }
+    }
+}
+
+/// Sets a flag if that is so. Otherwise it stays.
+pub(crate) fn set_if(flag: &mut bool, is_so: bool)
+    ensures { flag.new ≡ (flag.old || is_so) }
+{
+    if is_so {
+        *flag = true;
     }
 }

@@ -143,10 +143,10 @@ impl Row for TcRow {
     fn of_told(told: &AddressParts) -> TcRow {
         TcRow {
             dest: told.net,
-            origin: told.parts.origin,
-            routable: told.parts.routable,
-            gateway: told.parts.gateway.value(),
-            metric: told.parts.near_out.value(),
+            origin: told.parts.octets.addr_type.first,
+            routable: told.parts.octets.addr_type.second,
+            gateway: told.parts.octets.gateway.one.value(),
+            metric: told.parts.metrics.near_out.value(),
         }
     }
 
