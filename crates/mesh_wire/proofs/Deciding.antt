@@ -5,12 +5,10 @@ use Rattle.std.proofs.lemmas.Bool.{cases_Bool, cases_lt, cases_eq}
 use Rattle.mesh_atoms.specs.Codes.Codes.{time_at_distance}
 use Rattle.mesh_packet.specs.Fields.{MessageFields}
 use Rattle.mesh_tlv.specs.Fields.{TlvFields}
-use Rattle.mesh_wire.specs.declared.collect.AddressParts.{AddressParts}
 use Rattle.mesh_wire.specs.Hello.{HasWilling}
 use Rattle.mesh_wire.specs.HelloHeading.{IsOther}
 use Rattle.mesh_wire.specs.Kinds.{interval_time, validity_time, mpr_willing}
 use Rattle.mesh_wire.specs.Laws.{HasOctets}
-use Rattle.mesh_wire.specs.Made.{AreMade}
 use Rattle.mesh_wire.specs.Parts.{octets_of, values_of}
 use Rattle.mesh_wire.specs.Tc.{ContentIs, contents_of}
 use Rattle.mesh_wire.specs.Times.{HasTime, ValidityIs, IntervalIs}
@@ -123,12 +121,3 @@ content_or m = by (contents_of m) refl
     by [] e = inr (λ x (q, high, low, f, g, h, k). let t : [] ≡ q ∷ [] = sym e ∙ f in cc)
     by (p ∷ []) e = of_octets p e (octets_of p.value) refl
     by (p ∷ q ∷ rest) e = inr (λ x (r, high, low, f, g, h, k). let t : p ∷ (q ∷ rest) ≡ r ∷ [] = sym e ∙ f in cc)
-
--- ---- rows
-
-pub made : {Row : Type 0} (From : AddressParts → Row → Type 0) (told : List AddressParts) → ((t : AddressParts) → (r : Row) × From t r) → (rows : List Row) × AreMade From told rows
-made From [] make = ([], tt)
-made From (t ∷ told) make =
-    let (r, is) = make t in
-    let (rows, are) = made From told make in
-    (r ∷ rows, (is, are))

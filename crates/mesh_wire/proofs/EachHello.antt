@@ -1,21 +1,21 @@
 -- Each message reads as a HELLO or breaks a first rule of one.
-use Rattle.std.proofs.Common.{◌≡◌, ℕ, ◌<◌, ◌/◌, ◌%◌, inl, inr, refl, arith, List}
+use Rattle.std.proofs.Common.{◌≡◌, ℕ, ◌<◌, ◌/◌, ◌%◌, inl, inr, refl, arith, List, map}
 use Rattle.std.specs.Prelude.{Option, Some, None}
 use Rattle.std.proofs.lemmas.Bool.{cases_eq}
 use Rattle.mesh_atoms.specs.declared.addr.Addr4.{Addr4}
 use Rattle.mesh_atoms.specs.declared.hello.Hello.{Hello}
-use Rattle.mesh_atoms.specs.declared.hello.HelloRow.{HelloRow}
 use Rattle.mesh_atoms.specs.Octets.{address_in}
 use Rattle.mesh_addr.specs.declared.records.RawAddr.{RawAddr}
 use Rattle.mesh_packet.specs.Fields.{MessageFields}
 use Rattle.mesh_wire.specs.declared.hello.HelloHeader.{HelloHeader}
+use Rattle.mesh_wire.specs.declared.collect.AddressParts.{AddressParts}
 use Rattle.mesh_wire.specs.Entries.{of_blocks}
 use Rattle.mesh_wire.specs.Hello.{OriginatorIs, HelloIs}
 use Rattle.mesh_wire.specs.HelloHeading.{HeadingIs}
-use Rattle.mesh_wire.specs.HelloRows.{hello_row, HelloRowFrom}
+use Rattle.mesh_wire.specs.HelloRows.{hello_row}
 use Rattle.mesh_wire.specs.HelloRules.{BreaksHello, AddressWidth, HopLimit, HopCount, NoValidity, WrongInterval, WrongWilling}
 use Rattle.mesh_wire.specs.Laws.{HasOctets, ReadsOrBreaks}
-use Rattle.mesh_wire.specs.Made.{HasRows}
+use Rattle.mesh_wire.specs.Made.{BreakNone}
 use Rattle.mesh_wire.specs.RowRules.{hello_rule}
 use Rattle.mesh_wire.specs.Rules.{Keeps}
 use Rattle.mesh_wire.proofs.Deciding.{other_or, validity_or, interval_or, willing_or, willing_octet}
@@ -31,11 +31,11 @@ originator_of (Some address) = (Some (record { 0 = address_in address.octets }),
 
 module _ (m : MessageFields) (octets : HasOctets m) where
   of_heading : (heading : HelloHeader) → HeadingIs m heading → Outcome (HelloIs m) (BreaksHello m)
-  of_heading heading h = of_rows m HelloRowFrom hello_rule (HelloIs m) (BreaksHello m) (λ t. (hello_row t, refl)) (rule_found m heading h) value
+  of_heading heading h = of_rows m hello_rule (HelloIs m) (BreaksHello m) (rule_found m heading h) value
     where
-      value : (rows : List HelloRow) → HasRows HelloRowFrom hello_rule (of_blocks m.blocks) rows → (hello : Hello) × HelloIs m hello × Keeps (BreaksHello m)
-      value rows has =
-          let (keeps, true_rows) = rows_found m heading h rows has in
+      value : (told : List AddressParts) → BreakNone hello_rule (of_blocks m.blocks) told → (hello : Hello) × HelloIs m hello × Keeps (BreaksHello m)
+      value told has =
+          let (keeps, true_rows) = rows_found m heading h told has in
           let o = originator_of m.originator in
           let octet = willing_octet m octets heading.willing h.willing in (
             record {
@@ -43,7 +43,7 @@ module _ (m : MessageFields) (octets : HasOctets m) where
               validity = heading.validity;
               interval = heading.interval;
               willing = record { flooding = heading.willing / 16; routing = heading.willing % 16; flooding_within = omega (arith, octet); routing_within = omega arith };
-              rows = rows;
+              rows = map hello_row told;
               ascending = true_rows.ascending;
             },
             record { originator = o.1; validity = h.validity; interval = h.interval; willing = (heading.willing, h.willing, refl, refl); rows = true_rows },

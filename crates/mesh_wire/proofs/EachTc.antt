@@ -1,23 +1,23 @@
 -- Each message reads as a TC or breaks a first rule of one.
-use Rattle.std.proofs.Common.{◌≡◌, ℕ, ◌<◌, ◌⊎◌, inl, inr, refl, arith, List}
+use Rattle.std.proofs.Common.{◌≡◌, ℕ, ◌<◌, ◌⊎◌, inl, inr, refl, arith, List, map}
 use Rattle.std.specs.Prelude.{Option, Some, None}
 use Rattle.std.proofs.lemmas.Bool.{cases_eq}
 use Rattle.mesh_atoms.specs.declared.addr.Addr4.{Addr4}
 use Rattle.mesh_atoms.specs.declared.tc.Tc.{Tc}
-use Rattle.mesh_atoms.specs.declared.tc.TcRow.{TcRow}
 use Rattle.mesh_atoms.specs.Octets.{address_in}
 use Rattle.mesh_atoms.proofs.Options.{none_not}
 use Rattle.mesh_addr.specs.declared.records.RawAddr.{RawAddr}
 use Rattle.mesh_packet.specs.Fields.{MessageFields}
 use Rattle.mesh_wire.specs.declared.tc.TcHeader.{TcHeader}
+use Rattle.mesh_wire.specs.declared.collect.AddressParts.{AddressParts}
 use Rattle.mesh_wire.specs.Entries.{of_blocks}
 use Rattle.mesh_wire.specs.Hello.{OriginatorIs}
 use Rattle.mesh_wire.specs.Laws.{HasOctets, ReadsOrBreaks}
-use Rattle.mesh_wire.specs.Made.{HasRows}
+use Rattle.mesh_wire.specs.Made.{BreakNone}
 use Rattle.mesh_wire.specs.RowRules.{tc_rule}
 use Rattle.mesh_wire.specs.Rules.{Keeps}
 use Rattle.mesh_wire.specs.Tc.{TcIs}
-use Rattle.mesh_wire.specs.TcHeading.{TcHeadingIs, tc_row, TcRowFrom}
+use Rattle.mesh_wire.specs.TcHeading.{TcHeadingIs, tc_row}
 use Rattle.mesh_wire.specs.TcRules.{BreaksTc, AddressWidth, NoOriginator, NoSequence, NoValidity, WrongInterval, Content}
 use Rattle.mesh_wire.specs.Times.{distance_of}
 use Rattle.mesh_wire.proofs.Deciding.{validity_or, interval_or, content_or}
@@ -39,10 +39,10 @@ there_or (Some a) = inl (a, refl)
 
 module _ (m : MessageFields) (octets : HasOctets m) where
   of_heading : (heading : TcHeader) → TcHeadingIs m heading → Outcome (TcIs m) (BreaksTc m)
-  of_heading heading h = of_rows m TcRowFrom tc_rule (TcIs m) (BreaksTc m) (λ t. (tc_row t, refl)) (rule_found m heading h) value
+  of_heading heading h = of_rows m tc_rule (TcIs m) (BreaksTc m) (rule_found m heading h) value
     where
-      value : (rows : List TcRow) → HasRows TcRowFrom tc_rule (of_blocks m.blocks) rows → (tc : Tc) × TcIs m tc × Keeps (BreaksTc m)
-      value rows has = let (keeps, true_rows) = rows_found m heading h rows has in (
+      value : (told : List AddressParts) → BreakNone tc_rule (of_blocks m.blocks) told → (tc : Tc) × TcIs m tc × Keeps (BreaksTc m)
+      value told has = let (keeps, true_rows) = rows_found m heading h told has in (
         record {
           originator = heading.originator;
           sequence = heading.sequence;
@@ -50,7 +50,7 @@ module _ (m : MessageFields) (octets : HasOctets m) where
           complete = heading.complete;
           validity = heading.validity;
           interval = heading.interval;
-          rows = rows;
+          rows = map tc_row told;
           ascending = true_rows.ascending;
         },
         record { originator = h.originator; sequence = h.sequence; content = h.content; validity = h.validity; interval = h.interval; rows = true_rows },

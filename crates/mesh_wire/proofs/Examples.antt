@@ -1,8 +1,10 @@
 -- Small messages and what they read as.
 use Rattle.std.proofs.Common.{◌≡◌, ℕ, zero, suc, ◌≤◌, inl, inr, List, [], ◌∷◌, refl, sym, ap, subst, ◌∙◌, arith, lit≤, lit<}
-use Rattle.std.specs.Prelude.{Contains, Option, Some, None, slice_get}
+use Rattle.std.specs.Prelude.{Contains, Option, Some, None, slice_get, true, nat_le, nat_lt}
+use Rattle.std.proofs.lemmas.Bool.{ltb-true, and_parts}
 use Rattle.mesh_atoms.specs.declared.addr.NetAddr.{NetAddr}
 use Rattle.mesh_atoms.specs.declared.hello.HelloRow.{HelloRow}
+use Rattle.mesh_atoms.specs.declared.hello.LocalIf.TheVariants.{This}
 use Rattle.mesh_wire.specs.Hello.{HelloIs, IsReadHelloRow}
 use Rattle.mesh_wire.specs.Kinds.{local_if, link_status, link_metric, IsStatusBelow}
 use Rattle.mesh_addr.specs.declared.records.RawAddr.{RawAddr}
@@ -13,6 +15,12 @@ use Rattle.mesh_wire.specs.Rows.{HoldsAddressAt, HoldsAddress, HasPart, HasValue
 use Rattle.mesh_wire.specs.HelloRules.{BreaksHello, AddressWidth, HopLimit, HopCount, NoValidity, WrongInterval, WrongWilling, Undefined, TwoValues, ShortPrefix, WrongMetric}
 use Rattle.mesh_wire.specs.Rules.{FirstBroken, IsOctet, Keeps}
 use Rattle.mesh_wire.specs.Examples.{own, own_net, local, own_block, lone, own_row, lone_hello, bare, near, near_net, states, two_near}
+use Rattle.mesh_wire.specs.declared.octets.OctetKind.{OctetKind}
+use Rattle.mesh_wire.specs.declared.octets.OctetKind.TheVariants.{Local}
+use Rattle.mesh_wire.specs.OctetKinds.{is_within, is_value}
+use Rattle.mesh_wire.proofs.HelloRuled.{status_of}
+use Rattle.mesh_wire.proofs.OctetKinds.{same_type}
+use Rattle.mesh_wire.proofs.OneHello.{sender_alone}
 use Rattle.mesh_atoms.proofs.Nets.{same_net}
 use Rattle.mesh_atoms.proofs.Lists.{contains_one as only}
 
@@ -41,7 +49,7 @@ own_row_is : IsReadHelloRow lone own_row
 own_row_is = record {
   local = own_local;
   of_other = λ none. cc;
-  of_sender = λ some. record { link = refl; other = refl; metrics = refl; mpr = refl };
+  of_sender = λ some. sender_alone own_net (Some This);
 }
 
 -- no other address is in it
@@ -82,9 +90,10 @@ no_metric : (net : NetAddr) (octets : List ℕ) → HasValue lone net link_metri
 no_metric net octets said = (let e : ◌≡◌ {A = ℕ} 7 2 = (says_only net link_metric octets said).0 in omega arith)
 
 defined : (kind bound : ℕ) → kind ≡ 2 → IsStatusBelow kind bound → IsOctet 0 bound (0 ∷ [])
-defined kind bound e (inl h) = (0, refl, omega arith, omega (arith, h.1))
-defined kind bound e (inr (inl h)) = absurd (omega (arith, h.0))
-defined kind bound e (inr (inr h)) = absurd (omega (arith, h.0))
+defined kind bound e below =
+    let (k, status) = status_of kind bound below in
+    let v : is_within 0 bound 0 ≡ true = sym (status.value 0) ∙ ap (λ (j : OctetKind). is_value j 0) (same_type k Local (sym status.same ∙ e)) in
+    (0, refl, lit≤ tt, ltb-true 0 bound (and_parts (nat_le 0 0) (nat_lt 0 bound) v).1)
 
 pub lone_keeps : Keeps (BreaksHello lone)
 lone_keeps n a (AddressWidth not_four) = not_four refl

@@ -1,5 +1,5 @@
 -- What the reading of a HELLO answers.
-use Rattle.std.proofs.Common.{◌≡◌, ℕ, Result, Ok, Err, List}
+use Rattle.std.proofs.Common.{◌≡◌, ℕ, Result, Ok, Err, List, map}
 use Rattle.std.specs.Prelude.{Option, IfOk, IfErr}
 use Rattle.mesh_atoms.specs.declared.addr.NetAddr.{NetAddr}
 use Rattle.mesh_atoms.specs.declared.hello.HelloRow.{HelloRow}
@@ -8,12 +8,13 @@ use Rattle.mesh_wire.specs.declared.fault.WireFault.{WireFault}
 use Rattle.mesh_wire.specs.declared.fault.WireFault.TheVariants as faults
 use Rattle.mesh_wire.specs.declared.hello.HelloHeader.{HelloHeader}
 use Rattle.mesh_wire.specs.Answers.{IfBroken, GivesValue, RefusesAt}
+use Rattle.mesh_wire.specs.declared.collect.AddressParts.{AddressParts}
 use Rattle.mesh_wire.specs.Entries.{of_blocks}
 use Rattle.mesh_wire.specs.Hello.{IsReadHelloRow}
 use Rattle.mesh_wire.specs.HelloHeading.{HeadingIs}
-use Rattle.mesh_wire.specs.HelloRows.{HelloRowFrom}
+use Rattle.mesh_wire.specs.HelloRows.{hello_row}
 use Rattle.mesh_wire.specs.HelloRules.{BreaksHello}
-use Rattle.mesh_wire.specs.Made.{HasRows, HasBroken}
+use Rattle.mesh_wire.specs.Made.{BreakNone, HasBroken}
 use Rattle.mesh_wire.specs.RowRules.{hello_rule}
 use Rattle.mesh_wire.specs.Rows.{AreRows}
 use Rattle.mesh_wire.specs.Rules.{FirstBroken, Keeps}
@@ -35,10 +36,10 @@ module _ (m : MessageFields) (heading : HelloHeader) (h : HeadingIs m heading) w
   rule_found = rule_broken m (BreaksHello m) hello_rule 26 (hello_decides m) (up_of m heading h)
 
   -- rows that break none are those of the HELLO
-  pub rows_found : (rows : List HelloRow) → HasRows HelloRowFrom hello_rule (of_blocks m.blocks) rows → Keeps (BreaksHello m) × AreRows m (λ (row : HelloRow). row.addr) (IsReadHelloRow m) rows
-  rows_found rows f =
-      let (keeps, none) = none_broken m (BreaksHello m) hello_rule 26 (hello_decides m) (up_of m heading h) HelloRowFrom rows f in
-      (keeps, rows_are m f.told (are_told m f.told f.collected) rows (λ t has. sound_of t (none t has)) f.made)
+  pub rows_found : (told : List AddressParts) → BreakNone hello_rule (of_blocks m.blocks) told → Keeps (BreaksHello m) × AreRows m (λ (row : HelloRow). row.addr) (IsReadHelloRow m) (map hello_row told)
+  rows_found told f =
+      let (keeps, none) = none_broken m (BreaksHello m) hello_rule 26 (hello_decides m) (up_of m heading h) told f in
+      (keeps, rows_are m told (are_told m told f.collected) (λ t has. sound_of t (none t has)))
 
 -- ---- the other directions
 

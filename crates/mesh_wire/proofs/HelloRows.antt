@@ -1,5 +1,5 @@
 -- Rows that are made of what is kept are the rows of the HELLO.
-use Rattle.std.proofs.Common.{◌≡◌, ℕ, zero, suc, ◌<◌, inl, inr, refl, sym, ◌∙◌, ap, subst, arith, Bool, true, false, List, [], ◌∷◌, Contains}
+use Rattle.std.proofs.Common.{◌≡◌, ℕ, zero, suc, ◌<◌, inl, inr, refl, sym, ap, subst, arith, Bool, true, false, List, [], ◌∷◌, map, Contains}
 use Rattle.std.specs.Prelude.{◌↔◌, Option, Some, None, IsTrue, nat_le, nat_lt}
 use Rattle.std.specs.Option.{option_map}
 use Rattle.std.proofs.lemmas.Bool.{ltb-true, and_parts as both}
@@ -18,17 +18,17 @@ use Rattle.mesh_wire.specs.declared.octets.ByKind.{ByKind}
 use Rattle.mesh_wire.specs.declared.octets.Octets.{Octets}
 use Rattle.mesh_wire.specs.declared.parts.MetricParts.{MetricParts}
 use Rattle.mesh_wire.specs.Hello.{local_value, link_value, other_value, IsReadHelloRow}
-use Rattle.mesh_wire.specs.HelloRows.{local_from, link_from, other_from, row_with, hello_row, HelloRowFrom}
+use Rattle.mesh_wire.specs.HelloRows.{local_from, link_from, other_from, row_with, hello_row}
 use Rattle.mesh_wire.specs.KeptParts.{octet_in, metric_at}
 use Rattle.mesh_wire.specs.Kinds.{local_if, mpr, link_metric}
-use Rattle.mesh_wire.specs.Made.{AreMade}
 use Rattle.mesh_wire.specs.Metrics.{MetricKind, Link_in, Link_out, Near_in, Near_out, ShowsMetric, MetricIs}
 use Rattle.mesh_wire.specs.OctetKinds.{statuses, type_of, is_within, is_value, at}
-use Rattle.mesh_wire.specs.Rows.{HoldsAddress, HasValue, OctetIs, SaysFlag, AreRows}
+use Rattle.mesh_wire.specs.Rows.{HasValue, OctetIs, SaysFlag, AreRows}
 use Rattle.mesh_wire.specs.Singles.{is_conflict, value_from}
 use Rattle.mesh_wire.proofs.HelloRuled.{Sound}
 use Rattle.mesh_wire.proofs.Kept.{AreTold, octet_back, read_or, kept_value, metrics_told}
-use Rattle.mesh_wire.proofs.Made.{made_from, made_of, ascending_made}
+use Rattle.mesh_wire.proofs.Made.{rows_made}
+use Rattle.mesh_wire.proofs.OneHello.{sender_alone}
 use Rattle.mesh_wire.proofs.Slots.{OneIs, Reads, SomeIs, IsFlag, OctetsAre, MetricsAre, RowIs}
 
 -- ---- one octet
@@ -103,7 +103,7 @@ module _ (m : MessageFields) (t : AddressParts) (kept : RowIs (HasValue m t.net)
   metric kind = metric_is m t.net t.parts.metrics kept.metrics kind (sound.metric kind)
 
   row_by : (local : Option LocalIf) → option_map local_from (value_from octets.local.one) ≡ local → OctetIs m t.net local_if (option_map local_value local) → IsReadHelloRow m (row_with t local)
-  row_by (Some x) e said = record { local = said; of_other = λ none. cc; of_sender = λ some. record { link = refl; other = refl; metrics = refl; mpr = refl } }
+  row_by (Some x) e said = record { local = said; of_other = λ none. cc; of_sender = λ some. sender_alone t.net (Some x) }
   row_by None e said = record {
     local = said;
     of_other = λ none. record {
@@ -128,18 +128,5 @@ row_net : (t : AddressParts) (local : Option LocalIf) → (row_with t local).add
 row_net t None = refl
 row_net t (Some x) = refl
 
-addr_is : (t : AddressParts) (r : HelloRow) → HelloRowFrom t r → r.addr ≡ t.net
-addr_is t r made = ap (λ (row : HelloRow). row.addr) made ∙ row_net t (option_map local_from (value_from t.parts.octets.local.one))
-
-pub rows_are : (m : MessageFields) (told : List AddressParts) (are : AreTold m told) (rows : List HelloRow) → ((t : AddressParts) → Contains told t → Sound t) → AreMade HelloRowFrom told rows → AreRows m (λ (row : HelloRow). row.addr) (IsReadHelloRow m) rows
-rows_are m told are rows sound h = record {
-  ascending = ascending_made HelloRowFrom (λ (row : HelloRow). row.addr) addr_is told rows h are.ascending;
-  each = λ r has.
-      let (t, there, made) = made_from HelloRowFrom told rows h r has in
-      let k = are.each t there in
-      (subst (HoldsAddress m) (sym (addr_is t r made)) k.0, subst (IsReadHelloRow m) (sym made) (row_is m t k.1 (sound t there)));
-  all = λ net has.
-      let (t, there, is) = are.all net has in
-      let (r, listed, made) = made_of HelloRowFrom told rows h t there in
-      (r, listed, addr_is t r made ∙ is);
-}
+pub rows_are : (m : MessageFields) (told : List AddressParts) → AreTold m told → ((t : AddressParts) → Contains told t → Sound t) → AreRows m (λ (row : HelloRow). row.addr) (IsReadHelloRow m) (map hello_row told)
+rows_are m told are sound = rows_made hello_row (λ (row : HelloRow). row.addr) (λ t. row_net t (option_map local_from (value_from t.parts.octets.local.one))) m (IsReadHelloRow m) told are (λ t there kept. row_is m t kept (sound t there))

@@ -36,7 +36,7 @@ pub record IsStatus (kind : OctetKind) (type bound : ℕ) : Type 0 where
   pub same : type ≡ type_of kind
   pub value : (n : ℕ) → is_value kind n ≡ is_within 0 bound n
 
-status_of : (type bound : ℕ) → IsStatusBelow type bound → (kind : OctetKind) × IsStatus kind type bound
+pub status_of : (type bound : ℕ) → IsStatusBelow type bound → (kind : OctetKind) × IsStatus kind type bound
 status_of type bound (inl (e, f)) = (Local, record { among = contains_at statuses 0 Local refl; same = e; value = λ n. ap (λ (b : ℕ). is_within 0 b n) (sym f) })
 status_of type bound (inr (inl (e, f))) = (Link, record { among = contains_at statuses 1 Link refl; same = e; value = λ n. ap (λ (b : ℕ). is_within 0 b n) (sym f) })
 status_of type bound (inr (inr (e, f))) = (Other, record { among = contains_at statuses 2 Other refl; same = e; value = λ n. ap (λ (b : ℕ). is_within 0 b n) (sym f) })

@@ -25,14 +25,16 @@ use Rattle.mesh_tlv.specs.Fields.{TlvFields}
 use Rattle.mesh_wire.specs.declared.lines.AddressTlvKind.{AddressTlvKind}
 use Rattle.mesh_wire.specs.declared.lines.AddressTlvKind.TheVariants.{Octet, LinkIn, LinkOut, NearIn, NearOut}
 use Rattle.mesh_wire.specs.declared.lines.AddressRecord.{AddressRecord}
+use Rattle.mesh_wire.specs.declared.octets.OctetKind.{OctetKind}
 use Rattle.mesh_wire.specs.declared.octets.OctetKind.TheVariants.{Local, Link, Other, Mpr}
 use Rattle.mesh_wire.specs.Drafts.{octet_of, whole, HasHelloValues, heading_of, IsHelloMessage, FitsAlone}
 use Rattle.mesh_wire.specs.Hello.{local_value, link_value, other_value, OriginatorIs, TellsOther, IsReadHelloRow, HelloIs}
 use Rattle.mesh_wire.specs.HelloRows.{sender_row}
 use Rattle.mesh_wire.specs.HelloRules.{BreaksHello, AddressWidth, HopLimit, HopCount, NoValidity, WrongInterval, WrongWilling, Undefined, TwoValues, ShortPrefix, WrongMetric}
-use Rattle.mesh_wire.specs.Kinds.{validity_time, local_if, link_metric, mpr_willing, IsStatusBelow}
+use Rattle.mesh_wire.specs.Kinds.{validity_time, local_if, link_metric, mpr, mpr_willing, IsStatusBelow}
 use Rattle.mesh_wire.specs.Lines.{kind_of, octet_pair, value_of, hello_line, narrow, flags_number}
 use Rattle.mesh_wire.specs.Metrics.{MetricKind, Link_in, Link_out, Near_in, Near_out, flag_of}
+use Rattle.mesh_wire.specs.OctetKinds.{type_of}
 use Rattle.mesh_wire.specs.Parts.{octets_of, values_of}
 use Rattle.mesh_wire.specs.Rows.{HasType, HasPart, HasValue, HasTwoValues, AreRows}
 use Rattle.mesh_wire.specs.Rules.{IsOctet, Keeps}
@@ -113,6 +115,13 @@ other_read row kind octets LinkIn e v none = metric_read row Link_in kind octets
 other_read row kind octets LinkOut e v none = metric_read row Link_out kind octets e v
 other_read row kind octets NearIn e v none = metric_read row Near_in kind octets e v
 other_read row kind octets NearOut e v none = metric_read row Near_out kind octets e v
+
+-- a type that is read is one of an octet, or that of metrics
+pub read_kind : (kind : ℕ) (octets : List ℕ) → IsReadOfOther kind octets → ((k : OctetKind) × (kind ≡ type_of k) × (kind ≡ mpr → IsOctet 1 4 octets)) ⊎ ((kind ≡ link_metric) × ((metric : MetricKind) × HasFlag metric octets))
+read_kind kind octets (inl e) = inl (Link, e, λ f. absurd (omega (arith, e, f)))
+read_kind kind octets (inr (inl e)) = inl (Other, e, λ f. absurd (omega (arith, e, f)))
+read_kind kind octets (inr (inr (inl (e, is)))) = inl (Mpr, e, λ f. is)
+read_kind kind octets (inr (inr (inr h))) = inr h
 
 sender_read : (addr : NetAddr) (local : Option LocalIf) (kind : ℕ) (octets : List ℕ) (c : AddressTlvKind) → kind ≡ kind_of c → value_of c (hello_line (sender_row addr local)) ≡ Some octets → kind ≡ local_if
 sender_read addr local kind octets (Octet Local) e v = e

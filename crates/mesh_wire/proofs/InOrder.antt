@@ -6,10 +6,9 @@ use Rattle.mesh_atoms.specs.declared.addr.NetAddr.{NetAddr}
 use Rattle.mesh_packet.specs.Fields.{MessageFields}
 use Rattle.mesh_wire.specs.declared.collect.AddressParts.{AddressParts}
 use Rattle.mesh_wire.specs.Entries.{of_blocks}
-use Rattle.mesh_wire.specs.Made.{HasRows, HasBroken}
+use Rattle.mesh_wire.specs.Made.{BreakNone, HasBroken}
 use Rattle.mesh_wire.specs.RowRules.{first_rule}
 use Rattle.mesh_wire.specs.Rules.{FirstBroken, Keeps}
-use Rattle.mesh_wire.proofs.Deciding.{made}
 use Rattle.mesh_wire.proofs.Gathering.{gathered}
 use Rattle.mesh_wire.proofs.Kept.{AreTold, are_told}
 use Rattle.mesh_wire.proofs.Ruled.{Decides, rule_first, rule_none}
@@ -54,19 +53,16 @@ of_either never in_range (inr none) broken = absurd (never (broken none) in_rang
 abbrev pub Outcome : {Value : Type 0} → (Value → Type 0) → (ℕ → Option NetAddr → Type 0) → Type 0
 Outcome {Value} Is Breaks = ((value : Value) × Is value × Keeps Breaks) ⊎ ((number : ℕ) × (addr : Option NetAddr) × FirstBroken Breaks number addr)
 
--- the same of rows, where a value is made of rows that break no rule
-module _ {Row Value : Type 0} (m : MessageFields) (From : AddressParts → Row → Type 0) (rule : AddressParts → Option ℕ) (Is : Value → Type 0) (Breaks : ℕ → Option NetAddr → Type 0)
-    (row : (t : AddressParts) → (r : Row) × From t r)
+-- the same, where a value is made of what is kept and breaks no rule
+module _ {Value : Type 0} (m : MessageFields) (rule : AddressParts → Option ℕ) (Is : Value → Type 0) (Breaks : ℕ → Option NetAddr → Type 0)
     (broken : (number : ℕ) (addr : Option NetAddr) → HasBroken rule (of_blocks m.blocks) number addr → FirstBroken Breaks number addr)
-    (value : (rows : List Row) → HasRows From rule (of_blocks m.blocks) rows → (v : Value) × Is v × Keeps Breaks) where
+    (value : (told : List AddressParts) → BreakNone rule (of_blocks m.blocks) told → (v : Value) × Is v × Keeps Breaks) where
   abbrev told : List AddressParts
   told = (gathered (of_blocks m.blocks)).0
 
   by : (o : Option (ℕ × NetAddr)) → first_rule rule None told ≡ o → Outcome Is Breaks
   by (Some (number, net)) e = inr (number, Some net, broken number (Some net) (record { told = told; collected = (gathered (of_blocks m.blocks)).1; net = net; found = e; at = refl }))
-  by None e =
-      let (rows, of) = made From told row in
-      inl (value rows (record { told = told; collected = (gathered (of_blocks m.blocks)).1; clean = e; made = of }))
+  by None e = inl (value told (record { collected = (gathered (of_blocks m.blocks)).1; clean = e }))
 
   pub of_rows : Outcome Is Breaks
   of_rows = by (first_rule rule None told) refl
@@ -81,8 +77,7 @@ module _ (m : MessageFields) (Breaks : ℕ → Option NetAddr → Type 0) (rule 
       subst (λ (a : Option NetAddr). FirstBroken Breaks number a) (sym f.at) (rule_first Breaks rule f.told start (decides f.told are) are.ascending below number f.net f.found)
 
   -- or no rule is broken
-  pub none_broken : {Row : Type 0} (From : AddressParts → Row → Type 0) (rows : List Row) (f : HasRows From rule (of_blocks m.blocks) rows) →
-      Keeps Breaks × ((t : AddressParts) → Contains f.told t → rule t ≡ None)
-  none_broken From rows f =
-      let are = are_told m f.told f.collected in
-      rule_none Breaks rule f.told start (decides f.told are) are.ascending below f.clean
+  pub none_broken : (told : List AddressParts) → BreakNone rule (of_blocks m.blocks) told → Keeps Breaks × ((t : AddressParts) → Contains told t → rule t ≡ None)
+  none_broken told f =
+      let are = are_told m told f.collected in
+      rule_none Breaks rule told start (decides told are) are.ascending below f.clean

@@ -1,12 +1,12 @@
 -- A message that keeps the rules of a HELLO reads as one HELLO.
-use Rattle.std.proofs.Common.{◌≡◌, ℕ, zero, suc, ◌/◌, ◌%◌, inl, inr, List, Bool, refl, sym, ap, subst, ◌∙◌}
+use Rattle.std.proofs.Common.{◌≡◌, ℕ, ◌/◌, ◌%◌, inl, inr, List, Bool, refl, sym, ap, subst, ◌∙◌}
 use Rattle.std.specs.Prelude.{AllPairs, Option, Some, None, IsSome}
 use Rattle.mesh_atoms.specs.declared.addr.Addr4.{Addr4}
 use Rattle.mesh_atoms.specs.declared.addr.NetAddr.{NetAddr}
 use Rattle.mesh_atoms.specs.Nodes.{IsBefore}
 use Rattle.mesh_atoms.specs.Ascends.{ascends_prop}
 use Rattle.mesh_atoms.specs.declared.hello.LocalIf.{LocalIf}
-use Rattle.mesh_atoms.specs.declared.hello.LocalIf.TheVariants.{This, Other}
+use Rattle.mesh_atoms.specs.declared.hello.LocalIf.TheVariants.{This}
 use Rattle.mesh_atoms.specs.declared.hello.LinkStatus.{LinkStatus}
 use Rattle.mesh_atoms.specs.declared.hello.LinkStatus.TheVariants as link
 use Rattle.mesh_atoms.specs.declared.hello.OtherStatus.{OtherStatus}
@@ -21,7 +21,7 @@ use Rattle.mesh_atoms.specs.Writable.{IsAlone}
 use Rattle.mesh_atoms.proofs.Equal.{same_willing}
 use Rattle.mesh_atoms.proofs.Options.{same_answer}
 use Rattle.mesh_wire.specs.Hello.{local_value, link_value, other_value, HasWilling, WillingIs, TellsOther, IsReadHelloRow, HelloIs}
-use Rattle.mesh_wire.specs.HelloRows.{sender_row}
+use Rattle.mesh_wire.specs.HelloRows.{local_from, link_from, other_from, sender_row}
 use Rattle.mesh_wire.specs.HelloRules.{BreaksHello, TwoValues, WrongMetric}
 use Rattle.mesh_wire.specs.Kinds.{local_if, link_status, other_neighb, IsStatusBelow}
 use Rattle.mesh_packet.specs.Fields.{MessageFields}
@@ -32,34 +32,17 @@ use Rattle.mesh_wire.proofs.Single.{one_time, one_interval, one_originator, one_
 
 -- ---- enumerations by their values
 
-local_of : ℕ → LocalIf
-local_of zero = This
-local_of (suc n) = Other
-
-local_again : (x : LocalIf) → local_of (local_value x) ≡ x
-unfolding local_of
+local_again : (x : LocalIf) → local_from (local_value x) ≡ x
 local_again This = refl
-local_again Other = refl
+local_again x = refl
 
-link_of : ℕ → LinkStatus
-link_of zero = link.Lost
-link_of (suc zero) = link.Symmetric
-link_of (suc (suc n)) = link.Heard
-
-link_again : (x : LinkStatus) → link_of (link_value x) ≡ x
-unfolding link_of
+link_again : (x : LinkStatus) → link_from (link_value x) ≡ x
 link_again link.Lost = refl
-link_again link.Symmetric = refl
-link_again link.Heard = refl
+link_again x = refl
 
-other_of : ℕ → OtherStatus
-other_of zero = other.Lost
-other_of (suc n) = other.Symmetric
-
-other_again : (x : OtherStatus) → other_of (other_value x) ≡ x
-unfolding other_of
+other_again : (x : OtherStatus) → other_from (other_value x) ≡ x
 other_again other.Lost = refl
-other_again other.Symmetric = refl
+other_again x = refl
 
 -- ---- rows
 
@@ -98,7 +81,14 @@ same_row r s a l alike =
     ∙ ap (λ (x : Metrics). row_of s.addr s.local s.link s.other x r.mpr) alike.metrics
     ∙ ap (λ (x : Mpr). row_of s.addr s.local s.link s.other s.metrics x) alike.mpr
 
+-- the row at another address
+abbrev moved : NetAddr → HelloRow → HelloRow
+moved net r = record r { addr = net }
+
 -- a row of the sender's, of which nothing else is said
+pub sender_alone : (addr : NetAddr) (local : Option LocalIf) → IsAlone (sender_row addr local)
+sender_alone addr local = record { link = refl; other = refl; metrics = refl; mpr = refl }
+
 pub alone_row : (r : HelloRow) → IsAlone r → r ≡ sender_row r.addr r.local
 alone_row r h = same_row r (sender_row r.addr r.local) refl refl (record { link = h.link; other = h.other; metrics = h.metrics; mpr = h.mpr })
 
@@ -111,44 +101,31 @@ module _ (message : MessageFields) (keeps : Keeps (BreaksHello message)) where
   not_two_metrics : (net : NetAddr) → HasTwoMetrics message net → ⊥
   not_two_metrics net metrics = keeps 29 (Some net) (WrongMetric net (inr metrics))
 
-  others_alike : (r : HelloRow) (l : Option LocalIf) (k : Option LinkStatus) (o : Option OtherStatus) (m : Metrics) (p : Mpr) →
-      TellsOther message r → TellsOther message (row_of r.addr l k o m p) → Alike r (row_of r.addr l k o m p)
-  others_alike r l k o m p h g = record {
-    link = told_by link_value link_of link_again r.link k (one_octet message r.addr link_status _ _ (not_two r.addr link_status 3 (inr (inl (refl, refl)))) h.link g.link);
-    other = told_by other_value other_of other_again r.other o (one_octet message r.addr other_neighb _ _ (not_two r.addr other_neighb 2 (inr (inr (refl, refl)))) h.other g.other);
-    metrics = same_metrics r.metrics m
+  others_alike : (r s : HelloRow) → TellsOther message r → TellsOther message (moved r.addr s) → Alike r s
+  others_alike r s h g = record {
+    link = told_by link_value link_from link_again r.link s.link (one_octet message r.addr link_status _ _ (not_two r.addr link_status 3 (inr (inl (refl, refl)))) h.link g.link);
+    other = told_by other_value other_from other_again r.other s.other (one_octet message r.addr other_neighb _ _ (not_two r.addr other_neighb 2 (inr (inr (refl, refl)))) h.other g.other);
+    metrics = same_metrics r.metrics s.metrics
         (one_metric message r.addr Link_in _ _ (not_two_metrics r.addr) h.link_in g.link_in)
         (one_metric message r.addr Link_out _ _ (not_two_metrics r.addr) h.link_out g.link_out)
         (one_metric message r.addr Near_in _ _ (not_two_metrics r.addr) h.near_in g.near_in)
         (one_metric message r.addr Near_out _ _ (not_two_metrics r.addr) h.near_out g.near_out);
-    mpr = same_mpr r.mpr p (same_answer r.mpr.flooding p.flooding h.flooding g.flooding) (same_answer r.mpr.routing p.routing h.routing g.routing);
+    mpr = same_mpr r.mpr s.mpr (same_answer r.mpr.flooding s.mpr.flooding h.flooding g.flooding) (same_answer r.mpr.routing s.mpr.routing h.routing g.routing);
   }
 
-  senders_alike : (r s : HelloRow) → IsAlone r → IsAlone s → Alike r s
-  senders_alike r s h g = record {
-    link = h.link ∙ sym g.link;
-    other = h.other ∙ sym g.other;
-    metrics = h.metrics ∙ sym g.metrics;
-    mpr = h.mpr ∙ sym g.mpr;
-  }
+  senders_alike : (r s : HelloRow) → IsAlone r → IsAlone (moved r.addr s) → Alike r s
+  senders_alike r s h g = record { link = h.link ∙ sym g.link; other = h.other ∙ sym g.other; metrics = h.metrics ∙ sym g.metrics; mpr = h.mpr ∙ sym g.mpr }
 
-  alike : (r : HelloRow) (l : Option LocalIf) (k : Option LinkStatus) (o : Option OtherStatus) (m : Metrics) (p : Mpr) (q : Option LocalIf) → r.local ≡ q → l ≡ q →
-      IsReadHelloRow message r → IsReadHelloRow message (row_of r.addr l k o m p) → Alike r (row_of r.addr l k o m p)
-  alike r l k o m p None e f h g = others_alike r l k o m p (h.of_other e) (g.of_other f)
-  alike r l k o m p (Some x) e f h g = senders_alike r (row_of r.addr l k o m p) (h.of_sender (subst IsSome (sym e) refl)) (g.of_sender (subst IsSome (sym f) refl))
-
-  told_here : (r : HelloRow) (l : Option LocalIf) (k : Option LinkStatus) (o : Option OtherStatus) (m : Metrics) (p : Mpr) →
-      IsReadHelloRow message r → IsReadHelloRow message (row_of r.addr l k o m p) → r ≡ row_of r.addr l k o m p
-  told_here r l k o m p h g =
-      let local : r.local ≡ l = told_by local_value local_of local_again r.local l (one_octet message r.addr local_if _ _ (not_two r.addr local_if 2 (inl (refl, refl))) h.local g.local) in
-      same_row r (row_of r.addr l k o m p) refl local (alike r l k o m p l local refl h g)
+  alike : (r s : HelloRow) (q : Option LocalIf) → r.local ≡ q → s.local ≡ q → IsReadHelloRow message r → IsReadHelloRow message (moved r.addr s) → Alike r s
+  alike r s None e f h g = others_alike r s (h.of_other e) (g.of_other f)
+  alike r s (Some x) e f h g = senders_alike r s (h.of_sender (subst IsSome (sym e) refl)) (g.of_sender (subst IsSome (sym f) refl))
 
   -- a row is told by its address
   told : (r s : HelloRow) → r.addr ≡ s.addr → IsReadHelloRow message r → IsReadHelloRow message s → r ≡ s
   told r s a h g =
-      let here : IsReadHelloRow message (row_of r.addr s.local s.link s.other s.metrics s.mpr) =
-      subst (λ (net : NetAddr). IsReadHelloRow message (row_of net s.local s.link s.other s.metrics s.mpr)) (sym a) g in
-      told_here r s.local s.link s.other s.metrics s.mpr h here ∙ ap (λ (net : NetAddr). row_of net s.local s.link s.other s.metrics s.mpr) a
+      let here : IsReadHelloRow message (moved r.addr s) = subst (λ (net : NetAddr). IsReadHelloRow message (moved net s)) (sym a) g in
+      let local : r.local ≡ s.local = told_by local_value local_from local_again r.local s.local (one_octet message r.addr local_if _ _ (not_two r.addr local_if 2 (inl (refl, refl))) h.local here.local) in
+      same_row r s a local (alike r s s.local local refl h here)
 
 -- ---- the whole
 

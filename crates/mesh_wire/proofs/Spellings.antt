@@ -15,14 +15,19 @@ use Rattle.mesh_tlv.specs.Fields.{TlvFields}
 use Rattle.mesh_tlv.specs.Grammar.{SpellsTlvBlock, SpellsAddrTlvBlock}
 use Rattle.mesh_wire.specs.Examples.{own, own_net, local, own_block, near, near_net, lone, lone_hello}
 use Rattle.mesh_wire.specs.HelloRules.{BreaksHello, Undefined}
-use Rattle.mesh_wire.specs.Kinds.{local_if, link_status}
+use Rattle.mesh_wire.specs.declared.octets.OctetKind.{OctetKind}
+use Rattle.mesh_wire.specs.declared.octets.OctetKind.TheVariants.{Local}
+use Rattle.mesh_wire.specs.Kinds.{local_if, link_status, link_metric, mpr}
 use Rattle.mesh_wire.specs.Metrics.{MetricKind, Link_in, Link_out, Near_in, Near_out, flag_of}
-use Rattle.mesh_wire.specs.Rules.{Keeps}
+use Rattle.mesh_wire.specs.OctetKinds.{type_of}
+use Rattle.mesh_wire.specs.Rules.{IsOctet, Keeps}
 use Rattle.mesh_wire.specs.Rows.{HasPart, HasValue, HoldsAddressAt}
 use Rattle.mesh_wire.specs.Spellings.{wordy_tlvs, wordy_local, short_block, long_block, message_with, wordy, too_wordy, IsForNone, IsSentForNone, unknown_tlv, beside, two, with_near, status, own_two, status_of_sender}
-use Rattle.mesh_wire.specs.Writes.{HasBriefBlocks, IsSoleMessage, IsReadOfHello, IsReadOfOther, IsReadOfHelloAddress, WritesHello, alone}
+use Rattle.mesh_wire.specs.Writes.{HasBriefBlocks, IsSoleMessage, HasFlag, IsReadOfHello, IsReadOfOther, IsReadOfHelloAddress, WritesHello, alone}
 use Rattle.mesh_wire.proofs.Examples.{says, part_only, lone_is, lone_keeps}
 use Rattle.mesh_wire.proofs.Behind.{behind_head, behind_tlvs}
+use Rattle.mesh_wire.proofs.HelloWritten.{read_kind}
+use Rattle.mesh_wire.proofs.OctetKinds.{not_metric}
 use Rattle.mesh_wire.proofs.RowLines.{alone_again}
 use Rattle.mesh_atoms.proofs.Lists.{heads_equal, tails_equal}
 
@@ -313,31 +318,30 @@ beside_at kind octets = record { address = near; in_message = (0, lit< tt, refl)
 beside_said : (kind : ℕ) (octets : List ℕ) → HasValue (with_near kind octets) near_net kind octets
 beside_said kind octets = says (with_near kind octets) (two kind octets) 1 near_net (beside kind octets) kind octets (beside_at kind octets) (1, lit< tt, refl) (lit≤ tt) (lit≤ tt) refl
 
--- a reading that looks at it is of one of these kinds
-beside_read : (kind : ℕ) (octets : List ℕ) (hello : Hello) (bytes : List ℕ) (spans : List Span) → Spells (alone (with_near kind octets)) spans bytes → WritesHello hello bytes → (kind ≡ local_if) ⊎ IsReadOfOther kind octets
+-- a reading that looks at it is of one octet, or of a metric
+beside_read : (kind : ℕ) (octets : List ℕ) (hello : Hello) (bytes : List ℕ) (spans : List Span) → Spells (alone (with_near kind octets)) spans bytes → WritesHello hello bytes →
+    ((k : OctetKind) × (kind ≡ type_of k) × (kind ≡ mpr → IsOctet 1 4 octets)) ⊎ ((kind ≡ link_metric) × ((metric : MetricKind) × HasFlag metric octets))
 beside_read kind octets hello bytes spans spelled w =
     let (value, part, same) = beside_said kind octets in
     elim (part_read (with_near kind octets) hello bytes spans spelled w near_net _ part).kind [
-      | inl h ↦ inl h
-      | inr h ↦ inr (subst (IsReadOfOther kind) (sym same) h.1)
+      | inl h ↦ inl (Local, h, λ f. absurd (omega (arith, h, f)))
+      | inr h ↦ read_kind kind octets (subst (IsReadOfOther kind) (sym same) h.1)
     ]
+
+unknown : (k : OctetKind) → 200 ≡ type_of k → ⊥
+unknown Local e = absurd (omega arith)
+unknown k e = absurd (omega arith)
 
 pub unknown_part_never : IsSentForNone (with_near 200 [])
 unknown_part_never hello bytes spans spelled w = elim (beside_read 200 [] hello bytes spans spelled w) [
-  | inl h ↦ absurd (omega (arith, h))
-  | inr (inl h) ↦ absurd (omega (arith, h))
-  | inr (inr (inl h)) ↦ absurd (omega (arith, h))
-  | inr (inr (inr (inl h))) ↦ absurd (omega (arith, h.0))
-  | inr (inr (inr (inr h))) ↦ absurd (omega (arith, h.0))
+  | inl (k, e, is) ↦ unknown k e
+  | inr h ↦ absurd (omega (arith, h.0))
 ]
 
 pub relay_never : IsSentForNone (with_near 8 (4 ∷ []))
 relay_never hello bytes spans spelled w = elim (beside_read 8 (4 ∷ []) hello bytes spans spelled w) [
-  | inl h ↦ absurd (omega (arith, h))
-  | inr (inl h) ↦ absurd (omega (arith, h))
-  | inr (inr (inl h)) ↦ absurd (omega (arith, h))
-  | inr (inr (inr (inl h))) ↦ (let (octet, is, low, high) = h.1 in absurd (omega (arith, heads_equal 4 octet [] [] is, high)))
-  | inr (inr (inr (inr h))) ↦ absurd (omega (arith, h.0))
+  | inl (k, e, is) ↦ (let (octet, same, low, high) = is refl in absurd (omega (arith, heads_equal 4 octet [] [] same, high)))
+  | inr h ↦ absurd (omega (arith, h.0))
 ]
 
 first_octet : (a b c d : ℕ) → a ∷ b ∷ [] ≡ c ∷ d ∷ [] → a ≡ c
@@ -351,11 +355,8 @@ unflagged Near_out e = false≢true e
 
 pub metric_never : IsSentForNone (with_near 7 (0 ∷ 100 ∷ []))
 metric_never hello bytes spans spelled w = elim (beside_read 7 (0 ∷ 100 ∷ []) hello bytes spans spelled w) [
-  | inl h ↦ absurd (omega (arith, h))
-  | inr (inl h) ↦ absurd (omega (arith, h))
-  | inr (inr (inl h)) ↦ absurd (omega (arith, h))
-  | inr (inr (inr (inl h))) ↦ absurd (omega (arith, h.0))
-  | inr (inr (inr (inr (same, (metric, (high, low, is, flagged)))))) ↦ unflagged metric (subst (λ (n : ℕ). has n (flag_of metric) ≡ true) (sym (first_octet 0 100 high low is)) flagged)
+  | inl (k, e, is) ↦ not_metric k (sym e)
+  | inr (same, (metric, (high, low, is, flagged))) ↦ unflagged metric (subst (λ (n : ℕ). has n (flag_of metric) ≡ true) (sym (first_octet 0 100 high low is)) flagged)
 ]
 
 -- a LINK_STATUS of no meaning breaks a rule

@@ -1,18 +1,19 @@
 -- What the reading of a TC answers.
-use Rattle.std.proofs.Common.{ℕ, List}
+use Rattle.std.proofs.Common.{ℕ, List, map}
 use Rattle.std.specs.Prelude.{Option}
 use Rattle.mesh_atoms.specs.declared.addr.NetAddr.{NetAddr}
 use Rattle.mesh_atoms.specs.declared.tc.TcRow.{TcRow}
 use Rattle.mesh_atoms.proofs.Options.{none_not}
 use Rattle.mesh_packet.specs.Fields.{MessageFields}
 use Rattle.mesh_wire.specs.declared.tc.TcHeader.{TcHeader}
+use Rattle.mesh_wire.specs.declared.collect.AddressParts.{AddressParts}
 use Rattle.mesh_wire.specs.Entries.{of_blocks}
-use Rattle.mesh_wire.specs.Made.{HasRows, HasBroken}
+use Rattle.mesh_wire.specs.Made.{BreakNone, HasBroken}
 use Rattle.mesh_wire.specs.RowRules.{tc_rule}
 use Rattle.mesh_wire.specs.Rows.{AreRows}
 use Rattle.mesh_wire.specs.Rules.{FirstBroken, Keeps}
 use Rattle.mesh_wire.specs.Tc.{IsReadTcRow}
-use Rattle.mesh_wire.specs.TcHeading.{TcHeadingIs, TcRowFrom}
+use Rattle.mesh_wire.specs.TcHeading.{TcHeadingIs, tc_row}
 use Rattle.mesh_wire.specs.TcRules.{BreaksTc}
 use Rattle.mesh_wire.proofs.InOrder.{NoneBelow, rule_broken, none_broken}
 use Rattle.mesh_wire.proofs.Kept.{are_told}
@@ -32,7 +33,7 @@ module _ (m : MessageFields) (heading : TcHeader) (h : TcHeadingIs m heading) wh
   rule_found = rule_broken m (BreaksTc m) tc_rule 37 (tc_decides m) (up_of m heading h)
 
   -- rows that break none are those of the TC
-  pub rows_found : (rows : List TcRow) → HasRows TcRowFrom tc_rule (of_blocks m.blocks) rows → Keeps (BreaksTc m) × AreRows m (λ (row : TcRow). row.dest) (IsReadTcRow m) rows
-  rows_found rows f =
-      let (keeps, none) = none_broken m (BreaksTc m) tc_rule 37 (tc_decides m) (up_of m heading h) TcRowFrom rows f in
-      (keeps, rows_are m f.told (are_told m f.told f.collected) rows (λ t has. sound_of t (none t has)) f.made)
+  pub rows_found : (told : List AddressParts) → BreakNone tc_rule (of_blocks m.blocks) told → Keeps (BreaksTc m) × AreRows m (λ (row : TcRow). row.dest) (IsReadTcRow m) (map tc_row told)
+  rows_found told f =
+      let (keeps, none) = none_broken m (BreaksTc m) tc_rule 37 (tc_decides m) (up_of m heading h) told f in
+      (keeps, rows_are m told (are_told m told f.collected) (λ t has. sound_of t (none t has)))

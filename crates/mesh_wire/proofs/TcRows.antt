@@ -1,19 +1,18 @@
 -- Rows that are made of what is kept are the rows of the TC.
-use Rattle.std.proofs.Common.{◌≡◌, sym, ◌∙◌, ap, subst, false, List, Contains}
+use Rattle.std.proofs.Common.{◌≡◌, refl, false, List, map, Contains}
 use Rattle.mesh_atoms.specs.declared.tc.TcRow.{TcRow}
 use Rattle.mesh_packet.specs.Fields.{MessageFields}
 use Rattle.mesh_wire.specs.declared.collect.AddressParts.{AddressParts}
 use Rattle.mesh_wire.specs.declared.octets.OctetKind.TheVariants.{AddrType, Gateway}
 use Rattle.mesh_wire.specs.Kinds.{nbr_addr_type}
-use Rattle.mesh_wire.specs.Made.{AreMade}
 use Rattle.mesh_wire.specs.Metrics.{Near_out}
-use Rattle.mesh_wire.specs.Rows.{HoldsAddress, HasValue, AreRows}
+use Rattle.mesh_wire.specs.Rows.{HasValue, AreRows}
 use Rattle.mesh_wire.specs.Tc.{IsReadTcRow}
-use Rattle.mesh_wire.specs.TcHeading.{tc_row, TcRowFrom}
+use Rattle.mesh_wire.specs.TcHeading.{tc_row}
 use Rattle.mesh_wire.specs.Singles.{is_conflict}
 use Rattle.mesh_wire.proofs.HelloRows.{octet_is, metric_is, flag_is}
 use Rattle.mesh_wire.proofs.Kept.{AreTold}
-use Rattle.mesh_wire.proofs.Made.{made_from, made_of, ascending_made}
+use Rattle.mesh_wire.proofs.Made.{rows_made}
 use Rattle.mesh_wire.proofs.Slots.{RowIs}
 
 -- a row that keeps the rules that its reading looks at
@@ -31,18 +30,5 @@ row_is m t kept sound =
       metric = metric_is m t.net t.parts.metrics kept.metrics Near_out sound.metric;
     }
 
-dest_is : (t : AddressParts) (r : TcRow) → TcRowFrom t r → r.dest ≡ t.net
-dest_is t r made = ap (λ (row : TcRow). row.dest) made
-
-pub rows_are : (m : MessageFields) (told : List AddressParts) → AreTold m told → (rows : List TcRow) → ((t : AddressParts) → Contains told t → IsSound t) → AreMade TcRowFrom told rows → AreRows m (λ (row : TcRow). row.dest) (IsReadTcRow m) rows
-rows_are m told are rows sound h = record {
-  ascending = ascending_made TcRowFrom (λ (row : TcRow). row.dest) dest_is told rows h are.ascending;
-  each = λ r has.
-      let (t, there, made) = made_from TcRowFrom told rows h r has in
-      let k = are.each t there in
-      (subst (HoldsAddress m) (sym (dest_is t r made)) k.0, subst (IsReadTcRow m) (sym made) (row_is m t k.1 (sound t there)));
-  all = λ net has.
-      let (t, there, is) = are.all net has in
-      let (r, listed, made) = made_of TcRowFrom told rows h t there in
-      (r, listed, dest_is t r made ∙ is);
-}
+pub rows_are : (m : MessageFields) (told : List AddressParts) → AreTold m told → ((t : AddressParts) → Contains told t → IsSound t) → AreRows m (λ (row : TcRow). row.dest) (IsReadTcRow m) (map tc_row told)
+rows_are m told are sound = rows_made tc_row (λ (row : TcRow). row.dest) (λ t. refl) m (IsReadTcRow m) told are (λ t there kept. row_is m t kept (sound t there))

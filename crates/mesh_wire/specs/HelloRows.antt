@@ -1,6 +1,6 @@
 -- How the row of a HELLO is made of what is kept of its address.
 use Rattle.std.proofs.Common.{zero, suc}
-use Rattle.std.specs.Prelude.{◌≡◌, ℕ, Option, Some, None, false}
+use Rattle.std.specs.Prelude.{ℕ, Option, Some, None, false}
 use Rattle.std.specs.Option.{option_map}
 use Rattle.mesh_atoms.specs.declared.addr.NetAddr.{NetAddr}
 use Rattle.mesh_atoms.specs.declared.hello.LocalIf.{LocalIf}
@@ -60,7 +60,3 @@ row_with told None = record {
 -- the row of what is kept of an address
 abbrev pub hello_row : AddressParts → HelloRow
 hello_row told = row_with told (option_map local_from (value_from told.parts.octets.local.one))
-
--- it is that row
-abbrev pub HelloRowFrom : AddressParts → HelloRow → Type 0
-HelloRowFrom told row = row ≡ hello_row told

@@ -33,7 +33,3 @@ tc_row told = record {
   gateway = value_from told.parts.octets.gateway.one;
   metric = value_from told.parts.metrics.near_out;
 }
-
--- it is that row
-abbrev pub TcRowFrom : AddressParts → TcRow → Type 0
-TcRowFrom told row = row ≡ tc_row told

@@ -157,13 +157,13 @@ impl Row for HelloRow {
     ghost use Rattle.std.specs.Prelude.{◌<◌, ◌^◌};
     ghost use Rattle.mesh_wire.specs.Hello.{IsReadHelloRow};
     ghost use Rattle.mesh_wire.specs.HelloHeading.{HeadingIs};
-    ghost use Rattle.mesh_wire.specs.HelloRows.{HelloRowFrom};
+    ghost use Rattle.mesh_wire.specs.HelloRows.{hello_row};
     ghost use Rattle.mesh_wire.specs.HelloRules.{BreaksHello};
     ghost use Rattle.mesh_wire.specs.RowRules.{hello_rule};
 
     type Heading = HelloHeader;
 
-    ghost is_from = { HelloRowFrom };
+    ghost row_of = { hello_row };
 
     ghost rule = { hello_rule };
 

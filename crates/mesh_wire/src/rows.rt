@@ -1,8 +1,7 @@
 //! The heading of a message and its rows, which are made of what is kept of its addresses (RFC 6130, section 10, and RFC 7181, section 13.3).
-ghost use Rattle.std.specs.Prelude.{◌≡◌, List, IfOk, IfErr, None};
+ghost use Rattle.std.specs.Prelude.{◌≡◌, map, IfOk, IfErr, None};
 ghost use Rattle.mesh_packet.specs.Fields.{fields_of_message};
 ghost use Rattle.mesh_wire.specs.Answers.{IfBroken};
-ghost use Rattle.mesh_wire.specs.Made.{AreMade, CanBeMade};
 ghost use Rattle.mesh_wire.specs.RowRules.{sooner, first_rule};
 ghost use Rattle.mesh_wire.specs.Rows.{AreRows, HasRowCount};
 ghost use Rattle.mesh_wire.specs.Rules.{Keeps, FirstBroken};
@@ -13,22 +12,22 @@ use mesh_atoms::{NetAddr, Seq};
 use mesh_packet::Message;
 use std::alloc::{AllocError, Global};
 
-/// A row of messages of one type: it is made of what is kept of an address.
+/// A row of messages of one type, made of what is kept of an address.
 pub(crate) trait Row: Sized + Drop {
     ghost use Rattle.std.specs.Prelude.{◌≡◌, ℕ, List, map, Option, IfOk, IfErr, None};
     ghost use Rattle.mesh_atoms.specs.declared.addr.NetAddr.{NetAddr};
     ghost use Rattle.mesh_packet.specs.Fields.{MessageFields, fields_of_block, fields_of_message};
     ghost use Rattle.mesh_wire.specs.declared.collect.AddressParts.{AddressParts};
     ghost use Rattle.mesh_wire.specs.Entries.{of_blocks};
-    ghost use Rattle.mesh_wire.specs.Made.{HasRows, HasBroken};
+    ghost use Rattle.mesh_wire.specs.Made.{BreakNone, HasBroken};
     ghost use Rattle.mesh_wire.specs.Rows.{AreRows};
     ghost use Rattle.mesh_wire.specs.Rules.{Keeps, FirstBroken};
 
     /// What is read of a message before its rows.
     type Heading: Copy;
 
-    /// Whether it is the row of what is kept.
-    ghost is_from: { AddressParts → Self → Type 0 };
+    /// The row of what is kept.
+    ghost row_of: { AddressParts → Self };
 
     /// The first rule that what is kept breaks.
     ghost rule: { AddressParts → Option ℕ };
@@ -46,7 +45,7 @@ pub(crate) trait Row: Sized + Drop {
     ghost breaks: { MessageFields → ℕ → Option NetAddr → Type 0 };
 
     fn of_told(told: &AddressParts) -> Self
-        ensures { is_from told.now result };
+        ensures { result ≡ row_of told.now };
 
     fn rule_of(told: &AddressParts) -> Option<u8>
         ensures { result ≡ rule told.now };
@@ -60,9 +59,9 @@ pub(crate) trait Row: Sized + Drop {
             → HasBroken rule (of_blocks (map fields_of_block message.now.blocks)) number addr
             → FirstBroken (breaks (fields_of_message message.now)) number addr) }
         // Rows that break none are those of the message.
-        ensures rows_kept { IfOk result (λ heading. (rows : List Self)
-            → HasRows is_from rule (of_blocks (map fields_of_block message.now.blocks)) rows
-            → Keeps (breaks (fields_of_message message.now)) × AreRows (fields_of_message message.now) addr_of (is_read (fields_of_message message.now)) rows) };
+        ensures rows_kept { IfOk result (λ heading. (told : List AddressParts)
+            → BreakNone rule (of_blocks (map fields_of_block message.now.blocks)) told
+            → Keeps (breaks (fields_of_message message.now)) × AreRows (fields_of_message message.now) addr_of (is_read (fields_of_message message.now)) (map row_of told)) };
 }
 
 // What was found, or what a later row breaks, where its rule has a lower number.
@@ -97,22 +96,13 @@ fn first_rule<R: Row>(told: &[AddressParts]) -> Option<(u8, NetAddr)>
 
 // The rows, in the same order.
 fn rows_of<R: Row>(alloc: Global, told: &[AddressParts]) -> Result<Seq<R>, AllocError>
-    ensures { IfOk result (AreMade R.is_from told.now) }
+    ensures { IfOk result (λ rows. rows ≡ map R.row_of told.now) }
 {
     let mut rows = Vec::with_capacity(alloc, told.len())?;
-    for i in 0..told.len() {
-        rows.push(R::of_told(&told[i]))?;
+    for kept in told {
+        rows.push(R::of_told(kept))?;
     }
     Ok(Seq::from_vec(rows))
-}
-
-// A row can be made of each: making one changes nothing, so a compiler leaves the loop out.
-fn can_be_made<R: Row>(told: &[AddressParts])
-    ensures { CanBeMade R.is_from told.now }
-{
-    for i in 0..told.len() {
-        let _row = R::of_told(&told[i]);
-    }
 }
 
 // The heading of a message and what is kept of its addresses, or the first rule that it breaks.
@@ -121,8 +111,8 @@ fn kept_of<R: Row>(
     message: &Message,
 ) -> Result<(R::Heading, Vec<AddressParts>), WireFault>
     ensures heading { IfOk result (λ x. R.is_heading (fields_of_message message.now) x.0) }
-    ensures rows { IfOk result (λ x. (rows : List R) → AreMade R.is_from x.1.items rows
-        → Keeps (R.breaks (fields_of_message message.now)) × AreRows (fields_of_message message.now) R.addr_of (R.is_read (fields_of_message message.now)) rows) }
+    ensures rows { IfOk result (λ x. Keeps (R.breaks (fields_of_message message.now))
+        × AreRows (fields_of_message message.now) R.addr_of (R.is_read (fields_of_message message.now)) (map R.row_of x.1.items)) }
     ensures broken { IfErr result (IfBroken (FirstBroken (R.breaks (fields_of_message message.now)))) }
 {
     let heading = match R::heading_of(message) {
@@ -152,7 +142,7 @@ pub(crate) fn rows_in<R: Row>(
     ensures broken { IfErr result (IfBroken (FirstBroken (R.breaks (fields_of_message message.now)))) }
 {
     let (heading, told) = kept_of::<R>(alloc, message)?;
-    let rows = rows_of(alloc, told.as_slice())?;
+    let rows = rows_of::<R>(alloc, told.as_slice())?;
     Ok((heading, rows))
 }
 
@@ -168,6 +158,5 @@ pub(crate) fn row_count<R: Row>(
     ensures broken { IfErr result (IfBroken (FirstBroken (R.breaks (fields_of_message message.now)))) }
 {
     let (heading, told) = kept_of::<R>(alloc, message)?;
-    can_be_made::<R>(told.as_slice());
     Ok((heading, told.len()))
 }

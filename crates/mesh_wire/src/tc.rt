@@ -122,12 +122,12 @@ impl Row for TcRow {
     ghost use Rattle.std.specs.Prelude.{◌<◌, ◌^◌};
     ghost use Rattle.mesh_wire.specs.RowRules.{tc_rule};
     ghost use Rattle.mesh_wire.specs.Tc.{IsReadTcRow};
-    ghost use Rattle.mesh_wire.specs.TcHeading.{TcHeadingIs, TcRowFrom};
+    ghost use Rattle.mesh_wire.specs.TcHeading.{TcHeadingIs, tc_row};
     ghost use Rattle.mesh_wire.specs.TcRules.{BreaksTc};
 
     type Heading = TcHeader;
 
-    ghost is_from = { TcRowFrom };
+    ghost row_of = { tc_row };
 
     ghost rule = { tc_rule };
 

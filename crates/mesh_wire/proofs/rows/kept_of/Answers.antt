@@ -14,9 +14,7 @@ returns-in-Some-clause-broken g c = c.in-Ok.ensures.rows_broken c.in-Some.number
 })
 
 pub returns-clause-rows : goal.returns-clause-rows
-returns-clause-rows g c = λ rows made. c.in-Ok.ensures.rows_kept rows (record {
-  told = c.in_ok-told.told.items;
+returns-clause-rows g c = c.in-Ok.ensures.rows_kept c.in_ok-told.told.items (record {
   collected = c.in_ok-told.ensures;
   clean = ap (λ (kept : List AddressParts). first_rule g.R.Row.rule None kept) (sym c.as_slice.ensures.value) ∙ sym c.in_default.ensures;
-  made = made;
 })

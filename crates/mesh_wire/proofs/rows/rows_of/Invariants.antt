@@ -1,6 +1,5 @@
-use Rattle.std.specs.Prelude.{take}
-use Rattle.mesh_wire.specs.Made.{AreMade}
+use Rattle.std.proofs.Common.{◌≡◌, map, take}
 use Rattle.mesh_wire.proofs.rows.rows_of.Given as goal
 
-abbrev pub invariant-loop-i : goal.invariant-loop-i
-invariant-loop-i g l = AreMade g.R.Row.is_from (take l.i l.told) l.rows.items
+abbrev pub invariant-loop-kept : goal.invariant-loop-kept
+invariant-loop-kept g l = l.rows.items ≡ map g.R.Row.row_of (take l.kept-index l.told)
