@@ -19,7 +19,7 @@ use Rattle.mesh_wire.specs.declared.lines.AddressRecord.{AddressRecord}
 use Rattle.mesh_wire.specs.Drafts.{whole, saying, heading_of, FitsAlone}
 use Rattle.mesh_wire.specs.Lines.{columns}
 use Rattle.mesh_wire.specs.Runs.{raw_of, IsBlock, AreBlocks}
-use Rattle.mesh_wire.proofs.Laid.{runs_of_all, all_short, parts_in}
+use Rattle.mesh_wire.proofs.Laid.{runs_of_all, all_short, octets_in}
 use Rattle.mesh_wire.proofs.RunLaws.{head_long, length_short}
 use Rattle.mesh_atoms.proofs.Lists.{contains_head as at_head, contains_tail as in_tail}
 
@@ -123,15 +123,15 @@ addrs_short lines text some h =
 
 -- ---- how long blocks are
 
--- a line has at most seven parts
+-- the parts of a line take at most 49 octets
 abbrev pub HasFewParts : AddressRecord → Type 0
-HasFewParts line = parts_in columns (line ∷ []) ≤ 7
+HasFewParts line = octets_in columns (line ∷ []) ≤ 49
 
-parts_few : (lines : List AddressRecord) → ((line : AddressRecord) → Contains lines line → HasFewParts line) → parts_in columns lines ≤ 7 * length lines
+parts_few : (lines : List AddressRecord) → ((line : AddressRecord) → Contains lines line → HasFewParts line) → octets_in columns lines ≤ 49 * length lines
 parts_few [] few = omega arith
 parts_few (l ∷ lines) few = omega (arith, few l (at_head l lines), parts_few lines (λ line has. few line (in_tail l lines line has)))
 
-pair_short : (front : List AddressRecord) (b : BlockFields) (text : List ℕ) → 0 < length front → IsBlock front b → parts_in columns front ≤ 7 * length front → LeastPair b text → length text ≤ 58 * length front
+pair_short : (front : List AddressRecord) (b : BlockFields) (text : List ℕ) → 0 < length front → IsBlock front b → octets_in columns front ≤ 49 * length front → LeastPair b text → length text ≤ 58 * length front
 pair_short front b text some h few pair =
     let least : IsLeast 4 (raws front) pair.addrs = subst (λ (a : List RawAddr). IsLeast 4 a pair.addrs) h.addrs (subst (λ (w : ℕ). IsLeast w b.addrs pair.addrs) h.width pair.addrs_is) in
     let one = least_addr_tlv (length b.addrs) in

@@ -32,7 +32,7 @@ use Rattle.mesh_wire.specs.Hello.{local_value, link_value, other_value, Originat
 use Rattle.mesh_wire.specs.HelloRows.{sender_row}
 use Rattle.mesh_wire.specs.HelloRules.{BreaksHello, AddressWidth, HopLimit, HopCount, NoValidity, WrongInterval, WrongWilling, Undefined, TwoValues, ShortPrefix, WrongMetric}
 use Rattle.mesh_wire.specs.Kinds.{validity_time, local_if, link_metric, mpr, mpr_willing, IsStatusBelow}
-use Rattle.mesh_wire.specs.Lines.{kind_of, octet_pair, value_of, hello_line, narrow, flags_number}
+use Rattle.mesh_wire.specs.Lines.{kind_of, value_of, hello_line, flags_number}
 use Rattle.mesh_wire.specs.Metrics.{MetricKind, Link_in, Link_out, Near_in, Near_out, flag_of}
 use Rattle.mesh_wire.specs.OctetKinds.{type_of}
 use Rattle.mesh_wire.specs.Parts.{octets_of, values_of}
@@ -42,6 +42,7 @@ use Rattle.mesh_wire.specs.Runs.{has_part}
 use Rattle.mesh_wire.specs.Writes.{IsSoleMessage, HasFlag, IsReadOfOther, IsReadOfHelloAddress, WritesHello, WritesLeastHello, alone, ReadsBackHello}
 use Rattle.mesh_wire.proofs.Fits.{message_fits, HasFewParts, fits_alone}
 use Rattle.mesh_wire.proofs.Headings.{validity_told, one_validity, interval_is, interval_told, willing_is, read_of_hello}
+use Rattle.mesh_wire.proofs.HelloRuled.{status_of}
 use Rattle.mesh_wire.proofs.Laid.{whole_number}
 use Rattle.mesh_wire.proofs.LinesSay.{octet_value, metric_octets, has_flag, metric_value, column_of, metric_of}
 use Rattle.mesh_wire.proofs.OneHello.{alone_row, one_hello}
@@ -56,15 +57,10 @@ pub bit_most : (b : Bool) → cond b 1 0 ≤ 1
 bit_most true = omega arith
 bit_most false = omega arith
 
-pub none_there : (c : AddressTlvKind) (l : AddressRecord) → octet_pair c l ≡ None → ◌≡◌ {A = ℕ} (cond (has_part c l) 1 0) 0
-none_there c l e = ap (λ (o : Option (ℕ × ℕ)). cond (is_some o) 1 0) e
-
-few_of : (row : HelloRow) (local : Option LocalIf) → row.local ≡ local → (IsSome row.local → IsAlone row) → HasFewParts (hello_line row)
-few_of row None e sender =
+few_of : (row : HelloRow) → HasFewParts (hello_line row)
+few_of row =
     let l = hello_line row in
-    omega (arith, none_there (Octet Local) l (ap (λ (o : Option LocalIf). narrow (option_map local_value o)) e), bit_most (has_part (Octet Link) l), bit_most (has_part (Octet Other) l), bit_most (has_part (Octet Mpr) l), bit_most (has_part LinkIn l), bit_most (has_part LinkOut l), bit_most (has_part NearIn l), bit_most (has_part NearOut l))
-few_of row (Some x) e sender =
-    subst (λ (r : HelloRow). HasFewParts (hello_line r)) (sym (alone_row row (sender (subst IsSome (sym e) refl)))) (let l = hello_line (sender_row row.addr row.local) in omega (arith, bit_most (has_part (Octet Local) l)))
+    omega (arith, bit_most (has_part (Octet Local) l), bit_most (has_part (Octet Link) l), bit_most (has_part (Octet Other) l), bit_most (has_part (Octet Mpr) l), bit_most (has_part LinkIn l), bit_most (has_part LinkOut l), bit_most (has_part NearIn l), bit_most (has_part NearOut l))
 
 -- ---- originator
 
@@ -208,10 +204,8 @@ module _ (hello : Hello) (values : List ℕ) (m : MessageFields) (h : IsHelloMes
       let (n, is, below, some) = of_value other_value 2 other_below row.other octets v in
       record { row = row; there = there; of = of; octet = n; is = is; below = omega (arith, below, b); shown_is = inr (inr some) }
 
-  status_once : (net : NetAddr) (kind bound : ℕ) → IsStatusBelow kind bound → HasTwoValues m net kind → ⊥
-  status_once net kind bound (inl (k, b)) two = not_two hello_line hello.rows m h.blocks up Local net kind k two
-  status_once net kind bound (inr (inl (k, b))) two = not_two hello_line hello.rows m h.blocks up Link net kind k two
-  status_once net kind bound (inr (inr (k, b))) two = not_two hello_line hello.rows m h.blocks up Other net kind k two
+  status_once : (net : NetAddr) (type bound : ℕ) → IsStatusBelow type bound → HasTwoValues m net type → ⊥
+  status_once net type bound below two = let (kind, status) = status_of type bound below in not_two hello_line hello.rows m h.blocks up kind net type status.same two
 
   keeps : Keeps (BreaksHello m)
   keeps n a (AddressWidth wide) = wide h.width
@@ -250,7 +244,7 @@ module _ (hello : Hello) (values : List ℕ) (m : MessageFields) (h : IsHelloMes
   -- ---- the whole
 
   few : (line : AddressRecord) → Contains (map hello_line hello.rows) line → HasFewParts line
-  few line on = let (row, there, is) = unmapped hello_line hello.rows line on in subst HasFewParts is (few_of row row.local refl (sender row there))
+  few line on = let (row, there, is) = unmapped hello_line hello.rows line on in subst HasFewParts is (few_of row)
 
   pub fits : length hello.rows ≤ 1100 → FitsAlone m
   fits most = fits_alone m (map hello_line hello.rows) (take 1 values) (slice_range values 1 3) (is_some hello.interval) mpr_willing 0 h.width (omega (arith, length-take 1 values)) (omega (arith, length-take 2 (drop 1 values))) h.tlvs h.blocks (omega (arith, most, length-map hello.rows hello_line)) few

@@ -19,7 +19,7 @@ use Rattle.mesh_tlv.specs.Least.{least_addr_tlv}
 use Rattle.mesh_wire.specs.declared.lines.AddressTlvKind.{AddressTlvKind}
 use Rattle.mesh_wire.specs.declared.lines.AddressTlvKind.TheVariants.{Octet, LinkIn, LinkOut, NearIn, NearOut}
 use Rattle.mesh_wire.specs.declared.lines.AddressRecord.{AddressRecord}
-use Rattle.mesh_wire.specs.Lines.{kind_of, value_of, columns, metric_columns}
+use Rattle.mesh_wire.specs.Lines.{kind_of, most_of, value_of, columns, metric_columns}
 use Rattle.mesh_wire.specs.OctetKinds.{kinds}
 use Rattle.mesh_wire.specs.Parts.{octets_of, IsIn, value_at}
 use Rattle.mesh_wire.specs.Rows.{HoldsAddressAt, HoldsAddress, HasPart, HasValue}
@@ -86,18 +86,23 @@ covered_in (d ∷ cs) lines tlvs (first, others, whole, h, k) c among place line
       (tlv, subst (λ (l : List AddrTlvFields). Contains l tlv) (sym whole) (Contains-append_right first others tlv has), run, low, high)
 ]
 
--- how many parts lines have in columns
-abbrev pub parts_in : List AddressTlvKind → List AddressRecord → ℕ
-parts_in [] lines = 0
-parts_in (c ∷ cs) lines = present c lines + parts_in cs lines
+-- the most octets that the parts of lines take in columns
+abbrev pub octets_in : List AddressTlvKind → List AddressRecord → ℕ
+octets_in [] lines = 0
+octets_in (c ∷ cs) lines = most_of c * present c lines + octets_in cs lines
 
-pub all_short : (cs : List AddressTlvKind) (lines : List AddressRecord) (tlvs : List AddrTlvFields) → LaysAll cs lines tlvs → (count : ℕ) → length (flat_map (least_addr_tlv count) tlvs) ≤ 7 * parts_in cs lines
+both_short : (x y a b : ℕ) → a ≤ x → b ≤ y → a + b ≤ x + y
+both_short x y a b le up = omega (arith, le, up)
+
+pub all_short : (cs : List AddressTlvKind) (lines : List AddressRecord) (tlvs : List AddrTlvFields) → LaysAll cs lines tlvs → (count : ℕ) → length (flat_map (least_addr_tlv count) tlvs) ≤ octets_in cs lines
 all_short [] lines tlvs h count = rw h (omega arith)
 all_short (c ∷ cs) lines tlvs (first, others, whole, h, k) count =
     let least = least_addr_tlv count in
     let all : take (length lines) lines ≡ lines = take_all (length lines) lines (omega arith) in
-    let one : length (flat_map least first) ≤ 7 * present c lines = rw all at h.short count in
-    omega (arith, one, all_short cs lines others k count, ap (λ (l : List AddrTlvFields). length (flat_map least l)) whole, ap length (flat_map-append least first others), length-append (flat_map least first) (flat_map least others))
+    let one : length (flat_map least first) ≤ most_of c * present c lines = rw all at h.short count in
+    let joined : length (flat_map least tlvs) ≡ length (flat_map least first) + length (flat_map least others) =
+    ap (λ (l : List AddrTlvFields). length (flat_map least l)) whole ∙ ap length (flat_map-append least first others) ∙ length-append (flat_map least first) (flat_map least others) in
+    subst (λ (n : ℕ). n ≤ most_of c * present c lines + octets_in cs lines) (sym joined) (both_short (most_of c * present c lines) (octets_in cs lines) (length (flat_map least first)) (length (flat_map least others)) one (all_short cs lines others k count))
 
 -- ---- blocks
 

@@ -4,7 +4,7 @@ use Rattle.std.specs.Prelude.{nat_lt, ◌==◌, slice_range, slice_get, nat_eq, 
 use Rattle.std.specs.List.{flat_map}
 use Rattle.std.specs.Option.{option_map, option_eq, is_some}
 use Rattle.std.proofs.Math.Nat.{mul-div_right, mul-mod_right}
-use Rattle.std.proofs.lemmas.Bool.{cases_Bool, cases_lt, eqb-true, lt-ltb, le-ltb, and_parts as both}
+use Rattle.std.proofs.lemmas.Bool.{cases_Bool, cases_lt, cases_eq, eq-eqb, eqb-true, lt-ltb, le-ltb, and_parts as both, and_right, not_from_true}
 use Rattle.std.proofs.lemmas.List.{take_all, map-append, take-append-drop, drop-drop}
 use Rattle.mesh_tlv.specs.declared.tlv.AddrTlv.{AddrTlv}
 use Rattle.mesh_tlv.specs.Fields.{AddrTlvFields, addr_fields}
@@ -12,7 +12,7 @@ use Rattle.mesh_tlv.specs.Least.{octet_if, covers_all, is_several, least_short, 
 use Rattle.mesh_tlv.specs.Grammar.{HasEqualParts}
 use Rattle.mesh_wire.specs.declared.lines.AddressTlvKind.{AddressTlvKind}
 use Rattle.mesh_wire.specs.declared.lines.AddressRecord.{AddressRecord}
-use Rattle.mesh_wire.specs.Lines.{is_wide, width_of, octet_pair, octets_of, value_of, laid, column_text}
+use Rattle.mesh_wire.specs.Lines.{is_wide, width_of, most_of, octet_pair, octets_of, value_of, laid, column_text}
 use Rattle.mesh_wire.specs.Parts.{share_of, value_at}
 use Rattle.mesh_wire.specs.Runs.{has_part, leading, present, is_same_pair, have_pair, first_pair, run_of, Adds, IsColumnTlv, LaysFirst, Lays, LaysAll, IsBlock, AreBlocks}
 use Rattle.mesh_packet.specs.declared.packet.Block.{Block}
@@ -201,6 +201,19 @@ head_short count tlv e =
     let none : octet_if (not (tlv.ext == 0)) tlv.ext ≡ [] = ap (λ (n : ℕ). octet_if (not (n == 0)) n) e in
     omega (arith, octet_short (not (covers_all count tlv.first tlv.last)) tlv.first, octet_short (is_several count tlv.first tlv.last) tlv.last, length-append one two, length-append (octet_if (not (tlv.ext == 0)) tlv.ext) (one ++ two), ap length none)
 
+-- a single index at most where one address is covered
+several_none : (count first last : ℕ) → first ≡ last → is_several count first last ≡ false
+several_none count first last e = and_right (not (covers_all count first last)) (not (first == last)) (not_from_true (first == last) (eq-eqb first last e))
+
+head_one : (count : ℕ) (tlv : AddrTlvFields) → tlv.ext ≡ 0 → tlv.first ≡ tlv.last → length (least_head count tlv) ≤ 3
+unfolding least_head
+head_one count tlv e same =
+    let one = octet_if (not (covers_all count tlv.first tlv.last)) tlv.first in
+    let two = octet_if (is_several count tlv.first tlv.last) tlv.last in
+    let none : octet_if (not (tlv.ext == 0)) tlv.ext ≡ [] = ap (λ (n : ℕ). octet_if (not (n == 0)) n) e in
+    let no_last : two ≡ [] = ap (λ (b : Bool). octet_if b tlv.last) (several_none count tlv.first tlv.last same) in
+    omega (arith, octet_short (not (covers_all count tlv.first tlv.last)) tlv.first, ap length no_last, length-append one two, length-append (octet_if (not (tlv.ext == 0)) tlv.ext) (one ++ two), ap length none)
+
 pub head_long : (count : ℕ) (tlv : AddrTlvFields) → length (least_head count tlv) ≤ 5
 unfolding least_head
 head_long count tlv =
@@ -214,21 +227,46 @@ length_short n = elim (cases_lt 255 n) [
   | inr le ↦ let e : nat_lt 255 n ≡ false = le-ltb 255 n le in subst (λ (b : Bool). length (cond b (least_short n) (n ∷ [])) ≤ 1 + n / 256) (sym e) (omega arith)
 ]
 
-text_short : (c : AddressTlvKind) (lines : List AddressRecord) → length (column_text c lines) ≤ 2 * length lines
+text_short : (c : AddressTlvKind) (lines : List AddressRecord) → length (column_text c lines) ≤ width_of c * length lines
 text_short c lines = elim (cases_Bool (is_wide c)) [
-  | inl e ↦ omega (arith, column_wide c lines e)
-  | inr e ↦ omega (arith, column_narrow c lines e)
+  | inl e ↦ let two : width_of c ≡ 2 = ap (λ (b : Bool). cond b 2 1) e in rw two (omega (arith, column_wide c lines e))
+  | inr e ↦ let one : width_of c ≡ 1 = ap (λ (b : Bool). cond b 2 1) e in rw one (omega (arith, column_narrow c lines e))
 ]
 
-pub run_short : (c : AddressTlvKind) (first : ℕ) (run : List AddressRecord) (count : ℕ) → 0 < length run → length run ≤ 255 → length (least_addr_tlv count (run_of c first run)) ≤ 7 * length run
+-- by whether values have two octets
+wider : (b : Bool) (x m n : ℕ) → x ≤ cond b 2 1 * m → m ≤ n → x ≤ cond b 2 1 * n
+wider true x m n le up = omega (arith, le, up)
+wider false x m n le up = omega (arith, le, up)
+
+run_most : (b : Bool) (head len text n : ℕ) → 0 < n → n ≤ 255 → head ≤ 4 → (n ≡ 1 → head ≤ 3) → len ≤ 1 + text / 256 → text ≤ cond b 2 1 * n → head + (len + text) ≤ cond b 6 5 * n
+run_most true head len text n some few le one short long = elim (cases_eq n 1) [ inl e ↦ omega (arith, e, one e, short, long) | inr other ↦ omega (arith, other, some, few, le, short, long) ]
+run_most false head len text n some few le one short long = elim (cases_eq n 1) [ inl e ↦ omega (arith, e, one e, short, long) | inr other ↦ omega (arith, other, some, few, le, short, long) ]
+
+none_most : (b : Bool) (n : ℕ) → 0 ≤ cond b 6 5 * n
+none_most true n = omega arith
+none_most false n = omega arith
+
+more_most : (b : Bool) (x m n : ℕ) → x ≤ cond b 6 5 * m → m ≤ n → x ≤ cond b 6 5 * n
+more_most true x m n le up = omega (arith, le, up)
+more_most false x m n le up = omega (arith, le, up)
+
+both_most : (b : Bool) (x y m n k : ℕ) → x ≤ cond b 6 5 * m → y ≤ cond b 6 5 * n → m + n ≤ k → x + y ≤ cond b 6 5 * k
+both_most true x y m n k le least up = omega (arith, le, least, up)
+both_most false x y m n k le least up = omega (arith, le, least, up)
+
+pub run_short : (c : AddressTlvKind) (first : ℕ) (run : List AddressRecord) (count : ℕ) → 0 < length run → length run ≤ 255 → length (least_addr_tlv count (run_of c first run)) ≤ most_of c * length run
 run_short c first run count some few =
     let tlv = run_of c first run in
     let text = cond (have_pair c (first_pair c run) run) (column_text c (take 1 run)) (column_text c run) in
-    let long : length text ≤ 2 * length run = elim (have_pair c (first_pair c run) run) as (λ (b : Bool). length (cond b (column_text c (take 1 run)) (column_text c run)) ≤ 2 * length run) [
-      | true ↦ omega (arith, text_short c (take 1 run), length-take 1 run)
+    let long : length text ≤ width_of c * length run = elim (have_pair c (first_pair c run) run) as (λ (b : Bool). length (cond b (column_text c (take 1 run)) (column_text c run)) ≤ width_of c * length run) [
+      | true ↦ wider (is_wide c) (length (column_text c (take 1 run))) (length (take 1 run)) (length run) (text_short c (take 1 run)) (omega (arith, length-take 1 run))
       | false ↦ text_short c run
     ] in
-    omega (arith, head_short count tlv refl, length_short (length text), length-append (least_length (length text)) text, length-append (least_head count tlv) (least_value tlv.value))
+    let head = least_head count tlv in
+    let whole : length (head ++ least_value tlv.value) ≡ length head + (length (least_length (length text)) + length text) =
+    length-append head (least_value tlv.value) ∙ ap (λ (n : ℕ). length head + n) (length-append (least_length (length text)) text) in
+    subst (λ (n : ℕ). n ≤ most_of c * length run) (sym whole)
+    (run_most (is_wide c) (length head) (length (least_length (length text))) (length text) (length run) some few (head_short count tlv refl) (λ e. head_one count tlv refl (omega (arith, e))) (length_short (length text)) long)
 
 -- ---- run after run
 
@@ -236,7 +274,7 @@ pub lays_none : (c : AddressTlvKind) (lines : List AddressRecord) → LaysFirst 
 lays_none c lines = record {
   each = λ tlv has. absurd (omega (arith, has.1));
   all = λ place line octets lt at is. absurd (omega arith);
-  short = λ count. omega arith;
+  short = λ count. none_most (is_wide c) 0;
 }
 
 none_said : (c : AddressTlvKind) (line : AddressRecord) (octets : List ℕ) → has_part c line ≡ false → value_of c line ≡ Some octets → ⊥
@@ -257,7 +295,9 @@ lays_skip c lines first tlvs none h = record {
         ap (slice_get (drop first lines)) none ∙ get_drop first lines 0 ∙ ap (slice_get lines) (omega arith) ∙ at in
         absurd (none_said c line octets (leading_ends c (drop first lines) line here) is)
   ];
-  short = λ count. let p = present_run c lines first in omega (arith, h.short count, rw none at p);
+  short = λ count.
+      let p = present_run c lines first in
+      more_most (is_wide c) (length (flat_map (least_addr_tlv count) tlvs)) (present c (take first lines)) (present c (take (first + 0 + 1) lines)) (h.short count) (omega (arith, rw none at p));
 }
 
 pub run_stands : (c : AddressTlvKind) (lines : List AddressRecord) (first n : ℕ) → first ≤ length lines → leading c (drop first lines) ≡ n → 0 < n → Stands c lines first (slice_range lines first (first + n))
@@ -306,16 +346,12 @@ lays_run c lines first n tlvs le few is some h = record {
   short = λ count.
       let p = present_run c lines first in
       let q : present c (take first lines) + n ≤ present c (take (first + n + 1) lines) = rw is at p in
-      omega (
-        arith,
-        h.short count,
-        q,
-        run_short c first run count s.some (omega (arith, long, s.fits, few)),
-        long,
-        ap length (flat_map-append (least_addr_tlv count) tlvs (tlv ∷ [])),
-        length-append (flat_map (least_addr_tlv count) tlvs) (least_addr_tlv count tlv ++ []),
-        ap length (append-nil (least_addr_tlv count tlv)),
-      );
+      let least = least_addr_tlv count in
+      let whole : length (flat_map least (tlvs ++ tlv ∷ [])) ≡ length (flat_map least tlvs) + length (least tlv) =
+      ap length (flat_map-append least tlvs (tlv ∷ [])) ∙ length-append (flat_map least tlvs) (least tlv ++ []) ∙ ap (λ (k : ℕ). length (flat_map least tlvs) + k) (ap length (append-nil (least tlv))) in
+      subst (λ (k : ℕ). k ≤ most_of c * present c (take (first + n + 1) lines)) (sym whole)
+      (both_most (is_wide c) (length (flat_map least tlvs)) (length (least tlv)) (present c (take first lines)) (length run) (present c (take (first + n + 1) lines))
+      (h.short count) (run_short c first run count s.some (omega (arith, long, s.fits, few))) (omega (arith, q, long)));
 } where
   run : List AddressRecord
   run = slice_range lines first (first + n)
@@ -338,7 +374,7 @@ lays_all c lines first tlvs le h = record {
   each = h.each;
   all = λ place line octets lt at is. h.all place line octets (omega arith) at is;
   short = λ count. let e : take first lines ≡ lines = take_all first lines le in let f : take (length lines) lines ≡ lines = take_all (length lines) lines (omega arith) in
-      omega (arith, h.short count, ap (present c) (e ∙ sym f));
+      subst (λ (n : ℕ). length (flat_map (least_addr_tlv count) tlvs) ≤ most_of c * n) (ap (present c) (e ∙ sym f)) (h.short count);
 }
 
 -- ---- the same of TLVs as they lie in memory

@@ -26,6 +26,10 @@ is_wide metric = true
 abbrev pub width_of : AddressTlvKind → ℕ
 width_of c = if is_wide c then 2 else 1
 
+-- the most octets that a part takes, with its share of what stands before values
+abbrev pub most_of : AddressTlvKind → ℕ
+most_of c = if is_wide c then 6 else 5
+
 -- one octet, with 0 behind it
 abbrev pub narrow : Option ℕ → Option (ℕ × ℕ)
 narrow octet = option_map (λ (n : ℕ). (n, 0)) octet

@@ -9,7 +9,7 @@ use Rattle.mesh_tlv.specs.Fields.{AddrTlvFields}
 use Rattle.mesh_tlv.specs.Least.{IsFit, least_addr_tlv}
 use Rattle.mesh_wire.specs.declared.lines.AddressTlvKind.{AddressTlvKind}
 use Rattle.mesh_wire.specs.declared.lines.AddressRecord.{AddressRecord}
-use Rattle.mesh_wire.specs.Lines.{kind_of, octet_pair, value_of, columns, column_text}
+use Rattle.mesh_wire.specs.Lines.{kind_of, most_of, octet_pair, value_of, columns, column_text}
 use Rattle.mesh_wire.specs.Parts.{value_at}
 
 -- the octets of an IPv4 address, with zeros after them
@@ -72,12 +72,12 @@ pub record IsColumnTlv (c : AddressTlvKind) (lines : List AddressRecord) (tlv : 
   pub says : (place : ℕ) → tlv.first ≤ place → place ≤ tlv.last →
       (line : AddressRecord) × (octets : List ℕ) × (slice_get lines place ≡ Some line) × (value_of c line ≡ Some octets) × (value_at tlv place ≡ Some octets)
 
--- TLVs of the column that say of the first lines of a block what these say, and nothing else; a part takes 7 octets at most
+-- TLVs of the column that say of the first lines of a block what these say, and nothing else, in few octets
 pub record LaysFirst (c : AddressTlvKind) (lines : List AddressRecord) (bound : ℕ) (tlvs : List AddrTlvFields) : Type 0 where
   pub each : (tlv : AddrTlvFields) → Contains tlvs tlv → IsColumnTlv c lines tlv
   pub all : (place : ℕ) (line : AddressRecord) (octets : List ℕ) → place < bound → slice_get lines place ≡ Some line → value_of c line ≡ Some octets →
       (tlv : AddrTlvFields) × Contains tlvs tlv × (tlv.first ≤ place) × (place ≤ tlv.last)
-  pub short : (count : ℕ) → length (flat_map (least_addr_tlv count) tlvs) ≤ 7 * present c (take bound lines)
+  pub short : (count : ℕ) → length (flat_map (least_addr_tlv count) tlvs) ≤ most_of c * present c (take bound lines)
 
 -- the same of all lines of a block
 abbrev pub Lays : AddressTlvKind → List AddressRecord → List AddrTlvFields → Type 0
