@@ -1,19 +1,20 @@
 -- Settings out of what their tables state.
-use Rattle.std.proofs.Common.{◌≡◌, ℕ, ◌+◌, ◌<◌, suc, List, [], ◌∷◌, ◌++◌, map, length, get_or, take, codes, zero, Bool, true, false, not, None, refl, sym, ap, ◌∙◌, subst, arith}
+use Rattle.std.proofs.Common.{◌≡◌, ℕ, ◌+◌, ◌<◌, suc, List, [], ◌∷◌, ◌++◌, map, length, get_or, take, codes, zero, Bool, true, false, not, All, None, refl, sym, ap, ◌∙◌, subst, arith}
 use Rattle.std.specs.List.{list_all, list_any, flat_map}
 use Rattle.std.proofs.lemmas.List.Folds.{list_all-map, list_any-append, flat_map-map}
 use Rattle.std.proofs.lemmas.Bool.{and_parts}
+use Rattle.std.proofs.lemmas.List.Elements.{All-nil, All-cons}
 use Rattle.std.proofs.lemmas.List.{take_more, map-append, length-map}
 use Rattle.mesh_atoms.specs.declared.settings.Attached4.{Attached4}
 use Rattle.mesh_atoms.specs.declared.settings.Interface.{Interface}
 use Rattle.mesh_atoms.specs.Base.{addr_eq, net_eq}
-use Rattle.mesh_atoms.specs.Settings.{are_distinct, is_host, name_eq, IsRouter}
+use Rattle.mesh_atoms.specs.Settings.{are_distinct, is_host, name_eq}
 use Rattle.mesh_config.specs.declared.stated.stated.StatedRouter.{StatedRouter}
 use Rattle.mesh_config.specs.declared.stated.stated.StatedInterface.{StatedInterface}
 use Rattle.mesh_config.specs.Keys.Faults.{first}
 use Rattle.mesh_config.specs.Checks.Checks.{duplicate_unless}
 use Rattle.mesh_config.specs.Checks.Compared.{same_router, same_interface, same_attached, router_addrs, all_addrs, attaches_no_host, stated_duplicates}
-use Rattle.mesh_config.specs.Fields.{interface_fields, IsClear}
+use Rattle.mesh_config.specs.Fields.{interface_fields, IsClear, AreOfOneRouter}
 use Rattle.mesh_config.specs.Stated.Router.{InterfaceFields, stated_interface_fields}
 use Rattle.mesh_config.specs.Senders.{EachAt}
 use Rattle.mesh_config.proofs.ChecksLemmas.Links.{are_distinct-map}
@@ -94,6 +95,15 @@ maps_more {A} {B} {C} f g xs ys i x y here within all one =
     ap (map g) (take_more ys i y within ∙ ap (λ (w : B). take i ys ++ w ∷ []) (sym here)) ∙ map-append g (take i ys) (y ∷ []) in
     map-append f xs (x ∷ []) ∙ (rw (all, one) (sym at))
 
+-- where all have one value, each has what holds of it
+pub all_have : {X Y A : Type 0} (Holds : A → Type 0) (f : X → A) (a : A) (xs : List X) (ys : List Y) → map f xs ≡ map (λ y. a) ys → Holds a → All (λ x. Holds (f x)) xs
+all_have {X} Holds f a [] ys same is = All-nil (λ (x : X). Holds (f x))
+all_have Holds f a (x ∷ xs) [] same is = absurd cc
+all_have {X} {Y} Holds f a (x ∷ xs) (y ∷ ys) same is =
+    let here : f x ≡ a = cc in
+    let rest : map f xs ≡ map (λ (y : Y). a) ys = cc in
+    All-cons (λ (x : X). Holds (f x)) x xs (subst Holds (sym here) is) (all_have Holds f a xs ys rest is)
+
 -- ---- what a router keeps
 pub map-then : {A B C : Type 0} (g : B → C) (f : A → B) (xs : List A) → map g (map f xs) ≡ map (λ x. g (f x)) xs
 map-then g f [] = refl
@@ -105,14 +115,11 @@ names_same xs ys h = sym (map-then (λ (f : InterfaceFields). f.interface_name) 
 pub flat_same : (xs : List Interface) (ys : List StatedInterface) → map interface_fields xs ≡ map stated_interface_fields ys → flat_map (λ i. i.addrs) xs ≡ flat_map (λ i. i.addrs) ys
 flat_same xs ys h = sym (flat_map-map (λ (f : InterfaceFields). f.addrs) interface_fields xs) ∙ (ap (flat_map (λ (f : InterfaceFields). f.addrs)) h ∙ flat_map-map (λ (f : InterfaceFields). f.addrs) stated_interface_fields ys)
 
-pub sound_router : (d : StatedRouter) (faces : List Interface) (name : List ℕ) (attached : List Attached4) → IsClear d → map interface_fields faces ≡ map stated_interface_fields d.interfaces → name ≡ d.head.name → attached ≡ d.attached
-    → IsRouter name d.head.hello_at d.head.tc_at (map (λ i. i.name) faces) (flat_map (λ i. i.addrs) faces) (map (λ a. a.net) attached)
-sound_router d faces name attached clear same called nets =
+pub of_one_router : (d : StatedRouter) (faces : List Interface) (attached : List Attached4) → IsClear d → map interface_fields faces ≡ map stated_interface_fields d.interfaces → attached ≡ d.attached
+    → AreOfOneRouter (map (λ i. i.name) faces) (flat_map (λ i. i.addrs) faces) (map (λ a. a.net) attached)
+of_one_router d faces attached clear same nets =
     let names = names_same faces d.interfaces same in let addrs = flat_same faces d.interfaces same in
-    rw (names, addrs, called, nets) (record {
-      named = d.head.named;
-      hello_range = d.head.hello_range;
-      tc_range = d.head.tc_range;
+    rw (names, addrs, nets) (record {
       interfaces = rw length-map d.few_interfaces;
       attached = rw length-map d.few_attached;
       distinct_names = are_distinct-map name_eq (λ (i : StatedInterface). i.name) d.interfaces ∙ clear.names;

@@ -1,16 +1,10 @@
 -- The whole scenario: from what the tables state to what they say of settings.
-use Rattle.std.proofs.Common.{◌≡◌, ℕ, List, [], ◌∷◌, map, refl, sym, subst}
-use Rattle.std.proofs.lemmas.List.Elements.{All-nil, All-cons}
+use Rattle.std.proofs.Common.{◌≡◌, ℕ, List, [], ◌∷◌, map, refl}
 use Rattle.std.specs.List.{flat_map}
 use Rattle.toml.specs.Data.{Data, Members}
 use Rattle.mesh_atoms.specs.declared.addr.Addr4.{Addr4}
 use Rattle.mesh_atoms.specs.declared.settings.Attached4.{Attached4}
-use Rattle.mesh_atoms.specs.declared.settings.Interface.{Interface}
 use Rattle.mesh_config.specs.declared.stated.stated.StatedRouter.{StatedRouter}
-use Rattle.mesh_config.specs.declared.stated.stated.Thresholds.{Thresholds}
-use Rattle.mesh_config.specs.Stated.Rules.{AreThresholds}
-use Rattle.mesh_config.specs.Fields.{thresholds_of, threshold_pair}
-use Rattle.mesh_config.specs.Settings.{Admits}
 use Rattle.mesh_config.specs.declared.stated.stated.StatedInterface.{StatedInterface}
 use Rattle.mesh_config.specs.declared.stated.stated.StatedArc.{StatedArc}
 use Rattle.mesh_config.specs.Keys.Faults.{listed}
@@ -34,17 +28,6 @@ flat_said Is F G h [] [] all = refl
 flat_said Is F G h (d ∷ ds) (x ∷ xs) all = rw (h (table_of d) x all.0, flat_said Is F G h ds xs all.1)
 flat_said Is F G h [] (x ∷ xs) all = absurd all
 flat_said Is F G h (d ∷ ds) [] all = absurd all
-
--- the thresholds of each interface, where they are those of the router
-pub thresholds_say : {Y : Type 0} (t : Members) (thresholds : Thresholds) (xs : List Interface) (ys : List Y) → map thresholds_of xs ≡ map (λ y. threshold_pair thresholds) ys
-    → AreThresholds t thresholds.accept thresholds.reject → Admits t xs
-thresholds_say t thresholds [] ys same is = All-nil (λ (i : Interface). AreThresholds t i.admit.accept i.admit.reject)
-thresholds_say t thresholds (x ∷ xs) [] same is = absurd cc
-thresholds_say t thresholds (x ∷ xs) (y ∷ ys) same is =
-    let here : thresholds_of x ≡ threshold_pair thresholds = cc in
-    let rest : map thresholds_of xs ≡ map (λ y. threshold_pair thresholds) ys = cc in
-    All-cons (λ (i : Interface). AreThresholds t i.admit.accept i.admit.reject) x xs
-    (subst (λ (p : ℕ × ℕ). AreThresholds t p.0 p.1) (sym here) is) (thresholds_say t thresholds xs ys rest is)
 
 pub named_of : (a a' : List ℕ) (b b' : List (List ℕ)) (c c' : List Addr4) (d d' : List (Addr4 × ℕ)) → a ≡ a' → b ≡ b' → c ≡ c' → d ≡ d'
     → (let x : Identifiers = record { router_name = a; interface_names = b; addrs = c; nets = d } in x) ≡ (let y : Identifiers = record { router_name = a'; interface_names = b'; addrs = c'; nets = d' } in y)

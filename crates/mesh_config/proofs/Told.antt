@@ -1,5 +1,5 @@
 -- What the top calls tell.
-use Rattle.std.proofs.Common.{◌≡◌, List, [], map, Option, None, Result, Ok, Err, sym, ap, ◌∙◌, subst}
+use Rattle.std.proofs.Common.{◌≡◌, ℕ, List, [], map, Option, None, Result, Ok, Err, sym, ap, ◌∙◌, subst}
 use Rattle.toml.specs.Data.{Data, Members}
 use Rattle.mesh_atoms.specs.declared.settings.Interface.{Interface}
 use Rattle.mesh_atoms.specs.declared.settings.RadioArc.{RadioArc}
@@ -14,6 +14,7 @@ use Rattle.mesh_config.specs.declared.keys.fault.ConfigFault.{ConfigFault}
 use Rattle.mesh_config.specs.Keys.Faults.{Fault, first, listed, ValueOrFault}
 use Rattle.mesh_config.specs.Stated.Tables.{Each}
 use Rattle.mesh_config.specs.Stated.Steps.{StepsAre}
+use Rattle.mesh_config.specs.Stated.Rules.{AreThresholds}
 use Rattle.mesh_config.specs.Stated.Times.{TimesIs}
 use Rattle.mesh_config.specs.Stated.Router.{interfaces, InterfaceIs, RouterIs, AreInterfaceFields, AreRouterFields, stated_interface_fields}
 use Rattle.mesh_config.specs.Stated.Scenario.{ArcIs, AreArcFields, ScenarioIs, scenario_table_visits, routers, arcs, sub_times}
@@ -21,11 +22,12 @@ use Rattle.mesh_config.specs.Checks.Checks.{arc_ends, scenario_visits, joins}
 use Rattle.mesh_config.specs.Checks.Compared.{stated_identifiers, arc_places}
 use Rattle.mesh_config.specs.Stated.Scenario.{stated_arc_fields}
 use Rattle.mesh_config.specs.Checks.Compared.{arc_fields}
-use Rattle.mesh_config.specs.Fields.{interface_fields, RouterParts, settings_parts, stated_parts}
+use Rattle.mesh_config.specs.Fields.{interface_fields, RouterParts, settings_parts, stated_parts, thresholds_of, threshold_pair}
 use Rattle.mesh_config.specs.Built.{stated_visits, BuiltFrom}
 use Rattle.mesh_config.specs.Senders.{stated_steps}
 use Rattle.mesh_config.specs.Settings.{InterfaceSays, RouterSays, ArcSays, ScenarioSays}
-use Rattle.mesh_config.proofs.Said.{all_named_same, places_same, thresholds_say}
+use Rattle.mesh_config.proofs.Builds.{all_have}
+use Rattle.mesh_config.proofs.Said.{all_named_same, places_same}
 use Rattle.mesh_config.proofs.StatedLemmas.Elements.{Each-along, Each-map}
 
 pub answers_along : {X : Type 0} (Is Says : X → Type 0) (found found' : Option Fault) (r : Result X ConfigFault) → found' ≡ found → ((x : X) → Is x → Says x) → ValueOrFault Is found r → ValueOrFault Says found' r
@@ -42,7 +44,7 @@ router_says t times table d r timed same is = record {
   are_fields = subst (AreRouterFields table) (sym (ap (λ (p : RouterParts). p.fields) same)) is.is_head.are_fields;
   are_times = subst (TimesIs t) (sym (ap (λ (p : RouterParts). p.times) same)) timed;
   are_interfaces = interfaces_say (listed (interfaces table)) d.interfaces r.interfaces (ap (λ (p : RouterParts). p.interfaces) same) is.are_interfaces;
-  admits = thresholds_say table d.head.thresholds r.interfaces d.interfaces (ap (λ (p : RouterParts). p.thresholds) same) is.is_head.are_thresholds;
+  admits = all_have (λ (t : ℕ × ℕ). AreThresholds table t.0 t.1) thresholds_of (threshold_pair d.head.thresholds) r.interfaces d.interfaces (ap (λ (p : RouterParts). p.thresholds) same) is.is_head.are_thresholds;
   are_attached = rw (ap (λ (p : RouterParts). p.attached) same) is.are_attached;
 }
 

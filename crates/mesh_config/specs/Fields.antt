@@ -1,5 +1,7 @@
 -- Stated routers and settings, part by part.
-use Rattle.std.specs.Prelude.{◌≡◌, ℕ, List, map, true}
+use Rattle.std.specs.Prelude.{◌≡◌, ◌≤◌, ℕ, List, length, map, true, IsTrue}
+use Rattle.mesh_atoms.specs.declared.addr.Addr4.{Addr4}
+use Rattle.mesh_atoms.specs.declared.addr.NetAddr.{NetAddr}
 use Rattle.mesh_atoms.specs.declared.admit.SenderQuality.{SenderQuality}
 use Rattle.mesh_atoms.specs.declared.codes.metric.Metric.{Metric}
 use Rattle.mesh_atoms.specs.declared.settings.Attached4.{Attached4}
@@ -7,27 +9,16 @@ use Rattle.mesh_atoms.specs.declared.settings.Interface.{Interface}
 use Rattle.mesh_atoms.specs.declared.settings.RouterSettings.{RouterSettings}
 use Rattle.mesh_atoms.specs.declared.settings.SenderMetric.{SenderMetric}
 use Rattle.mesh_atoms.specs.declared.settings.Times.{Times}
-use Rattle.mesh_atoms.specs.Base.{addr_eq}
-use Rattle.mesh_atoms.specs.Settings.{are_distinct}
+use Rattle.mesh_atoms.specs.Base.{addr_eq, net_eq}
+use Rattle.mesh_atoms.specs.Settings.{IsCount, are_distinct, are_no_hosts, name_eq}
 use Rattle.mesh_config.specs.declared.stated.stated.StatedRouter.{StatedRouter}
 use Rattle.mesh_config.specs.declared.stated.stated.Thresholds.{Thresholds}
-use Rattle.mesh_config.specs.Stated.Router.{InterfaceFields, stated_interface_fields, RouterFields, head_fields}
+use Rattle.mesh_config.specs.Stated.Router.{InterfaceFields, stated_interface_fields, RouterFields, head_fields, router_fields}
 use Rattle.mesh_config.specs.Checks.Compared.{same_interface, same_attached, router_addrs, attaches_no_host}
 
 -- what the table of an interface says, as the settings have it
 abbrev pub interface_fields : Interface → InterfaceFields
 interface_fields i = record { interface_name = i.name; addrs = i.addrs }
-
--- what the table of a router says, as the settings have it
-abbrev pub router_fields : RouterSettings → RouterFields
-router_fields r = record {
-  router_name = r.name;
-  willing = r.willing;
-  tc_rows = r.tc_rows;
-  near_hold = r.near_hold;
-  hello_at = r.hello_at;
-  tc_at = r.tc_at;
-}
 
 -- the thresholds of an interface: accepted from the first quality on, rejected below the second
 abbrev pub thresholds_of : Interface → ℕ × ℕ
@@ -79,3 +70,13 @@ pub record IsClear (d : StatedRouter) : Type 0 where
   pub addrs : are_distinct addr_eq (router_addrs d) ≡ true
   pub nets : are_distinct same_attached d.attached ≡ true
   pub hosts : attaches_no_host (router_addrs d) d ≡ true
+
+-- the names and the addresses of the interfaces of one router, and the networks that it attaches: from 1 to 8 interfaces, at most 64
+-- networks, nothing twice, and no network is one of the addresses
+pub record AreOfOneRouter (names : List (List ℕ)) (addrs : List Addr4) (nets : List NetAddr) : Type 0 where
+  pub interfaces : IsCount 1 8 (length names)
+  pub attached : length nets ≤ 64
+  pub distinct_names : IsTrue (are_distinct name_eq names)
+  pub distinct_addrs : IsTrue (are_distinct addr_eq addrs)
+  pub distinct_nets : IsTrue (are_distinct net_eq nets)
+  pub no_hosts : IsTrue (are_no_hosts nets addrs)

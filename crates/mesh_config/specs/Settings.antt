@@ -12,12 +12,12 @@ use Rattle.mesh_config.specs.Keys.Document.{TextSays, text_visits}
 use Rattle.mesh_config.specs.Stated.Times.{TimesIs}
 use Rattle.mesh_config.specs.Stated.Rules.{AreThresholds}
 use Rattle.mesh_config.specs.Stated.Steps.{StepsAre}
-use Rattle.mesh_config.specs.Stated.Router.{AreInterfaceFields, AreRouterFields, interfaces, attached, AttachedIs}
+use Rattle.mesh_config.specs.Stated.Router.{AreInterfaceFields, AreRouterFields, interfaces, attached, AttachedIs, router_fields}
 use Rattle.mesh_config.specs.Stated.Scenario.{end_moment, seed, loss_until, sub_times, routers, arcs, AreArcFields}
 use Rattle.mesh_config.specs.Checks.Checks.{arc_ends, scenario_visits}
 use Rattle.mesh_config.specs.Checks.Compared.{ends_of}
 use Rattle.mesh_config.specs.Checks.Compared.{arc_fields}
-use Rattle.mesh_config.specs.Fields.{interface_fields, router_fields}
+use Rattle.mesh_config.specs.Fields.{interface_fields}
 use Rattle.mesh_config.specs.Senders.{addr_lists, HaveAllSenders, with_steps, HaveAllQualities}
 
 -- an interface, whatever its senders

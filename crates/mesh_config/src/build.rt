@@ -120,20 +120,8 @@ pub fn router_from(
     ensures parts { IfOk result (λ r. settings_parts r ≡ stated_parts times stated.now) }
     ensures interfaces { IfOk result (λ r. r.interfaces ≡ interfaces) }
 {
-    let name = stated.head.name.copy()?;
     let attached = stated.attached.copy()?;
-    let near_hold = stated.head.near_hold.copy()?;
-    Ok(RouterSettings {
-        name,
-        willing: stated.head.willing,
-        hello_at: stated.head.hello_at,
-        tc_at: stated.head.tc_at,
-        times,
-        interfaces,
-        attached,
-        tc_rows: stated.head.tc_rows,
-        near_hold,
-    })
+    stated.head.settings(times, interfaces, attached)
 }
 
 fn make_router(

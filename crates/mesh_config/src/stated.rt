@@ -2,6 +2,7 @@
 
 mod rising;
 mod router;
+mod router_head;
 mod rules;
 mod scenario;
 mod stated;
@@ -10,10 +11,11 @@ mod tables;
 mod times;
 
 pub use crate::stated::router::{attached_of, head, interface_said, metric_at};
+pub use crate::stated::router_head::RouterHead;
 pub use crate::stated::scenario::{end_moment, stated_scenario, times_of};
 pub use crate::stated::stated::{
-    ArcNumbers, Place, RouterHead, ScenarioNumbers, StatedArc, StatedEnds, StatedInterface,
-    StatedRouter, StatedScenario, Thresholds,
+    ArcNumbers, Place, ScenarioNumbers, StatedArc, StatedEnds, StatedInterface, StatedRouter,
+    StatedScenario, Thresholds,
 };
 pub use crate::stated::steps::steps_of;
 pub use crate::stated::tables::{FromTable, all_tables, element};

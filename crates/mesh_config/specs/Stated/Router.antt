@@ -1,20 +1,22 @@
 -- The tables of a router: its interfaces, and the networks that it attaches.
 use Rattle.std.specs.Prelude.{◌≡◌, ◌≤◌, ℕ, List, [], ◌∷◌, codes, Ok, Err}
-use Rattle.toml.specs.Data.{Data, Members}
+use Rattle.toml.specs.Data.{Data, Members, no_members, member, string}
 use Rattle.mesh_atoms.specs.declared.addr.Addr4.{Addr4}
 use Rattle.mesh_atoms.specs.declared.hello.Willing.{Willing}
 use Rattle.mesh_atoms.specs.declared.codes.metric.Metric.{Metric}
 use Rattle.mesh_atoms.specs.declared.settings.Attached4.{Attached4}
 use Rattle.mesh_atoms.specs.declared.settings.NearHold.{NearHold}
+use Rattle.mesh_atoms.specs.declared.settings.RouterSettings.{RouterSettings}
+use Rattle.mesh_atoms.specs.declared.settings.TheConstants.{DEFAULT_TC_ROWS}
 use Rattle.mesh_atoms.specs.Codes.Codes.{metric_value}
 use Rattle.mesh_atoms.specs.Literals.{name_of, address_of, net_of}
 use Rattle.mesh_config.specs.declared.stated.stated.StatedRouter.{StatedRouter}
-use Rattle.mesh_config.specs.declared.stated.stated.RouterHead.{RouterHead}
+use Rattle.mesh_config.specs.declared.stated.router_head.RouterHead.{RouterHead}
 use Rattle.mesh_config.specs.declared.stated.stated.StatedInterface.{StatedInterface}
 use Rattle.mesh_config.specs.Keys.Faults.{ReadValue, Visits, visit, first, listed, then_turned}
 use Rattle.mesh_config.specs.Keys.Values.{optional, required, whole, text, array, array_or_none, each_turned, unknown, is_one_of, ticks}
 use Rattle.mesh_config.specs.Stated.Tables.{tables_visits, Each}
-use Rattle.mesh_config.specs.Stated.Rules.{threshold_visits, AreThresholds, tc_rows, near_holds_visits, NearHoldsAre}
+use Rattle.mesh_config.specs.Stated.Rules.{threshold_visits, AreThresholds, plain_thresholds, tc_rows, near_holds_visits, NearHoldsAre}
 
 -- a moment up to an hour, in ticks; 0 where it is absent
 abbrev pub moment : List ℕ → Members → ReadValue ℕ
@@ -187,10 +189,40 @@ head_fields head = record {
   tc_at = head.tc_at;
 }
 
+-- the same fields, as the settings have them
+abbrev pub router_fields : RouterSettings → RouterFields
+router_fields r = record {
+  router_name = r.name;
+  willing = r.willing;
+  tc_rows = r.tc_rows;
+  near_hold = r.near_hold;
+  hello_at = r.hello_at;
+  tc_at = r.tc_at;
+}
+
 -- what is kept of the router itself is what the table says: its fields, and the thresholds of its links
 pub record HeadIs (table : Members) (head : RouterHead) : Type 0 where
   pub are_fields : AreRouterFields table (head_fields head)
   pub are_thresholds : AreThresholds table head.thresholds.accept head.thresholds.reject
+
+-- a table that has only this name
+abbrev pub only_name : List ℕ → Members
+only_name text = member (codes "name") (string text) no_members
+
+-- the fields have this name, and each of the others is as where its key is absent
+pub record ArePlainFields (text : List ℕ) (fields : RouterFields) : Type 0 where
+  pub is_name : fields.router_name ≡ text
+  pub is_flooding : fields.willing.flooding ≡ 7
+  pub is_routing : fields.willing.routing ≡ 7
+  pub is_tc_rows : fields.tc_rows ≡ DEFAULT_TC_ROWS
+  pub no_near_hold : fields.near_hold ≡ []
+  pub is_hello_at : fields.hello_at ≡ 0
+  pub is_tc_at : fields.tc_at ≡ 0
+
+-- what is kept of a router whose table has only this name
+pub record IsPlainHead (text : List ℕ) (head : RouterHead) : Type 0 where
+  pub are_fields : ArePlainFields text (head_fields head)
+  pub are_thresholds : (head.thresholds.accept, head.thresholds.reject) ≡ plain_thresholds
 
 -- the stated router is what its table says, with each interface and each attached network as its own table says it
 pub record RouterIs (table : Members) (router : StatedRouter) : Type 0 where

@@ -32,6 +32,10 @@ pub record AreThresholds (table : Members) (accept reject : ℕ) : Type 0 where
   pub is_accept : hyst_accept table ≡ Ok accept
   pub is_reject : hyst_reject table ≡ Ok reject
 
+-- the two qualities where the table says neither
+abbrev pub plain_thresholds : ℕ × ℕ
+plain_thresholds = (0, 0)
+
 -- ---- a near hold
 
 -- the number of hops up to which it counts, from 1 to 254; it must stand

@@ -1,32 +1,22 @@
 //! The tables of a router: its interfaces, and the networks that it attaches.
-ghost use Rattle.std.specs.Prelude.{◌≡◌, ◌≤◌, length, IfOk, IsTrue, map};
+ghost use Rattle.std.specs.Prelude.{◌≤◌, length, IfOk};
 ghost use Rattle.toml.specs.View.{table_view, view};
-ghost use Rattle.mesh_atoms.specs.Settings.{IsCount, one_hour};
+ghost use Rattle.mesh_atoms.specs.Settings.{IsCount};
 ghost use Rattle.mesh_config.specs.Keys.Faults.{GivesSetting, ValueOrFault, first, visit, listed};
-ghost use Rattle.mesh_config.specs.Keys.Values.{SaysNothing, unknown, is_one_of};
-ghost use Rattle.mesh_config.specs.Stated.Router.{moment, net, metric_asked, IsMetricRead, named_visits, router_keys, interface_visits, InterfaceIs, attached_visits, AttachedIs, head_visits, HeadIs, interfaces_visits, interfaces, networks_visits, attached, router_visits, RouterIs};
+ghost use Rattle.mesh_config.specs.Stated.Router.{net, metric_asked, IsMetricRead, named_visits, interface_visits, InterfaceIs, attached_visits, AttachedIs, head_visits, HeadIs, interfaces_visits, interfaces, networks_visits, attached, router_visits, RouterIs};
 ghost use Rattle.mesh_config.specs.Stated.Tables.{Each};
 
 use crate::keys::refusal::{BAD_VALUE, MISSING};
 use crate::keys::{
     ConfigFault, addresses_at, array_at, array_or_none, found, known_keys, name_at, refused,
-    string_in, ticks, whole_at, whole_or,
+    string_in, whole_at, whole_or,
 };
-use crate::stated::rules::{near_holds_of, thresholds};
-use crate::stated::stated::{RouterHead, StatedInterface, StatedRouter};
+use crate::stated::router_head::RouterHead;
+use crate::stated::stated::{StatedInterface, StatedRouter};
 use crate::stated::tables::{FromTable, all_tables};
-use mesh_atoms::{Attached4, DEFAULT_TC_ROWS, MOST_TC_ROWS, Metric, NetAddr, Seq, Willing, net_of};
+use mesh_atoms::{Attached4, Metric, NetAddr, Seq, net_of};
 use std::alloc::Global;
 use toml::Table;
-
-// A moment up to an hour, in ticks; 0 where it is absent.
-fn moment(alloc: Global, table: &Table, key: &str) -> Result<u64, ConfigFault>
-    ensures read { GivesSetting (λ n. n) result (moment key.now (table_view table.now)) }
-    ensures range { IfOk result (λ n. n ≤ one_hour) }
-{
-    let ms = whole_or(alloc, table, key, 0, 3_600_000, 0)?;
-    Ok(ticks(ms))
-}
 
 /// The least metric that is at least the whole number at `metric`, from 1 to 16,776,960, which must stand.
 pub fn metric_at(alloc: Global, table: &Table) -> Result<Metric, ConfigFault>
@@ -102,58 +92,12 @@ impl FromTable for Attached4 {
     }
 }
 
-fn known_to_routers(alloc: Global, table: &Table) -> Result<(), ConfigFault>
-    ensures { ValueOrFault SaysNothing (unknown (is_one_of router_keys) (table_view table.now)) result }
-{
-    known_keys(
-        alloc,
-        table,
-        &[
-            "name",
-            "flooding",
-            "routing",
-            "hyst_accept",
-            "hyst_reject",
-            "tc_rows",
-            "near_hold",
-            "hello_at_ms",
-            "tc_at_ms",
-            "interface",
-            "attached",
-        ],
-    )
-}
-
 /// What the table of a router says of itself, with its first moments in ticks; or the first fault there: an unknown key comes
 /// before all others. What its interfaces and attached networks are isn't looked at.
 pub fn head(alloc: Global, table: &Table) -> Result<RouterHead, ConfigFault>
     ensures { ValueOrFault (HeadIs (table_view table.now)) (first (head_visits (table_view table.now))) result }
 {
-    known_to_routers(alloc, table)?;
-    let name = name_at(alloc, table, "name")?;
-    let flooding = whole_or(alloc, table, "flooding", 0, 15, 7)? as u8;
-    let routing = whole_or(alloc, table, "routing", 0, 15, 7)? as u8;
-    let thresholds = thresholds(alloc, table)?;
-    let tc_rows = whole_or(
-        alloc,
-        table,
-        "tc_rows",
-        1,
-        MOST_TC_ROWS as u64,
-        DEFAULT_TC_ROWS as u64,
-    )? as usize;
-    let near_hold = near_holds_of(alloc, table)?;
-    let hello_at = moment(alloc, table, "hello_at_ms")?;
-    let tc_at = moment(alloc, table, "tc_at_ms")?;
-    Ok(RouterHead {
-        name,
-        willing: Willing { flooding, routing },
-        thresholds,
-        tc_rows,
-        near_hold,
-        hello_at,
-        tc_at,
-    })
+    RouterHead::from_table(alloc, table)
 }
 
 fn interfaces_of(alloc: Global, table: &Table) -> Result<Seq<StatedInterface>, ConfigFault>
