@@ -1,7 +1,6 @@
 //! The checks for duplicates, after the walk.
-ghost use Rattle.std.specs.Prelude.{◌≡◌, ◌++◌, not, map, OnOk, IfOk};
-ghost use Rattle.std.specs.List.{list_all, list_any, flat_map};
-ghost use Rattle.mesh_atoms.specs.Base.{addr_eq};
+ghost use Rattle.std.specs.Prelude.{◌≡◌, ◌++◌, map, OnOk, IfOk};
+ghost use Rattle.std.specs.List.{list_all, list_any};
 ghost use Rattle.mesh_atoms.specs.Settings.{are_distinct, is_host};
 ghost use Rattle.mesh_config.specs.Keys.Faults.{ValueOrFault, first};
 ghost use Rattle.mesh_config.specs.Keys.Values.{SaysNothing};

@@ -3,7 +3,7 @@ ghost use Rattle.std.specs.Prelude.{◌≡◌, [], length, map, position, IfOk};
 ghost use Rattle.std.specs.List.{list_any};
 ghost use Rattle.mesh_atoms.specs.Settings.{name_eq, ends_eq};
 ghost use Rattle.mesh_config.specs.Keys.Faults.{GivesSetting};
-ghost use Rattle.mesh_config.specs.Checks.Checks.{find_place, known_place, ends, new_ends, joined, joins};
+ghost use Rattle.mesh_config.specs.Checks.Checks.{find_place, known_place, ends, joined, joins};
 ghost use Rattle.mesh_config.specs.Checks.Compared.{stated_identifiers, arc_places, ends_of, stated_place};
 ghost use Rattle.mesh_config.specs.Stated.Scenario.{stated_arc_fields};
 ghost use Rattle.mesh_config.specs.Checks.Compared.{arc_fields};

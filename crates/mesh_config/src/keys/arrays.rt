@@ -2,7 +2,7 @@
 ghost use Rattle.std.specs.Prelude.{◌≡◌, ◌≤◌, ◌<◌, map, option_map, length, IfOk, IfSome, IsTrue};
 ghost use Rattle.std.specs.List.{list_all};
 ghost use Rattle.toml.specs.View.{table_view, view};
-ghost use Rattle.mesh_config.specs.Keys.Faults.{GivesSetting, ValueOrFault, first};
+ghost use Rattle.mesh_config.specs.Keys.Faults.{GivesSetting};
 ghost use Rattle.mesh_config.specs.Keys.Values.{elements, turned, counted, array, array_or_none, each_turned, text, required};
 ghost use Rattle.mesh_atoms.specs.Literals.{address_of, endpoint_of};
 ghost use Rattle.mesh_config.specs.Keys.Ports.{port_of};

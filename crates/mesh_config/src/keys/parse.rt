@@ -3,7 +3,7 @@ ghost use Rattle.std.specs.Prelude.{◌≡◌, option_map, if◌then◌else◌, 
 ghost use Rattle.std.specs.Str.{is_utf8};
 ghost use Rattle.toml.specs.View.{table_view};
 ghost use Rattle.mesh_config.specs.Keys.Faults.{GivesSetting};
-ghost use Rattle.mesh_config.specs.Keys.Document.{document, parsed};
+ghost use Rattle.mesh_config.specs.Keys.Document.{document};
 
 use crate::keys::fault::{ConfigFault, refused};
 use crate::keys::refusal::{NOT_TOML, TOO_LONG};

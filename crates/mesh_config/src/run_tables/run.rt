@@ -1,5 +1,5 @@
 //! The tables of `run`: interfaces with their ports, the router, and the top.
-ghost use Rattle.std.specs.Prelude.{◌≡◌, codes, length, map, IfOk, OnOk};
+ghost use Rattle.std.specs.Prelude.{codes, length, map, IfOk, OnOk};
 ghost use Rattle.toml.specs.View.{table_view, view};
 ghost use Rattle.mesh_atoms.specs.Settings.{IsCount};
 ghost use Rattle.mesh_config.specs.Keys.Faults.{ValueOrFault, first, visit, listed};

@@ -1,11 +1,9 @@
 //! The tables of a scenario: arcs, and the top.
-ghost use Rattle.std.specs.Prelude.{◌≤◌, ◌≡◌, length, map, option_map, IfOk};
+ghost use Rattle.std.specs.Prelude.{◌≤◌, ◌≡◌, length, IfOk};
 ghost use Rattle.std.specs.Option.{ForSome};
-ghost use Rattle.toml.specs.Data.{no_members};
 ghost use Rattle.toml.specs.View.{table_view, view};
 ghost use Rattle.mesh_atoms.specs.Settings.{IsCount, IsEnd, one_hour, one_millisecond, longest_delay};
 ghost use Rattle.mesh_config.specs.Keys.Faults.{GivesSetting, ValueOrFault, first, listed};
-ghost use Rattle.mesh_config.specs.Keys.Values.{optional};
 ghost use Rattle.mesh_config.specs.Stated.Times.{TimesIs};
 ghost use Rattle.mesh_config.specs.Stated.Router.{RouterIs};
 ghost use Rattle.mesh_config.specs.Stated.Scenario.{place, AreEnds, end_visits, delay, end_moment, loss_until, sub_times, times_part, routers, routers_visits, arcs, arcs_visits, ArcIs, AreArcFields, arc_number_fields, arc_number_visits, AreTopNumbers, top_visits, scenario_table_visits, ScenarioIs};
