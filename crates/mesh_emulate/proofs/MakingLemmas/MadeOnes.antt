@@ -1,10 +1,8 @@
 -- The settings of the routers of a made scenario.
-use Rattle.std.proofs.Common.{◌≡◌, ℕ, zero, suc, ◌+◌, ◌*◌, ◌≤◌, List, [], ◌∷◌, map, length, All, Some, refl, sym, ap, ◌∙◌, subst, arith}
+use Rattle.std.proofs.Common.{◌≡◌, ℕ, zero, suc, ◌+◌, ◌*◌, ◌≤◌, List, [], ◌∷◌, map, length, Some, sym, ap, ◌∙◌, subst, arith}
 use Rattle.std.specs.Prelude.{slice_get}
 use Rattle.std.proofs.lemmas.List.{length-map}
-use Rattle.std.proofs.lemmas.List.Elements.{All-nil, All-cons}
 use Rattle.mesh_atoms.specs.declared.admit.QualityStep.{QualityStep}
-use Rattle.mesh_atoms.specs.declared.settings.Interface.{Interface}
 use Rattle.mesh_atoms.specs.declared.settings.RadioArc.{RadioArc}
 use Rattle.mesh_atoms.specs.declared.settings.RouterSettings.{RouterSettings}
 use Rattle.mesh_atoms.specs.declared.settings.Times.{Times}
@@ -12,41 +10,28 @@ use Rattle.mesh_atoms.specs.Settings.{AreArcs}
 use Rattle.mesh_config.specs.Checks.Compared.{ends_of, stated_lists}
 use Rattle.mesh_config.specs.Fields.{RouterParts, settings_parts, stated_parts, thresholds_of, threshold_pair}
 use Rattle.mesh_config.specs.Senders.{AddressLists, HaveAllSenders, HaveAllQualities, addr_lists}
+use Rattle.mesh_config.proofs.Builds.{all_have}
 use Rattle.mesh_config.proofs.Sounds.{counts_same, lists_same}
 use Rattle.mesh_emulate.specs.declared.making.pairs.RouterPair.{RouterPair}
-use Rattle.mesh_emulate.specs.Making.Scenario.{IsMadeRouter, AreMadeArcs}
+use Rattle.mesh_emulate.specs.Making.Scenario.{name_of, IsMadeRouter, AreMadeArcs}
 use Rattle.mesh_emulate.specs.Making.Stated.{IsStated, AreStated}
 use Rattle.mesh_emulate.proofs.MakingLemmas.Apart.{AreApart}
 use Rattle.mesh_emulate.proofs.MakingLemmas.ArcEnds.{arcs_sound}
 use Rattle.mesh_emulate.proofs.MakingLemmas.StatedOnes.{one_each}
 use Rattle.mesh_config.specs.declared.stated.stated.StatedRouter.{StatedRouter}
+use Rattle.mesh_config.specs.Stated.Router.{ArePlainFields}
+use Rattle.mesh_config.specs.Stated.Rules.{plain_thresholds}
 use Rattle.mesh_config.specs.Stated.Times.{TimesIs}
 use Rattle.mesh_emulate.specs.declared.making.kind.Kind.{Kind}
 use Rattle.toml.specs.Data.{no_members}
 
--- no link of an interface is rejected, where none is of the router
-none_rejected : {Y : Type 0} (thresholds : ℕ × ℕ) (xs : List Interface) (ys : List Y) → thresholds ≡ (0, 0) → map thresholds_of xs ≡ map (λ y. thresholds) ys →
-    All (λ f. thresholds_of f ≡ (0, 0)) xs
-none_rejected thresholds [] ys none same = All-nil (λ (f : Interface). thresholds_of f ≡ (0, 0))
-none_rejected thresholds (x ∷ xs) [] none same = absurd cc
-none_rejected thresholds (x ∷ xs) (y ∷ ys) none same =
-    let here : thresholds_of x ≡ thresholds = cc in
-    let rest : map thresholds_of xs ≡ map (λ y. thresholds) ys = cc in
-    All-cons (λ (f : Interface). thresholds_of f ≡ (0, 0)) x xs (here ∙ none) (none_rejected thresholds xs ys none rest)
-
 module _ (times : Times) (default : TimesIs no_members times) where
   one_made : (i : ℕ) (r : RouterSettings) (d : StatedRouter) → settings_parts r ≡ stated_parts times d → IsStated i d → IsMadeRouter i r
   one_made i r d same is = record {
-    name = ap (λ (p : RouterParts). p.fields.router_name) same ∙ is.name;
-    flooding = ap (λ (p : RouterParts). p.fields.willing.flooding) same ∙ is.flooding;
-    routing = ap (λ (p : RouterParts). p.fields.willing.routing) same ∙ is.routing;
-    hello_at = ap (λ (p : RouterParts). p.fields.hello_at) same ∙ is.hello_at;
-    tc_at = ap (λ (p : RouterParts). p.fields.tc_at) same ∙ is.tc_at;
+    fields = subst (ArePlainFields (name_of i)) (sym (ap (λ (p : RouterParts). p.fields) same)) is.is_plain.are_fields;
     times = subst (TimesIs no_members) (sym (ap (λ (p : RouterParts). p.times) same)) default;
-    tc_rows = ap (λ (p : RouterParts). p.fields.tc_rows) same ∙ is.tc_rows;
-    near_hold = ap (λ (p : RouterParts). p.fields.near_hold) same ∙ is.near_hold;
     interfaces = ap (λ (p : RouterParts). p.interfaces) same ∙ is.interfaces;
-    thresholds = none_rejected (threshold_pair d.head.thresholds) r.interfaces d.interfaces (rw (is.accept, is.reject) refl) (ap (λ (p : RouterParts). p.thresholds) same);
+    thresholds = all_have (λ (t : ℕ × ℕ). t ≡ plain_thresholds) thresholds_of (threshold_pair d.head.thresholds) r.interfaces d.interfaces (ap (λ (p : RouterParts). p.thresholds) same) is.is_plain.are_thresholds;
     attached = ap (λ (p : RouterParts). p.attached) same ∙ is.attached;
   }
 

@@ -74,7 +74,7 @@ names_apart : (i j : ℕ) (d : StatedRouter) (ds : List StatedRouter) → IsStat
     list_any (same_router d) ds ≡ false
 names_apart i j d [] one all less few = refl
 names_apart i j d (e ∷ ds) one all less few =
-    let here : same_router d e ≡ false = rw (one.name, all.0.name) (names_differ i j less (omega (arith, few))) in
+    let here : same_router d e ≡ false = rw (one.is_plain.are_fields.is_name, all.0.is_plain.are_fields.is_name) (names_differ i j less (omega (arith, few))) in
     or_from (same_router d e) (list_any (same_router d) ds) here (names_apart i (j + 1) d ds one all.1 (omega (arith, less)) (omega (arith, few)))
 
 distinct_names : (i : ℕ) (ds : List StatedRouter) → AreStated i ds → i + length ds ≤ 64 → are_distinct same_router ds ≡ true

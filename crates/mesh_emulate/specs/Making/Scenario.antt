@@ -5,12 +5,12 @@ use Rattle.mesh_atoms.specs.declared.addr.Addr4.{Addr4}
 use Rattle.mesh_atoms.specs.declared.settings.RadioArc.{RadioArc}
 use Rattle.mesh_atoms.specs.declared.settings.RouterSettings.{RouterSettings}
 use Rattle.mesh_atoms.specs.declared.settings.Scenario.{Scenario}
-use Rattle.mesh_atoms.specs.declared.settings.TheConstants.{DEFAULT_TC_ROWS}
 use Rattle.mesh_config.specs.Fields.{interface_fields, thresholds_of}
 use Rattle.mesh_config.specs.Senders.{HaveAllSenders, addr_lists, with_steps, HaveAllQualities}
 use Rattle.mesh_emulate.specs.declared.making.pairs.RouterPair.{RouterPair}
 use Rattle.mesh_emulate.specs.Making.Pairs.{ArePairs, word}
-use Rattle.mesh_config.specs.Stated.Router.{InterfaceFields}
+use Rattle.mesh_config.specs.Stated.Router.{InterfaceFields, router_fields, ArePlainFields}
+use Rattle.mesh_config.specs.Stated.Rules.{plain_thresholds}
 use Rattle.mesh_config.specs.Stated.Times.{TimesIs}
 use Rattle.mesh_emulate.specs.declared.making.kind.Kind.{Kind}
 use Rattle.mesh_emulate.specs.declared.making.kind.Kind.TheVariants as kind
@@ -62,16 +62,10 @@ face_of i = record { interface_name = codes "w0"; addrs = addr_of i ∷ [] }
 
 -- router i: it has one interface, and all else is as where it isn't stated
 pub record IsMadeRouter (i : ℕ) (r : RouterSettings) : Type 0 where
-  pub name : r.name ≡ name_of i
-  pub flooding : r.willing.flooding ≡ 7
-  pub routing : r.willing.routing ≡ 7
-  pub hello_at : r.hello_at ≡ 0
-  pub tc_at : r.tc_at ≡ 0
-  pub tc_rows : r.tc_rows ≡ DEFAULT_TC_ROWS
-  pub near_hold : r.near_hold ≡ []
+  pub fields : ArePlainFields (name_of i) (router_fields r)
   pub times : TimesIs no_members r.times
   pub interfaces : map interface_fields r.interfaces ≡ face_of i ∷ []
-  pub thresholds : All (λ f. thresholds_of f ≡ (0, 0)) r.interfaces
+  pub thresholds : All (λ f. thresholds_of f ≡ plain_thresholds) r.interfaces
   pub attached : r.attached ≡ []
 
 -- The scenario

@@ -1,12 +1,12 @@
 //! The routers of a made scenario as their tables would state them.
-ghost use Rattle.std.specs.Prelude.{◌≡◌, ◌∷◌, [], ◌≤◌, ◌<◌, length, IfOk, map};
+ghost use Rattle.std.specs.Prelude.{◌≡◌, ◌≤◌, ◌<◌, length, IfOk};
 ghost use Rattle.mesh_atoms.specs.Settings.{IsName};
-ghost use Rattle.mesh_emulate.specs.Making.Scenario.{name_of, addr_of, face_of};
+ghost use Rattle.mesh_emulate.specs.Making.Scenario.{name_of, face_of};
 ghost use Rattle.mesh_emulate.specs.Making.Stated.{IsStated, AreStated};
 ghost use Rattle.mesh_config.specs.Stated.Router.{stated_interface_fields};
 
-use mesh_atoms::{Addr4, Bytes, DEFAULT_TC_ROWS, Seq, Willing, put_decimal};
-use mesh_config::{RouterHead, StatedInterface, StatedRouter, Thresholds};
+use mesh_atoms::{Addr4, Bytes, Seq, put_decimal};
+use mesh_config::{RouterHead, StatedInterface, StatedRouter};
 use std::alloc::{AllocError, Global};
 
 fn name_of(alloc: Global, i: usize) -> Result<Bytes, AllocError>
@@ -18,35 +18,6 @@ fn name_of(alloc: Global, i: usize) -> Result<Bytes, AllocError>
     name.append(b"m")?;
     put_decimal(&mut name, i as u64)?;
     Ok(name)
-}
-
-fn head_of(alloc: Global, i: usize) -> Result<RouterHead, AllocError>
-    requires { i < 64 }
-    ensures name { IfOk result (λ head. head.name ≡ name_of i) }
-    ensures flooding { IfOk result (λ head. head.willing.flooding ≡ 7) }
-    ensures routing { IfOk result (λ head. head.willing.routing ≡ 7) }
-    ensures hello_at { IfOk result (λ head. head.hello_at ≡ 0) }
-    ensures tc_at { IfOk result (λ head. head.tc_at ≡ 0) }
-    ensures accept { IfOk result (λ head. head.thresholds.accept ≡ 0) }
-    ensures reject { IfOk result (λ head. head.thresholds.reject ≡ 0) }
-    ensures tc_rows { IfOk result (λ head. head.tc_rows ≡ DEFAULT_TC_ROWS) }
-    ensures near_hold { IfOk result (λ head. head.near_hold ≡ []) }
-{
-    Ok(RouterHead {
-        name: name_of(alloc, i)?,
-        willing: Willing {
-            flooding: 7,
-            routing: 7,
-        },
-        thresholds: Thresholds {
-            accept: 0,
-            reject: 0,
-        },
-        tc_rows: DEFAULT_TC_ROWS,
-        near_hold: Seq::new(alloc),
-        hello_at: 0,
-        tc_at: 0,
-    })
 }
 
 fn face_of(alloc: Global, i: usize) -> Result<StatedInterface, AllocError>
@@ -66,7 +37,7 @@ fn router_of(alloc: Global, i: usize) -> Result<StatedRouter, AllocError>
 {
     let mut interfaces = Seq::new(alloc);
     interfaces.push(face_of(alloc, i)?)?;
-    let head = head_of(alloc, i)?;
+    let head = RouterHead::plain(alloc, name_of(alloc, i)?);
     Ok(StatedRouter {
         head,
         interfaces,
