@@ -1,5 +1,5 @@
 //! What is known before the first event: the scenario, and what is wanted of it.
-ghost use Rattle.std.specs.Prelude.{◌≡◌, IfOk, IfErr};
+ghost use Rattle.std.specs.Prelude.{IfOk, IfErr};
 ghost use Rattle.mesh_config.specs.Settings.{FirstRefusal};
 ghost use Rattle.mesh_emulate.specs.Emulation.{States, IsRefused};
 ghost use Rattle.mesh_emulate.specs.Prepared.{IsPrepared};

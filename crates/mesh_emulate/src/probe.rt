@@ -1,5 +1,5 @@
 //! What is told of a probe of the network at the end of a run.
-ghost use Rattle.std.specs.Prelude.{◌≡◌, ◌≤◌, ◌<◌, length, map, OnOk, IfSome};
+ghost use Rattle.std.specs.Prelude.{◌≤◌, ◌<◌, length, map, OnOk, IfSome};
 ghost use Rattle.mesh_atoms.specs.Radio.{IsRadioGraph};
 ghost use Rattle.mesh_emulate.specs.Parts.{MakesWanted, IsProbedText};
 ghost use Rattle.mesh_io.specs.Pieces.{PutsPieces};

@@ -1,5 +1,5 @@
 //! What is told of a network at the end of its run.
-ghost use Rattle.std.specs.Prelude.{◌≡◌, ◌≤◌, ◌<◌, length, map, OnOk, IfSome};
+ghost use Rattle.std.specs.Prelude.{◌≤◌, ◌<◌, length, map, OnOk, IfSome};
 ghost use Rattle.mesh_emulate.specs.Emulation.{IsEndSummary};
 ghost use Rattle.mesh_emulate.specs.Parts.{EndMakes};
 ghost use Rattle.mesh_io.specs.Pieces.{PutsPieces};

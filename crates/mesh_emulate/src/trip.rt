@@ -1,5 +1,5 @@
 //! What is told of a data packet at the end of a run.
-ghost use Rattle.std.specs.Prelude.{◌≡◌, ◌≤◌, ◌<◌, length, map, OnOk, IfSome};
+ghost use Rattle.std.specs.Prelude.{◌≤◌, ◌<◌, length, map, OnOk, IfSome};
 ghost use Rattle.mesh_atoms.specs.Settled.{AreStates};
 ghost use Rattle.mesh_emulate.specs.Parts.{MakesWanted, IsTripText};
 ghost use Rattle.mesh_io.specs.Pieces.{PutsPieces};

@@ -1,5 +1,5 @@
 //! The arcs of a made scenario.
-ghost use Rattle.std.specs.Prelude.{◌≡◌, ◌≤◌, ◌<◌, ◌+◌, ◌*◌, length, IfOk, [], take};
+ghost use Rattle.std.specs.Prelude.{◌≡◌, ◌≤◌, ◌<◌, ◌+◌, ◌*◌, length, IfOk};
 ghost use Rattle.mesh_atoms.specs.Codes.Codes.{metric_value};
 ghost use Rattle.mesh_atoms.specs.Settings.{IsCount};
 ghost use Rattle.mesh_emulate.specs.Making.Scenario.{cost, loss_of, IsMadeArc, AreMadeArcs};

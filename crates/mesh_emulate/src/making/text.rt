@@ -1,5 +1,5 @@
 //! What is told of a made network at the end of its run, put behind other octets.
-ghost use Rattle.std.specs.Prelude.{◌≡◌, ◌≤◌, ◌++◌, ◌∷◌, ℕ, List, [], length, map, OnOk};
+ghost use Rattle.std.specs.Prelude.{◌≡◌, ◌≤◌, ◌++◌, ℕ, List, length, map, OnOk};
 ghost use Rattle.mesh_emulate.specs.Making.Lines.{kind_text, made_line, routes_line, TellsRoutes};
 ghost use Rattle.mesh_emulate.specs.Making.Routes.{metrics_of};
 ghost use Rattle.mesh_texts.specs.machine.packet.Least.{Wrote};
