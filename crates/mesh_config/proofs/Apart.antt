@@ -1,9 +1,10 @@
 -- No sender of an interface stands twice: two arcs that lead to it come from two interfaces, whose addresses differ.
-use Rattle.std.proofs.Common.{◌≡◌, ℕ, zero, suc, List, [], ◌∷◌, ◌++◌, map, Bool, true, false, not, ◌&&◌, ◌||◌, cond, nat_eq, Option, Some, None, refl, sym, ap, ◌∙◌, subst, arith}
+use Rattle.std.proofs.Common.{◌≡◌, ℕ, zero, suc, List, [], ◌∷◌, ◌++◌, map, Bool, true, false, not, ◌&&◌, cond, nat_eq, Contains, Option, Some, None, refl, sym, ap, ◌∙◌}
 use Rattle.std.specs.List.{list_any, flat_map, slice_get}
 use Rattle.std.proofs.lemmas.Bool.{and_parts, eqb-true, eq-eqb, or_parts, false_from_ne_true}
 use Rattle.std.proofs.lemmas.List.{map-append}
 use Rattle.std.proofs.lemmas.List.Folds.{list_any-append, flat_map-map}
+use Rattle.std.proofs.lemmas.Simd.{map-map}
 use Rattle.mesh_atoms.specs.declared.addr.Addr4.{Addr4}
 use Rattle.mesh_atoms.specs.declared.codes.metric.Metric.{Metric}
 use Rattle.mesh_atoms.specs.declared.settings.RadioArc.{RadioArc}
@@ -11,52 +12,16 @@ use Rattle.mesh_atoms.specs.declared.settings.SenderMetric.{SenderMetric}
 use Rattle.mesh_atoms.specs.Base.{addr_eq}
 use Rattle.mesh_atoms.specs.Literals.{◌>>=◌}
 use Rattle.mesh_atoms.specs.Settings.{are_distinct, ends_eq}
-use Rattle.mesh_atoms.proofs.Lookups.{same_addr}
+use Rattle.mesh_atoms.proofs.Lookups.{addr_equiv, same_addr}
 use Rattle.mesh_config.specs.declared.stated.stated.StatedInterface.{StatedInterface}
 use Rattle.mesh_config.specs.declared.stated.stated.StatedRouter.{StatedRouter}
 use Rattle.mesh_config.specs.Checks.Compared.{all_addrs, stated_lists, ends_of}
 use Rattle.mesh_config.specs.Senders.{HaveNoDuplicates, AddressLists, first_addr, with_metric, sender_by, sender_pair, senders_to}
-use Rattle.mesh_config.proofs.Builds.{map-then}
+use Rattle.mesh_config.proofs.JoinFacts.{bind_some}
 use Rattle.mesh_atoms.proofs.Options.{not_both as no_both, same_some}
-use Rattle.mesh_atoms.proofs.Lists.{back_distinct, front_distinct}
+use Rattle.mesh_atoms.proofs.Lists.{back_distinct, contains_at, contains_flat_map_at, front_distinct, one_part}
 
--- ---- an address among lists, no address of which stands twice
-any_back : {A : Type 0} (p : A → Bool) (xs ys : List A) → list_any p ys ≡ true → list_any p (xs ++ ys) ≡ true
-any_back p xs ys h = grind (arith, list_any-append p xs ys, h)
-
-any_front : {A : Type 0} (p : A → Bool) (xs ys : List A) → list_any p xs ≡ true → list_any p (xs ++ ys) ≡ true
-any_front p xs ys h = grind (arith, list_any-append p xs ys, h)
-
-again : (a x : Addr4) (xs ys : List Addr4) → addr_eq a x ≡ true → list_any (addr_eq a) ys ≡ true → not (list_any (addr_eq x) (xs ++ ys)) ≡ true → ⊥
-again a x xs ys e there none =
-    no_both (list_any (addr_eq x) (xs ++ ys)) (subst (λ (z : Addr4). list_any (addr_eq z) (xs ++ ys) ≡ true) (same_addr a x e) (any_back (addr_eq a) xs ys there)) none
-
-either : (b c : Bool) → (b || c) ≡ true → (b ≡ true → ⊥) → (c ≡ true → ⊥) → ⊥
-either true c h first second = first refl
-either false c h first second = second h
-
-crosses : (a : Addr4) (xs ys : List Addr4) → list_any (addr_eq a) xs ≡ true → list_any (addr_eq a) ys ≡ true → are_distinct addr_eq (xs ++ ys) ≡ true → ⊥
-crosses a [] ys here there h = let bad : ⊥ = cc in bad
-crosses a (x ∷ xs) ys here there h =
-    let parts = and_parts (not (list_any (addr_eq x) (xs ++ ys))) (are_distinct addr_eq (xs ++ ys)) h in
-    either (addr_eq a x) (list_any (addr_eq a) xs) here (λ e. again a x xs ys e there parts.0) (λ rest. crosses a xs ys rest there parts.1)
-
-among : {A : Type 0} (f : A → List Addr4) (xs : List A) (i : ℕ) (x : A) (a : Addr4) → slice_get xs i ≡ Some x → list_any (addr_eq a) (f x) ≡ true → list_any (addr_eq a) (flat_map f xs) ≡ true
-among f [] i x a at h = let bad : ⊥ = cc in absurd bad
-among f (y ∷ ys) zero x a at h = let same : y ≡ x = cc in any_front (addr_eq a) (f y) (flat_map f ys) (rw same h)
-among f (y ∷ ys) (suc i) x a at h = any_back (addr_eq a) (f y) (flat_map f ys) (among f ys i x a at h)
-
--- the list that has an address is one
-one_list : {A : Type 0} (f : A → List Addr4) (xs : List A) (i j : ℕ) (x y : A) (a : Addr4) → are_distinct addr_eq (flat_map f xs) ≡ true
-    → slice_get xs i ≡ Some x → slice_get xs j ≡ Some y → list_any (addr_eq a) (f x) ≡ true → list_any (addr_eq a) (f y) ≡ true → i ≡ j
-one_list f [] i j x y a apart at bt h k = let bad : ⊥ = cc in absurd bad
-one_list f (z ∷ zs) zero zero x y a apart at bt h k = refl
-one_list f (z ∷ zs) zero (suc j) x y a apart at bt h k =
-    let same : z ≡ x = cc in absurd (crosses a (f z) (flat_map f zs) (rw same h) (among f zs j y a bt k) apart)
-one_list f (z ∷ zs) (suc i) zero x y a apart at bt h k =
-    let same : z ≡ y = cc in absurd (crosses a (f z) (flat_map f zs) (rw same k) (among f zs i x a at h) apart)
-one_list f (z ∷ zs) (suc i) (suc j) x y a apart at bt h k = ap suc (one_list f zs i j x y a (back_distinct addr_eq (f z) (flat_map f zs) apart) at bt h k)
-
+-- a part of a list, no address of which stands twice
 part_apart : {A : Type 0} (f : A → List Addr4) (xs : List A) (i : ℕ) (x : A) → are_distinct addr_eq (flat_map f xs) ≡ true → slice_get xs i ≡ Some x → are_distinct addr_eq (f x) ≡ true
 part_apart f [] i x apart at = let bad : ⊥ = cc in absurd bad
 part_apart f (z ∷ zs) zero x apart at = let same : z ≡ x = cc in rw (← same) (front_distinct addr_eq (f z) (flat_map f zs) apart)
@@ -69,47 +34,36 @@ whole addrs = addrs
 abbrev of_faces : List (List Addr4) → List Addr4
 of_faces faces = flat_map whole faces
 
-bind_some : {A B : Type 0} (o : Option A) (f : A → Option B) (y : B) → (o >>= f) ≡ Some y → (x : A) × ((o ≡ Some x) × (f x ≡ Some y))
-bind_some None f y h = let bad : ⊥ = cc in absurd bad
-bind_some (Some x) f y h = (x, (refl, h))
-
-self_eq : (a : Addr4) → addr_eq a a ≡ true
-self_eq a = eq-eqb a.0 a.0 refl
-
-first_among : (a : Addr4) (xs : List Addr4) → slice_get xs 0 ≡ Some a → list_any (addr_eq a) xs ≡ true
-first_among a [] h = let bad : ⊥ = cc in absurd bad
-first_among a (x ∷ xs) h = let same : x ≡ a = cc in rw (same, self_eq a) refl
-
 pub record Found (lists : AddressLists) (router iface : ℕ) (a : Addr4) : Type 0 where
   pub faces : List (List Addr4)
   pub at_router : slice_get lists router ≡ Some faces
   pub addrs : List Addr4
   pub at_iface : slice_get faces iface ≡ Some addrs
-  pub of_iface : list_any (addr_eq a) addrs ≡ true
-  pub of_router : list_any (addr_eq a) (of_faces faces) ≡ true
+  pub of_iface : Contains addrs a
+  pub of_router : Contains (of_faces faces) a
 
 found : (lists : AddressLists) (router iface : ℕ) (a : Addr4) → first_addr lists router iface ≡ Some a → Found lists router iface a
 found lists router iface a h =
     let one = bind_some (slice_get lists router) (λ faces. slice_get faces iface >>= λ addrs. slice_get addrs 0) a h in
     let two = bind_some (slice_get one.0 iface) (λ addrs. slice_get addrs 0) a one.1.1 in
-    let first = first_among a two.0 two.1.1 in
+    let first = contains_at two.0 0 a two.1.1 in
     record {
       faces = one.0;
       at_router = one.1.0;
       addrs = two.0;
       at_iface = two.1.0;
       of_iface = first;
-      of_router = among whole one.0 iface two.0 a two.1.0 first;
+      of_router = contains_flat_map_at whole one.0 iface two.0 a two.1.0 first;
     }
 
 one_interface : (lists : AddressLists) (r i s j : ℕ) (a : Addr4) → are_distinct addr_eq (flat_map of_faces lists) ≡ true → first_addr lists r i ≡ Some a → first_addr lists s j ≡ Some a → (r ≡ s) × (i ≡ j)
 one_interface lists r i s j a apart h k =
     let x = found lists r i a h in let y = found lists s j a k in
-    let routers : r ≡ s = one_list of_faces lists r s x.faces y.faces a apart x.at_router y.at_router x.of_router y.of_router in
+    let routers : r ≡ s = one_part addr_equiv of_faces lists r s x.faces y.faces a apart x.at_router y.at_router x.of_router y.of_router in
     let there : slice_get lists r ≡ Some y.faces = ap (slice_get lists) routers ∙ y.at_router in
     let same : y.faces ≡ x.faces = same_some there x.at_router in
     let near : slice_get x.faces j ≡ Some y.addrs = ap (λ (faces : List (List Addr4)). slice_get faces j) (sym same) ∙ y.at_iface in
-    (routers, one_list whole x.faces i j x.addrs y.addrs a (part_apart of_faces lists r x.faces apart x.at_router) x.at_iface near x.of_iface y.of_iface)
+    (routers, one_part addr_equiv whole x.faces i j x.addrs y.addrs a (part_apart of_faces lists r x.faces apart x.at_router) x.at_iface near x.of_iface y.of_iface)
 
 -- ---- the senders that one arc gives, and those of the arcs after it
 abbrev addr_of : Addr4 × Metric → Addr4
@@ -191,5 +145,5 @@ flat_same (r ∷ rs) = rw (faces_same r.interfaces, flat_same rs) refl
 pub senders_apart : (routers : List StatedRouter) (arcs : List RadioArc) (router iface : ℕ) (senders : List SenderMetric) → HaveNoDuplicates routers arcs → map sender_pair senders ≡ senders_to (stated_lists routers) arcs router iface
     → are_distinct addr_eq (map (λ s. s.sender) senders) ≡ true
 senders_apart routers arcs router iface senders apart met =
-    let pairs : map (λ (s : SenderMetric). s.sender) senders ≡ addrs_to (stated_lists routers) arcs router iface = sym (map-then addr_of sender_pair senders) ∙ ap (map addr_of) met in
+    let pairs : map (λ (s : SenderMetric). s.sender) senders ≡ addrs_to (stated_lists routers) arcs router iface = sym (map-map addr_of sender_pair senders) ∙ ap (map addr_of) met in
     rw pairs (addrs_apart (stated_lists routers) arcs router iface (ap (are_distinct addr_eq) (flat_same routers) ∙ apart.distinct_addrs) apart.distinct_arcs)

@@ -4,7 +4,8 @@ use Rattle.std.specs.List.{list_all, list_any, flat_map}
 use Rattle.std.proofs.lemmas.List.Folds.{list_all-map, list_any-append, flat_map-map}
 use Rattle.std.proofs.lemmas.Bool.{and_parts}
 use Rattle.std.proofs.lemmas.List.Elements.{All-nil, All-cons}
-use Rattle.std.proofs.lemmas.List.{take_more, map-append, length-map}
+use Rattle.std.proofs.lemmas.List.{map-append, length-map}
+use Rattle.std.proofs.lemmas.Simd.{map-map}
 use Rattle.mesh_atoms.specs.declared.settings.Attached4.{Attached4}
 use Rattle.mesh_atoms.specs.declared.settings.Interface.{Interface}
 use Rattle.mesh_atoms.specs.Base.{addr_eq, net_eq}
@@ -18,6 +19,7 @@ use Rattle.mesh_config.specs.Fields.{interface_fields, IsClear, AreOfOneRouter}
 use Rattle.mesh_config.specs.Stated.Router.{InterfaceFields, stated_interface_fields}
 use Rattle.mesh_config.specs.Senders.{EachAt}
 use Rattle.mesh_config.proofs.ChecksLemmas.Links.{are_distinct-map}
+use Rattle.mesh_config.proofs.KeysLemmas.Elements.{map_take}
 use Rattle.mesh_atoms.proofs.Lists.{back_distinct, front_distinct}
 
 -- one more
@@ -90,10 +92,7 @@ clear_at rs i d within none =
 -- ---- one more of two lists that agree
 pub maps_more : {A B C : Type 0} (f : A → C) (g : B → C) (xs : List A) (ys : List B) (i : ℕ) (x : A) (y : B) → y ≡ get_or ys i y → i < length ys
     → map f xs ≡ map g (take i ys) → f x ≡ g y → map f (xs ++ x ∷ []) ≡ map g (take (i + 1) ys)
-maps_more {A} {B} {C} f g xs ys i x y here within all one =
-    let at : map g (take (i + 1) ys) ≡ map g (take i ys) ++ g y ∷ [] =
-    ap (map g) (take_more ys i y within ∙ ap (λ (w : B). take i ys ++ w ∷ []) (sym here)) ∙ map-append g (take i ys) (y ∷ []) in
-    map-append f xs (x ∷ []) ∙ (rw (all, one) (sym at))
+maps_more f g xs ys i x y here within all one = map-append f xs (x ∷ []) ∙ (rw (all, one) (sym (map_take g ys i y here within)))
 
 -- where all have one value, each has what holds of it
 pub all_have : {X Y A : Type 0} (Holds : A → Type 0) (f : X → A) (a : A) (xs : List X) (ys : List Y) → map f xs ≡ map (λ y. a) ys → Holds a → All (λ x. Holds (f x)) xs
@@ -105,12 +104,8 @@ all_have {X} {Y} Holds f a (x ∷ xs) (y ∷ ys) same is =
     All-cons (λ (x : X). Holds (f x)) x xs (subst Holds (sym here) is) (all_have Holds f a xs ys rest is)
 
 -- ---- what a router keeps
-pub map-then : {A B C : Type 0} (g : B → C) (f : A → B) (xs : List A) → map g (map f xs) ≡ map (λ x. g (f x)) xs
-map-then g f [] = refl
-map-then g f (x ∷ xs) = ap (λ (ys : List _). g (f x) ∷ ys) (map-then g f xs)
-
 pub names_same : (xs : List Interface) (ys : List StatedInterface) → map interface_fields xs ≡ map stated_interface_fields ys → map (λ i. i.name) xs ≡ map (λ i. i.name) ys
-names_same xs ys h = sym (map-then (λ (f : InterfaceFields). f.interface_name) interface_fields xs) ∙ (ap (map (λ (f : InterfaceFields). f.interface_name)) h ∙ map-then (λ (f : InterfaceFields). f.interface_name) stated_interface_fields ys)
+names_same xs ys h = sym (map-map (λ (f : InterfaceFields). f.interface_name) interface_fields xs) ∙ (ap (map (λ (f : InterfaceFields). f.interface_name)) h ∙ map-map (λ (f : InterfaceFields). f.interface_name) stated_interface_fields ys)
 
 pub flat_same : (xs : List Interface) (ys : List StatedInterface) → map interface_fields xs ≡ map stated_interface_fields ys → flat_map (λ i. i.addrs) xs ≡ flat_map (λ i. i.addrs) ys
 flat_same xs ys h = sym (flat_map-map (λ (f : InterfaceFields). f.addrs) interface_fields xs) ∙ (ap (flat_map (λ (f : InterfaceFields). f.addrs)) h ∙ flat_map-map (λ (f : InterfaceFields). f.addrs) stated_interface_fields ys)

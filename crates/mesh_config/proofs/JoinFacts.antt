@@ -26,27 +26,22 @@ count_at (x ∷ xs) (suc i) r h = count_at xs i r h
 abbrev both : ℕ → ℕ → Option (ℕ × ℕ)
 both a b = Some (a, b)
 
-third : (routers : List Identifiers) (router : ℕ) (n : List ℕ) (r : Identifiers) (found : Option ℕ) (a : ℕ × ℕ) → position (name_eq n) r.interface_names ≡ found → slice_get routers router ≡ Some r
-    → (found >>= λ iface. both router iface) ≡ Some a → is_interface (counts routers) a.0 a.1 ≡ true
-third routers router n r None a there here h = let bad : ⊥ = cc in absurd bad
-third routers router n r (Some iface) a there here h =
-    let pair : ℕ × ℕ = (router, iface) in
-    let same : pair ≡ a = cc in
-    let says : ℕ × ℕ → Type 0 = λ x. is_interface (counts routers) x.0 x.1 ≡ true in
-    subst says same (rw (count_at routers router r here) (position_within (name_eq n) r.interface_names iface there))
-
-second : (routers : List Identifiers) (router : ℕ) (n : List ℕ) (found : Option Identifiers) (a : ℕ × ℕ) → slice_get routers router ≡ found
-    → (found >>= λ r. position (name_eq n) r.interface_names >>= λ iface. both router iface) ≡ Some a → is_interface (counts routers) a.0 a.1 ≡ true
-second routers router n None a here h = let bad : ⊥ = cc in absurd bad
-second routers router n (Some r) a here h = third routers router n r (position (name_eq n) r.interface_names) a refl here h
-
-place_of : (routers : List Identifiers) (n : List ℕ) (found : Option ℕ) (a : ℕ × ℕ)
-    → (found >>= λ router. slice_get routers router >>= λ r. position (name_eq n) r.interface_names >>= λ iface. both router iface) ≡ Some a → is_interface (counts routers) a.0 a.1 ≡ true
-place_of routers n None a h = let bad : ⊥ = cc in absurd bad
-place_of routers n (Some router) a h = second routers router n (slice_get routers router) a refl h
+-- ---- what was looked up one after the other
+pub bind_some : {A B : Type 0} (o : Option A) (f : A → Option B) (y : B) → (o >>= f) ≡ Some y → (x : A) × ((o ≡ Some x) × (f x ≡ Some y))
+bind_some None f y h = let bad : ⊥ = cc in absurd bad
+bind_some (Some x) f y h = (x, (refl, h))
 
 place_within : (routers : List Identifiers) (p : NamedInterface) (a : ℕ × ℕ) → find_place routers p ≡ Some a → is_interface (counts routers) a.0 a.1 ≡ true
-place_within routers p a h = place_of routers p.1 (position (λ r. name_eq p.0 r.router_name) routers) a h
+place_within routers p a h =
+    let place : ℕ → Identifiers → Option (ℕ × ℕ) = λ at r. position (name_eq p.1) r.interface_names >>= both at in
+    let one = bind_some (position (λ r. name_eq p.0 r.router_name) routers) (λ at. slice_get routers at >>= place at) a h in
+    let two = bind_some (slice_get routers one.0) (place one.0) a one.1.1 in
+    let three = bind_some (position (name_eq p.1) two.0.interface_names) (both one.0) a two.1.1 in
+    let found : both one.0 three.0 ≡ Some a = three.1.1 in
+    let pair : ℕ × ℕ = (one.0, three.0) in
+    let same : pair ≡ a = cc in
+    let says : ℕ × ℕ → Type 0 = λ x. is_interface (counts routers) x.0 x.1 ≡ true in
+    subst says same (rw (count_at routers one.0 two.0 two.1.0) (position_within (name_eq p.1) two.0.interface_names three.0 three.1.0))
 
 -- ---- what was read one after the other
 bind_ok : {A B : Type 0} (r : ReadValue A) (f : A → ReadValue B) (y : B) → (r >>? f) ≡ Ok y → (x : A) × ((r ≡ Ok x) × (f x ≡ Ok y))

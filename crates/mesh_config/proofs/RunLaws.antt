@@ -1,8 +1,9 @@
 -- The setup of `run` out of what its tables state.
-use Rattle.std.proofs.Common.{◌≡◌, ◌≤◌, ℕ, List, [], ◌∷◌, map, length, Bool, true, false, codes, nat_le, le-leb, Option, Some, None, refl, sym, ap, ◌∙◌, lit≤, arith}
+use Rattle.std.proofs.Common.{◌≡◌, ℕ, List, [], ◌∷◌, map, length, Bool, true, false, codes, nat_le, le-leb, Option, Some, None, refl, sym, ap, ◌∙◌, lit≤}
 use Rattle.std.specs.List.{list_all}
 use Rattle.std.proofs.lemmas.Bool.{and_parts}
 use Rattle.std.proofs.lemmas.List.{length-map}
+use Rattle.std.proofs.lemmas.Simd.{map-map}
 use Rattle.toml.specs.Data.{Members}
 use Rattle.mesh_atoms.specs.declared.addr.Addr4.{Addr4}
 use Rattle.mesh_atoms.specs.declared.settings.Interface.{Interface}
@@ -26,7 +27,7 @@ use Rattle.mesh_config.specs.Checks.Compared.{stated_identifiers}
 use Rattle.mesh_config.specs.Fields.{interface_fields, CostFields, interface_costs, RouterParts, settings_parts, stated_parts, IsClear}
 use Rattle.mesh_config.specs.RunSettings.{CostsSay, SetupSays, SetupFrom, setup_visits, run_checks, the_router, addr_in, neighbour_addrs, stated_costs, same_neighbour, senders_checked, stated_run_checks}
 use Rattle.mesh_config.proofs.ChecksLemmas.Links.{duplicates_same, are_distinct-map}
-use Rattle.mesh_config.proofs.Builds.{clear_at, map-then}
+use Rattle.mesh_config.proofs.Builds.{clear_at}
 use Rattle.mesh_config.proofs.KeysLemmas.Parts.{first_one}
 use Rattle.mesh_config.proofs.Said.{map_said, named_same}
 use Rattle.mesh_config.proofs.StatedLemmas.Elements.{Each-along, Each-map}
@@ -39,11 +40,8 @@ sender_of s = s.sender
 abbrev costs_of : List StatedNeighbour → List SenderMetric
 costs_of ns = map (λ n. n.cost) ns
 
-pub neighbours_few : (ns : List StatedNeighbour) → length ns ≤ 1024 → length (map (λ n. n.cost) ns) ≤ 4096
-neighbours_few ns few = rw length-map (omega (arith, few))
-
 addrs_of : (ns : List StatedNeighbour) → map sender_of (costs_of ns) ≡ map (λ n. n.cost.sender) ns
-addrs_of ns = map-then sender_of (λ (n : StatedNeighbour). n.cost) ns
+addrs_of ns = map-map sender_of (λ (n : StatedNeighbour). n.cost) ns
 
 pub neighbours_apart : (ns : List StatedNeighbour) → are_distinct same_neighbour ns ≡ true → are_distinct addr_eq (map (λ s. s.sender) (map (λ n. n.cost) ns)) ≡ true
 neighbours_apart ns apart = rw (addrs_of ns) (are_distinct-map addr_eq (λ (n : StatedNeighbour). n.cost.sender) ns ∙ apart)
@@ -64,16 +62,12 @@ pub sound_senders : (xs : List Interface) (cs : List Costs) → map interface_co
 sound_senders xs cs same h =
     let F : CostFields → List Addr4 = λ f. map sender_of f.1.0 in
     let lists : map (λ (i : Interface). map sender_of i.senders) xs ≡ map (λ (c : Costs). map sender_of (costs_of c.neighbours)) cs =
-    sym (map-then F interface_costs xs) ∙ (ap (map F) same ∙ map-then F stated_costs cs) in
+    sym (map-map F interface_costs xs) ∙ (ap (map F) same ∙ map-map F stated_costs cs) in
     rw lists (senders_right cs h)
 
 -- ---- the checks of the one router
 pub clear_one : (d : StatedRouter) → first (duplicates (stated_identifiers d ∷ [])) ≡ None → IsClear d
 clear_one d none = clear_at (d ∷ []) 0 d (lit≤ tt) (ap first (sym (duplicates_same (d ∷ []))) ∙ none)
-
-pub unless_passed : (b : Bool) (key : List ℕ) → duplicate_unless b key ≡ None → b ≡ true
-unless_passed true key h = refl
-unless_passed false key h = absurd cc
 
 pub last_passed : (found : Option Fault) (b : Bool) (key : List ℕ) → first (found ∷ duplicate_unless b key ∷ []) ≡ None → b ≡ true
 last_passed None true key h = refl

@@ -3,6 +3,7 @@ use Rattle.std.proofs.Common.{◌≡◌, ◌≤◌, List, [], ◌∷◌, map, le
 use Rattle.std.specs.List.{list_all, list_any, flat_map}
 use Rattle.std.proofs.lemmas.List.{length-map}
 use Rattle.std.proofs.lemmas.List.Folds.{list_all-map, list_all-append, flat_map-map}
+use Rattle.std.proofs.lemmas.Simd.{map-map}
 use Rattle.mesh_atoms.specs.declared.addr.NetAddr.{NetAddr}
 use Rattle.mesh_atoms.specs.declared.settings.Attached4.{Attached4}
 use Rattle.mesh_atoms.specs.declared.settings.RadioArc.{RadioArc}
@@ -18,12 +19,12 @@ use Rattle.mesh_config.specs.Stated.Router.{InterfaceFields, stated_interface_fi
 use Rattle.mesh_config.specs.Senders.{addr_lists}
 use Rattle.mesh_config.proofs.ChecksLemmas.Links.{are_distinct-map, all_same}
 use Rattle.mesh_config.proofs.JoinFacts.{joins_range, joins_distinct}
-use Rattle.mesh_config.proofs.Builds.{stated_passed, map-then}
+use Rattle.mesh_config.proofs.Builds.{stated_passed}
 
 -- a function of the settings_parts fields, of all
 over_parts : {B : Type 0} (F : RouterParts → B) (times : Times) (ss : List RouterSettings) (rs : List StatedRouter) → map settings_parts ss ≡ map (stated_parts times) rs
     → map (λ s. F (settings_parts s)) ss ≡ map (λ r. F (stated_parts times r)) rs
-over_parts F times ss rs h = sym (map-then F settings_parts ss) ∙ (ap (map F) h ∙ map-then F (stated_parts times) rs)
+over_parts F times ss rs h = sym (map-map F settings_parts ss) ∙ (ap (map F) h ∙ map-map F (stated_parts times) rs)
 
 flat_parts : {B : Type 0} (F : RouterParts → List B) (times : Times) (ss : List RouterSettings) (rs : List StatedRouter) → map settings_parts ss ≡ map (stated_parts times) rs
     → flat_map (λ s. F (settings_parts s)) ss ≡ flat_map (λ r. F (stated_parts times r)) rs
@@ -44,9 +45,9 @@ all_flat p f (x ∷ xs) = list_all-append p (f x) (flat_map f xs) ∙ rw (all_fl
 -- the addresses of each interface
 pub lists_same : (times : Times) (ss : List RouterSettings) (rs : List StatedRouter) → map settings_parts ss ≡ map (stated_parts times) rs → addr_lists ss ≡ stated_lists rs
 lists_same times ss rs h =
-    map_congr (λ (s : RouterSettings). map (λ i. i.addrs) s.interfaces) (λ (s : RouterSettings). map (λ (f : InterfaceFields). f.addrs) (map interface_fields s.interfaces)) (λ s. sym (map-then (λ (f : InterfaceFields). f.addrs) interface_fields s.interfaces)) ss
+    map_congr (λ (s : RouterSettings). map (λ i. i.addrs) s.interfaces) (λ (s : RouterSettings). map (λ (f : InterfaceFields). f.addrs) (map interface_fields s.interfaces)) (λ s. sym (map-map (λ (f : InterfaceFields). f.addrs) interface_fields s.interfaces)) ss
     ∙ (over_parts (λ (p : RouterParts). map (λ (f : InterfaceFields). f.addrs) p.interfaces) times ss rs h
-    ∙ map_congr (λ (r : StatedRouter). map (λ (f : InterfaceFields). f.addrs) (map stated_interface_fields r.interfaces)) (λ (r : StatedRouter). map (λ i. i.addrs) r.interfaces) (λ r. map-then (λ (f : InterfaceFields). f.addrs) stated_interface_fields r.interfaces) rs)
+    ∙ map_congr (λ (r : StatedRouter). map (λ (f : InterfaceFields). f.addrs) (map stated_interface_fields r.interfaces)) (λ (r : StatedRouter). map (λ i. i.addrs) r.interfaces) (λ r. map-map (λ (f : InterfaceFields). f.addrs) stated_interface_fields r.interfaces) rs)
 
 pub all_addrs_same : (times : Times) (ss : List RouterSettings) (rs : List StatedRouter) → map settings_parts ss ≡ map (stated_parts times) rs → flat_map (λ (s : RouterSettings). flat_map (λ i. i.addrs) s.interfaces) ss ≡ all_addrs rs
 all_addrs_same times ss rs h =
@@ -60,7 +61,7 @@ counts_same times ss rs h =
     map_congr (λ (s : RouterSettings). length s.interfaces) (λ (s : RouterSettings). length (map interface_fields s.interfaces)) (λ s. rw length-map) ss
     ∙ (over_parts (λ (p : RouterParts). length p.interfaces) times ss rs h
     ∙ (map_congr (λ (r : StatedRouter). length (map stated_interface_fields r.interfaces)) (λ (r : StatedRouter). length (map (λ i. i.name) r.interfaces)) (λ r. rw (length-map, length-map)) rs
-    ∙ sym (map-then (λ (n : Identifiers). length n.interface_names) stated_identifiers rs)))
+    ∙ sym (map-map (λ (n : Identifiers). length n.interface_names) stated_identifiers rs)))
 
 pub sound_routers : (times : Times) (ss : List RouterSettings) (rs : List StatedRouter) → IsCount 1 64 (length rs) → first (stated_duplicates rs) ≡ None → map settings_parts ss ≡ map (stated_parts times) rs
     → AreRouters (map (λ r. r.name) ss) (flat_map (λ r. flat_map (λ i. i.addrs) r.interfaces) ss) (flat_map (λ r. map (λ a. a.net) r.attached) ss)

@@ -93,6 +93,3 @@ pub place_found : (rs : List StatedRouter) (called name : List ℕ) (at iface : 
 place_found rs called name at iface r here is there =
     ap (λ (o : Option ℕ). o >>= λ iface. both at iface) there
     ∙ (ap (λ (o : Option StatedRouter). o >>= iface_in name at) is ∙ ap (λ (o : Option ℕ). o >>= router_in rs name) here)
-
-pub no_router : (rs : List StatedRouter) (called name : List ℕ) → None ≡ position (λ r. name_eq called r.head.name) rs → None ≡ stated_place rs (called, name)
-no_router rs called name none = ap (λ (o : Option ℕ). o >>= router_in rs name) none

@@ -1,6 +1,6 @@
 -- Elements of arrays, one after the other.
-use Rattle.std.proofs.Common.{◌≡◌, ℕ, ◌+◌, ◌<◌, List, [], ◌∷◌, ◌++◌, map, length, get_or, drop, Option, Some, None, refl, sym, ap, ◌∙◌, append_assoc}
-use Rattle.std.proofs.lemmas.List.{drop_more}
+use Rattle.std.proofs.Common.{◌≡◌, ℕ, ◌+◌, ◌<◌, List, [], ◌∷◌, ◌++◌, map, length, get_or, drop, take, Option, Some, None, refl, sym, ap, ◌∙◌, append_assoc}
+use Rattle.std.proofs.lemmas.List.{drop_more, map_more}
 use Rattle.toml.specs.Data.{Data}
 use Rattle.toml.specs.View.{items_of, view}
 use Rattle.toml.specs.declared.value.Value.{Value}
@@ -10,6 +10,14 @@ use Rattle.mesh_atoms.specs.Literals.{◌>>=◌}
 pub items_list-of : (ds : List Data) → items_list (items_of ds) ≡ ds
 items_list-of [] = refl
 items_list-of (d ∷ ds) = ap (λ (xs : List Data). d ∷ xs) (items_list-of ds)
+
+-- an element, and those behind it
+pub drop_here : {A : Type 0} (xs : List A) (i : ℕ) (x : A) → x ≡ get_or xs i x → i < length xs → drop i xs ≡ x ∷ drop (i + 1) xs
+drop_here xs i x here within = drop_more xs i x within ∙ ap (λ (y : _). y ∷ drop (i + 1) xs) (sym here)
+
+-- what is made of the elements up to one, and of it
+pub map_take : {A B : Type 0} (f : A → B) (xs : List A) (i : ℕ) (x : A) → x ≡ get_or xs i x → i < length xs → map f (take (i + 1) xs) ≡ map f (take i xs) ++ f x ∷ []
+map_take f xs i x here within = map_more f xs i x within ∙ ap (λ (y : _). map f (take i xs) ++ f y ∷ []) (sym here)
 
 -- what was turned, in front of what is still to be
 abbrev pub with_front : {A : Type 0} → List A → Option (List A) → Option (List A)
@@ -24,5 +32,4 @@ front_more front x (Some xs) = ap (λ (l : List _). Some l) (sym (append_assoc f
 pub turned_more : {A : Type 0} (turn : Data → Option A) (vs : List Value) (i : ℕ) (v : Value) (x : A) (front : List A) → v ≡ get_or vs i v → i < length vs → Some x ≡ turn (view v)
     → with_front front (all_of turn (map view (drop i vs))) ≡ with_front (front ++ x ∷ []) (all_of turn (map view (drop (i + 1) vs)))
 turned_more turn vs i v x front here within turned =
-    let at : drop i vs ≡ v ∷ drop (i + 1) vs = drop_more vs i v within ∙ ap (λ (w : Value). w ∷ drop (i + 1) vs) (sym here) in
-    rw (at, ← turned) (front_more front x (all_of turn (map view (drop (i + 1) vs))))
+    rw (drop_here vs i v here within, ← turned) (front_more front x (all_of turn (map view (drop (i + 1) vs))))

@@ -1,14 +1,14 @@
 -- Tables of arrays, one after the other.
-use Rattle.std.proofs.Common.{◌≡◌, ℕ, List, [], ◌∷◌, ◌++◌, map, Option, Some, None, refl, ap, ◌∙◌, sym, ◌+◌, ◌<◌, length, get_or, drop, take}
+use Rattle.std.proofs.Common.{◌≡◌, ℕ, List, [], ◌∷◌, ◌++◌, map, Option, Some, None, refl, ◌+◌, ◌<◌, length, get_or, drop, take}
 use Rattle.toml.specs.Data.{Data, Members}
 use Rattle.std.specs.List.{flat_map}
-use Rattle.std.proofs.lemmas.List.{drop_more, take_more, map-append}
 use Rattle.toml.specs.View.{view}
 use Rattle.toml.specs.declared.value.Value.{Value}
 use Rattle.mesh_config.specs.declared.keys.fault.ConfigFault.{ConfigFault}
 use Rattle.mesh_config.specs.declared.keys.fault.ConfigFault.TheVariants as faults
 use Rattle.mesh_config.specs.Keys.Faults.{Fault, first, FailsAt}
 use Rattle.mesh_config.specs.Stated.Tables.{Each, table_of, element_visits, tables_visits}
+use Rattle.mesh_config.proofs.KeysLemmas.Elements.{drop_here, map_take}
 
 -- the first of two lists
 pub first_passes : (a b : List (Option Fault)) → first a ≡ None → first (a ++ b) ≡ first b
@@ -37,21 +37,17 @@ fails_first (faults.Refused n k) a b h = first_found a b _ h
 pub tables_fail : (entries : Members → List (Option Fault)) (key : List ℕ) (vs : List Value) (i : ℕ) (v : Value) (e : ConfigFault) → v ≡ get_or vs i v → i < length vs
     → FailsAt e (first (element_visits entries key (view v))) → FailsAt e (first (tables_visits entries key (map view (drop i vs))))
 tables_fail entries key vs i v e here within h =
-    let at : drop i vs ≡ v ∷ drop (i + 1) vs = drop_more vs i v within ∙ ap (λ (w : Value). w ∷ drop (i + 1) vs) (sym here) in
-    rw at (fails_first e (element_visits entries key (view v)) (flat_map (element_visits entries key) (map view (drop (i + 1) vs))) h)
+    rw (drop_here vs i v here within) (fails_first e (element_visits entries key (view v)) (flat_map (element_visits entries key) (map view (drop (i + 1) vs))) h)
 
 pub tables_pass : (entries : Members → List (Option Fault)) (key : List ℕ) (vs : List Value) (i : ℕ) (v : Value) → v ≡ get_or vs i v → i < length vs
     → first (element_visits entries key (view v)) ≡ None → first (tables_visits entries key (map view (drop i vs))) ≡ first (tables_visits entries key (map view (drop (i + 1) vs)))
 tables_pass entries key vs i v here within h =
-    let at : drop i vs ≡ v ∷ drop (i + 1) vs = drop_more vs i v within ∙ ap (λ (w : Value). w ∷ drop (i + 1) vs) (sym here) in
-    rw at (first_passes (element_visits entries key (view v)) (flat_map (element_visits entries key) (map view (drop (i + 1) vs))) h)
+    rw (drop_here vs i v here within) (first_passes (element_visits entries key (view v)) (flat_map (element_visits entries key) (map view (drop (i + 1) vs))) h)
 
 pub tables_said : {X : Type 0} (Is : Members → X → Type 0) (vs : List Value) (i : ℕ) (v : Value) (xs : List X) (x : X) → v ≡ get_or vs i v → i < length vs
     → Each Is (map view (take i vs)) xs → Is (table_of (view v)) x → Each Is (map view (take (i + 1) vs)) (xs ++ x ∷ [])
 tables_said Is vs i v xs x here within all one =
-    let at : map view (take (i + 1) vs) ≡ map view (take i vs) ++ view v ∷ [] =
-    ap (map view) (take_more vs i v within ∙ ap (λ (w : Value). take i vs ++ w ∷ []) (sym here)) ∙ map-append view (take i vs) (v ∷ []) in
-    rw at (Each-more Is (map view (take i vs)) (view v) xs x all one)
+    rw (map_take view vs i v here within) (Each-more Is (map view (take i vs)) (view v) xs x all one)
 
 -- from one kind of values to another that agrees with it
 pub Each-along : {X Y C : Type 0} (Is : Members → X → Type 0) (Says : Members → Y → Type 0) (f : X → C) (g : Y → C) → ((t : Members) (x : X) (y : Y) → g y ≡ f x → Is t x → Says t y)

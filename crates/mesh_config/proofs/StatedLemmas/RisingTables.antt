@@ -2,7 +2,6 @@
 use Rattle.std.proofs.Common.{◌≡◌, ℕ, ◌+◌, ◌<◌, ◌≤◌, List, [], ◌∷◌, ◌++◌, map, true, false, Bool, nat_lt, if◌then◌else◌, Option, Some, None, Ok, Err, refl, ap, ◌∙◌, sym, length, get_or, drop, arith}
 use Rattle.std.specs.List.{list_all}
 use Rattle.std.proofs.lemmas.Bool.{and_from, lt-ltb, ltb-false}
-use Rattle.std.proofs.lemmas.List.{drop_more}
 use Rattle.toml.specs.Data.{Data, Members, string, integer, float, boolean, datetime, array, table}
 use Rattle.toml.specs.View.{view}
 use Rattle.toml.specs.declared.value.Value.{Value}
@@ -11,6 +10,7 @@ use Rattle.mesh_config.specs.declared.keys.fault.ConfigFault.{ConfigFault}
 use Rattle.mesh_config.specs.Keys.Faults.{Fault, ReadValue, first, visit, bad_value, FailsAt}
 use Rattle.mesh_config.specs.Keys.Values.{ticks}
 use Rattle.mesh_config.specs.Stated.Tables.{Each, table_of, element_visits, no_less, one_above, rising_visits}
+use Rattle.mesh_config.proofs.KeysLemmas.Elements.{drop_here}
 use Rattle.mesh_config.proofs.StatedLemmas.Elements.{first_passes, fails_first}
 
 -- one table after the other
@@ -18,15 +18,13 @@ module _ (visits : ℕ → Members → List (Option Fault)) (number : Members �
   pub rising_fail : (vs : List Value) (i least : ℕ) (v : Value) (e : ConfigFault) → v ≡ get_or vs i v → i < length vs
       → FailsAt e (first (element_visits (visits least) key (view v))) → FailsAt e (first (rising_visits visits number key least (map view (drop i vs))))
   rising_fail vs i least v e here within h =
-      let at : drop i vs ≡ v ∷ drop (i + 1) vs = drop_more vs i v within ∙ ap (λ (w : Value). w ∷ drop (i + 1) vs) (sym here) in
-      rw at (fails_first e (element_visits (visits least) key (view v)) (rising_visits visits number key (one_above (number (table_of (view v)))) (map view (drop (i + 1) vs))) h)
+      rw (drop_here vs i v here within) (fails_first e (element_visits (visits least) key (view v)) (rising_visits visits number key (one_above (number (table_of (view v)))) (map view (drop (i + 1) vs))) h)
 
   pub rising_pass : (vs : List Value) (i least n : ℕ) (v : Value) → v ≡ get_or vs i v → i < length vs
       → first (element_visits (visits least) key (view v)) ≡ None → number (table_of (view v)) ≡ Ok n
       → first (rising_visits visits number key least (map view (drop i vs))) ≡ first (rising_visits visits number key (n + 1) (map view (drop (i + 1) vs)))
   rising_pass vs i least n v here within h numbered =
-      let at : drop i vs ≡ v ∷ drop (i + 1) vs = drop_more vs i v within ∙ ap (λ (w : Value). w ∷ drop (i + 1) vs) (sym here) in
-      rw at (first_passes (element_visits (visits least) key (view v)) (rising_visits visits number key (one_above (number (table_of (view v)))) (map view (drop (i + 1) vs))) h
+      rw (drop_here vs i v here within) (first_passes (element_visits (visits least) key (view v)) (rising_visits visits number key (one_above (number (table_of (view v)))) (map view (drop (i + 1) vs))) h
       ∙ ap (λ (r : ReadValue ℕ). first (rising_visits visits number key (one_above r) (map view (drop (i + 1) vs)))) numbered)
 
 -- no fault in two lists

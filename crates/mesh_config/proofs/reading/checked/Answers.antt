@@ -20,12 +20,6 @@ use Rattle.mesh_config.proofs.reading.checked.Goals as goal
 pub make_routers-requires-clause-clear : goal.make_routers-requires-clause-clear
 make_routers-requires-clause-clear c = ap first (sym (duplicates_same c.as_slice-all.result.now)) ∙ c.in_ok-no_duplicates.ensures.0
 
-pub make_routers-requires-clause-few : goal.make_routers-requires-clause-few
-make_routers-requires-clause-few c =
-    let met : length c.as_slice.result.now ≡ length c.args.stated.now.arcs =
-    ap (λ (xs : List RadioArc). length xs) c.as_slice.ensures ∙ (c.in_ok-arcs.ensures.size ∙ ap (λ (xs : List StatedArc). length xs) c.as_slice-stated_arcs.ensures) in
-    rw met c.args.stated.now.few_arcs
-
 pub make_routers-requires-clause-apart : goal.make_routers-requires-clause-apart
 make_routers-requires-clause-apart c =
     let all = c.as_slice-all.result.now in let arcs = c.in_ok-arcs.arcs in

@@ -2,7 +2,7 @@ use Rattle.std.proofs.Common.{◌∙◌, ℕ, List, length, position, ap, refl, 
 use Rattle.std.proofs.lemmas.Option.{slice_get_read}
 use Rattle.mesh_atoms.specs.Settings.{name_eq}
 use Rattle.mesh_config.specs.declared.stated.stated.StatedInterface.{StatedInterface}
-use Rattle.mesh_config.proofs.ChecksLemmas.Links.{place_found, no_router}
+use Rattle.mesh_config.proofs.ChecksLemmas.Links.{place_found}
 use Rattle.mesh_config.proofs.checks.joins.stated_place.Goals as goal
 
 pub returns : goal.returns
@@ -13,9 +13,3 @@ returns c =
     (sym (slice_get_read c.args.routers.now (length c.args.routers.now) c.in_ok-at.at c.in_ok-router.router.now refl found.3.0 found.1))
     (c.in_ok-iface.ensures ∙ (ap (λ (n : List ℕ). position (λ i. name_eq n i.name) c.as_slice-2.result.now) c.as_slice-3.ensures
     ∙ ap (λ (faces : List StatedInterface). position (λ i. name_eq place.iface i.name) faces) c.as_slice-2.ensures))
-
-pub returns-in_err-at : goal.returns-in_err-at
-returns-in_err-at c =
-    let place = c.args.place.now in
-    c.from_residual.ensures ∙ no_router c.args.routers.now place.router place.iface
-    (c.in_err-at.ensures ∙ ap (λ (n : List ℕ). position (λ r. name_eq n r.head.name) c.args.routers.now) c.as_slice.ensures)
