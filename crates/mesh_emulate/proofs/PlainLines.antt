@@ -1,12 +1,13 @@
 -- Texts of lines that are neither headings nor routes, nor `settled yes`, and the parts of such lines.
-use Rattle.std.proofs.Common.{◌≡◌, ℕ, true, List, [], ◌∷◌, ◌++◌, sym, ap, ◌∙◌, arith}
+use Rattle.std.proofs.Common.{◌≡◌, ℕ, true, false, ltb, List, [], ◌∷◌, ◌++◌, length, get_or, nat_eq, codes, sym, ap, ◌∙◌, arith}
 use Rattle.std.specs.List.{AllByRecursion as Each, flat_map}
 use Rattle.std.proofs.lemmas.Grind.{flat_map-append}
 use Rattle.std.proofs.lemmas.List.Elements.{All-append}
 use Rattle.mesh_atoms.specs.declared.settings.Scenario.{Scenario}
 use Rattle.mesh_texts.specs.machine.Names.{router_name}
-use Rattle.mesh_texts.specs.Printed.{IsPlain, ArePlain}
+use Rattle.mesh_texts.specs.Printed.{IsLine, IsPlain, ArePlain}
 use Rattle.mesh_texts.proofs.Cuts.{lacks, lacks_both}
+use Rattle.mesh_texts.proofs.LineTexts.{begins_otherwise}
 use Rattle.mesh_texts.proofs.Marked.{router_name_lacks}
 
 -- Parts without a line feed
@@ -22,6 +23,21 @@ behind first (part ∷ parts) = behind (first ++ part) parts
 pub behind_lacks : (first : List ℕ) (parts : List (List ℕ)) → lacks 10 first ≡ true → Each (λ p. lacks 10 p ≡ true) parts → lacks 10 (behind first parts) ≡ true
 behind_lacks first [] is all = is
 behind_lacks first (part ∷ parts) is all = behind_lacks (first ++ part) parts (lacks_both 10 first part is all.0) all.1
+
+-- Lines
+
+-- at that place the line has another octet than what is in front
+abbrev differs : List ℕ → List ℕ → ℕ → Type 0
+differs front l k = (ltb k (length front) ≡ true) × (nat_eq (get_or l k 0) (get_or front k 0) ≡ false)
+
+-- a line is plain that differs from a heading, a route and `settled yes`
+pub plain_line : (l : List ℕ) (i j k : ℕ) → IsLine l → differs (codes "router ") l i → differs (codes " route ") l j → differs (codes "settled yes\n") l k → IsPlain l
+plain_line l i j k is heading route settled = record {
+  line = is;
+  no_heading = begins_otherwise (codes "router ") l i heading.0 heading.1;
+  no_route = begins_otherwise (codes " route ") l j route.0 route.1;
+  no_settled = begins_otherwise (codes "settled yes\n") l k settled.0 settled.1;
+}
 
 -- Texts
 

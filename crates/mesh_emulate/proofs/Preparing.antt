@@ -9,7 +9,7 @@ use Rattle.mesh_atoms.specs.Settings.{name_eq}
 use Rattle.mesh_atoms.proofs.Options.{same_some}
 use Rattle.mesh_emulate.specs.declared.wanted.Departure.{Departure}
 use Rattle.mesh_emulate.specs.Emulation.{States, IsRefused, By_name}
-use Rattle.mesh_emulate.specs.Wants.{WantedPacket, Wants, HasName, IsNamed, Agree, Departs, IsUnknownName, NamesUnknown, NamesKnown, start_of, FirstUnknown, Of_send, Of_probe}
+use Rattle.mesh_emulate.specs.Wants.{WantedPacket, Wants, HasName, IsNamed, Agree, Departs, IsUnknownName, NamesUnknown, NamesKnown, start_of, FirstUnknown, Of_probe}
 use Rattle.mesh_emulate.proofs.Names.{unknown_as}
 use Rattle.mesh_config.specs.Keys.Faults.{Fault, fault, FailsAt, IfSettingRefused}
 use Rattle.mesh_config.specs.declared.keys.fault.ConfigFault.{ConfigFault}
@@ -43,15 +43,6 @@ is_unknown s name option (faults.Refused number key) none is = record {
   same : fault number key ≡ fault 45 option
   same = cc
 is_unknown s name option (faults.Memory a) none is = tt
-
--- and it is wanted
-pub names_unknown : (s : Scenario) (wanted : Option (List ℕ)) (name option : List ℕ) (e : ConfigFault) → wanted ≡ Some name → IfSettingRefused (IsUnknownName s name option) e →
-    IfSettingRefused (NamesUnknown s wanted option) e
-names_unknown s wanted name option e is unknown =
-    refused_by (IsUnknownName s name option) (NamesUnknown s wanted option) (λ number key u. (name, is, u)) e unknown
-
-pub send_refused : (s : Scenario) (wants : Wants) (e : ConfigFault) → IfSettingRefused (NamesUnknown s (start_of wants.send) (codes "send")) e → IfSettingRefused (FirstUnknown s wants) e
-send_refused s wants e is = refused_by (NamesUnknown s (start_of wants.send) (codes "send")) (FirstUnknown s wants) (λ number key u. Of_send u) e is
 
 pub probe_refused : (s : Scenario) (wants : Wants) (e : ConfigFault) → NamesKnown s (start_of wants.send) → IfSettingRefused (NamesUnknown s wants.probe (codes "probe")) e → IfSettingRefused (FirstUnknown s wants) e
 probe_refused s wants e known is = refused_by (NamesUnknown s wants.probe (codes "probe")) (FirstUnknown s wants) (λ number key u. Of_probe known u) e is

@@ -1,14 +1,14 @@
 -- The lines of a probe are neither headings nor routes, nor `settled yes`.
 use Rattle.std.proofs.Common.{◌≡◌, ℕ, true, List, [], ◌∷◌, ◌++◌, length, map, Option, Some, None, not, refl, sym, ap, ◌∙◌, subst, append_assoc, codes, decimal}
 use Rattle.std.specs.Prelude.{filter}
-use Rattle.std.specs.List.{AllByRecursion as Each, flat_map}
+use Rattle.std.specs.List.{flat_map}
 use Rattle.std.proofs.lemmas.List.{append-nil}
 use Rattle.std.proofs.lemmas.List.Elements.{All-from_recursion}
 use Rattle.std.proofs.lemmas.List.Folds.{flat_map-map}
 use Rattle.mesh_atoms.specs.declared.settings.Scenario.{Scenario}
 use Rattle.mesh_atoms.specs.State.{State}
 use Rattle.mesh_emulate.specs.Emulation.{IsProbed, TellsWanted}
-use Rattle.mesh_emulate.proofs.PlainLines.{router_lacks, behind, behind_lacks}
+use Rattle.mesh_emulate.proofs.PlainLines.{router_lacks, behind, behind_lacks, plain_line}
 use Rattle.mesh_texts.specs.machine.Names.{router_name}
 use Rattle.mesh_probe.specs.declared.coverage.Coverage.{Coverage}
 use Rattle.mesh_probe.specs.declared.coverage.Probe.{Probe}
@@ -16,7 +16,8 @@ use Rattle.mesh_probe.specs.declared.coverage.Probe.TheVariants.{NoNumber, Done}
 use Rattle.mesh_probe.specs.Text.{is_reached, probe_start, probe_counts, probe_end, unreached_line}
 use Rattle.mesh_texts.specs.Printed.{IsLine, IsPlain, ArePlain}
 use Rattle.mesh_texts.proofs.Cuts.{lacks}
-use Rattle.mesh_texts.proofs.LineTexts.{line_end, line_after, begins_otherwise, number, nothing_plain}
+use Rattle.mesh_texts.proofs.LineLists.{each_map}
+use Rattle.mesh_texts.proofs.LineTexts.{line_end, line_after, number, nothing_plain}
 
 start_lacks : (s : Scenario) (origin : ℕ) → lacks 10 (probe_start s origin) ≡ true
 start_lacks s origin = behind_lacks (codes "probe ") (router_name s.routers origin ∷ []) refl (router_lacks s origin, tt)
@@ -24,13 +25,7 @@ start_lacks s origin = behind_lacks (codes "probe ") (router_name s.routers orig
 -- a line that begins so
 first_plain : (s : Scenario) (origin : ℕ) (rest : List ℕ) → IsLine rest → IsPlain (probe_start s origin ++ rest)
 first_plain s origin rest is =
-    let line = probe_start s origin ++ rest in
-    record {
-      line = line_after (probe_start s origin) rest (start_lacks s origin) is;
-      no_heading = begins_otherwise (codes "router ") line 0 refl refl;
-      no_route = begins_otherwise (codes " route ") line 0 refl refl;
-      no_settled = begins_otherwise (codes "settled yes\n") line 0 refl refl;
-    }
+    plain_line (probe_start s origin ++ rest) 0 0 0 (line_after (probe_start s origin) rest (start_lacks s origin) is) (refl, refl) (refl, refl) (refl, refl)
 
 counts_is_line : (peers : List ℕ) (c : Coverage) → IsLine (probe_counts peers c)
 counts_is_line peers c =
@@ -41,16 +36,11 @@ counts_is_line peers c =
     line_end
 
 unreached_plain : (s : Scenario) (z : ℕ) → IsPlain (unreached_line s z)
-unreached_plain s z = record {
-  line = line_after (behind (codes "unreached ") (router_name s.routers z ∷ [])) (codes "\n") (behind_lacks (codes "unreached ") (router_name s.routers z ∷ []) refl (router_lacks s z, tt)) line_end;
-  no_heading = begins_otherwise (codes "router ") (unreached_line s z) 0 refl refl;
-  no_route = begins_otherwise (codes " route ") (unreached_line s z) 0 refl refl;
-  no_settled = begins_otherwise (codes "settled yes\n") (unreached_line s z) 0 refl refl;
-}
-
-each_unreached : (s : Scenario) (zs : List ℕ) → Each IsPlain (map (unreached_line s) zs)
-each_unreached s [] = tt
-each_unreached s (z ∷ zs) = (unreached_plain s z, each_unreached s zs)
+unreached_plain s z =
+    let parts = router_name s.routers z ∷ [] in
+    plain_line (unreached_line s z) 0 0 0
+    (line_after (behind (codes "unreached ") parts) (codes "\n") (behind_lacks (codes "unreached ") parts refl (router_lacks s z, tt)) line_end)
+    (refl, refl) (refl, refl) (refl, refl)
 
 text_is_plain : (s : Scenario) (origin : ℕ) (peers : List ℕ) (probe : Probe) → ArePlain (probe_start s origin ++ probe_end s peers probe)
 text_is_plain s origin peers NoNumber =
@@ -66,7 +56,7 @@ text_is_plain s origin peers (Done c) =
     let lines = first ∷ map (unreached_line s) rest in
     record {
       lines = lines;
-      each = All-from_recursion IsPlain lines (first_plain s origin (probe_counts peers c) (counts_is_line peers c), each_unreached s rest);
+      each = All-from_recursion IsPlain lines (first_plain s origin (probe_counts peers c) (counts_is_line peers c), each_map IsPlain (unreached_line s) (unreached_plain s) rest);
       whole = sym (append_assoc (probe_start s origin) (probe_counts peers c) (flat_map (unreached_line s) rest))
           ∙ ap (λ (l : List ℕ). first ++ l) (sym (flat_map-map (λ (l : List ℕ). l) (unreached_line s) rest));
     }

@@ -1,7 +1,6 @@
 -- The lines of a trip are neither headings nor routes, nor `settled yes`.
 use Rattle.std.proofs.Common.{◌≡◌, ℕ, ◌/◌, ◌%◌, true, List, [], ◌∷◌, ◌++◌, length, map, Option, Some, None, refl, sym, ap, subst, arith, codes, decimal}
 use Rattle.std.specs.Prelude.{slice_get}
-use Rattle.std.specs.List.{AllByRecursion as Each}
 use Rattle.std.proofs.lemmas.List.Elements.{All-from_recursion}
 use Rattle.std.proofs.lemmas.List.Folds.{flat_map-map}
 use Rattle.mesh_atoms.specs.declared.addr.Addr4.{Addr4}
@@ -20,9 +19,10 @@ use Rattle.mesh_emulate.specs.Wants.{WantedPacket}
 use Rattle.mesh_texts.specs.machine.Names.{router_name}
 use Rattle.mesh_texts.specs.Printed.{IsLine, IsPlain, ArePlain}
 use Rattle.mesh_texts.proofs.Cuts.{lacks}
-use Rattle.mesh_texts.proofs.LineTexts.{line_end, line_after, begins_otherwise, number, nothing_plain}
+use Rattle.mesh_texts.proofs.LineLists.{each_map}
+use Rattle.mesh_texts.proofs.LineTexts.{line_end, line_after, number, nothing_plain}
 use Rattle.mesh_texts.proofs.Marked.{name_lacks}
-use Rattle.mesh_emulate.proofs.PlainLines.{router_lacks, behind, behind_lacks}
+use Rattle.mesh_emulate.proofs.PlainLines.{router_lacks, behind, behind_lacks, plain_line}
 
 -- Parts without a line feed
 
@@ -63,13 +63,8 @@ end_is_line s trip =
 
 trip_plain : (s : Scenario) (from : ℕ) (a : Addr4) (trip : Trip) → IsPlain (trip_start s from a ++ trip_end s trip)
 trip_plain s from a trip =
-    let line = trip_start s from a ++ trip_end s trip in
-    record {
-      line = line_after (trip_start s from a) (trip_end s trip) (start_lacks s from a) (end_is_line s trip);
-      no_heading = begins_otherwise (codes "router ") line 0 refl refl;
-      no_route = begins_otherwise (codes " route ") line 0 refl refl;
-      no_settled = begins_otherwise (codes "settled yes\n") line 2 refl refl;
-    }
+    plain_line (trip_start s from a ++ trip_end s trip) 0 0 2 (line_after (trip_start s from a) (trip_end s trip) (start_lacks s from a) (end_is_line s trip))
+    (refl, refl) (refl, refl) (refl, refl)
 
 hop_lacks : (s : Scenario) (hop : Hop) → lacks 10 (hop_start s hop) ≡ true
 hop_lacks s hop =
@@ -85,17 +80,8 @@ hop_is_line s hop =
 
 hop_plain : (s : Scenario) (hop : Hop) → IsPlain (hop_line s hop)
 hop_plain s hop =
-    let line = hop_start s hop ++ hop_end s hop in
-    record {
-      line = line_after (hop_start s hop) (hop_end s hop) (hop_lacks s hop) (hop_is_line s hop);
-      no_heading = begins_otherwise (codes "router ") line 0 refl refl;
-      no_route = begins_otherwise (codes " route ") line 1 refl refl;
-      no_settled = begins_otherwise (codes "settled yes\n") line 0 refl refl;
-    }
-
-each_hop : (s : Scenario) (hops : List Hop) → Each IsPlain (map (hop_line s) hops)
-each_hop s [] = tt
-each_hop s (hop ∷ hops) = (hop_plain s hop, each_hop s hops)
+    plain_line (hop_start s hop ++ hop_end s hop) 0 1 0 (line_after (hop_start s hop) (hop_end s hop) (hop_lacks s hop) (hop_is_line s hop))
+    (refl, refl) (refl, refl) (refl, refl)
 
 text_is_plain : (s : Scenario) (from : ℕ) (a : Addr4) (trip : Trip) → ArePlain (text_of s from a trip)
 text_is_plain s from a trip =
@@ -103,7 +89,7 @@ text_is_plain s from a trip =
     let lines = first ∷ map (hop_line s) trip.hops in
     record {
       lines = lines;
-      each = All-from_recursion IsPlain lines (trip_plain s from a trip, each_hop s trip.hops);
+      each = All-from_recursion IsPlain lines (trip_plain s from a trip, each_map IsPlain (hop_line s) (hop_plain s) trip.hops);
       whole = ap (λ (l : List ℕ). first ++ l) (sym (flat_map-map (λ (l : List ℕ). l) (hop_line s) trip.hops));
     }
 

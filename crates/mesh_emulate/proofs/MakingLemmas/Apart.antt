@@ -14,7 +14,7 @@ use Rattle.mesh_emulate.proofs.MakingLemmas.Growing.{flat_more}
 use Rattle.mesh_emulate.proofs.MakingLemmas.Rows.{two_or_more}
 use Rattle.mesh_emulate.specs.declared.making.kind.Kind.{Kind}
 use Rattle.mesh_emulate.specs.declared.making.kind.Kind.TheVariants as kind
-use Rattle.mesh_texts.proofs.LineLists.{each_weaker}
+use Rattle.mesh_texts.proofs.LineLists.{each_both, each_weaker}
 
 -- pairs of n routers, at most so many, none of which stands twice
 pub record AreApart (n most : ℕ) (pairs : List RouterPair) : Type 0 where
@@ -24,12 +24,8 @@ pub record AreApart (n most : ℕ) (pairs : List RouterPair) : Type 0 where
 
 -- One pair more
 
-each_more : {A : Type 0} (P : A → Type 0) (xs : List A) (x : A) → Each P xs → P x → Each P (xs ++ x ∷ [])
-each_more P [] x all one = (one, tt)
-each_more P (y ∷ xs) x all one = (all.0, each_more P xs x all.1 one)
-
 each_if : (P : RouterPair → Type 0) (pairs : List RouterPair) (p : RouterPair) (t : Bool) → Each P pairs → P p → Each P (pairs ++ pair_if t p)
-each_if P pairs p true all one = each_more P pairs p all one
+each_if P pairs p true all one = each_both P pairs (p ∷ []) all (one, tt)
 each_if P pairs p false all one = subst (Each P) (sym (append-nil pairs)) all
 
 -- none of the pairs is this one
@@ -47,7 +43,7 @@ distinct_more (q ∷ pairs) p d lack =
 apart_more : (n most : ℕ) (pairs : List RouterPair) (p : RouterPair) → AreApart n most pairs → p.low < p.high → p.high < n → Lack pairs p →
     AreApart n (most + 1) (pairs ++ p ∷ [])
 apart_more n most pairs p a order below lack = record {
-  within = each_more (λ (q : RouterPair). (q.low < q.high) × (q.high < n)) pairs p a.within (order, below);
+  within = each_both (λ (q : RouterPair). (q.low < q.high) × (q.high < n)) pairs (p ∷ []) a.within ((order, below), tt);
   distinct = distinct_more pairs p a.distinct lack;
   few = omega (arith, length-append pairs (p ∷ []), a.few);
 }
@@ -120,8 +116,8 @@ ring_front n (suc m) within =
     let here : m < m + 1 = omega arith in
     let grown : IsRingFront n (m + 1) (pairs ++ p ∷ []) = record {
       apart = apart_more n m pairs p front.apart here (omega (arith, within)) (lower_lack pairs p front.lower);
-      lower = each_more Below pairs p (each_weaker (λ (x : RouterPair). x.low < m) Below (λ x less. omega (arith, less)) pairs front.lower) here;
-      next = each_more Next pairs p front.next refl;
+      lower = each_both Below pairs (p ∷ []) (each_weaker (λ (x : RouterPair). x.low < m) Below (λ x less. omega (arith, less)) pairs front.lower) (here, tt);
+      next = each_both Next pairs (p ∷ []) front.next (refl, tt);
     } in
     let all : IsRingFront n (m + 1) (map next_pair (range_with_len 0 (m + 1))) =
     subst (IsRingFront n (m + 1)) (sym (map-range_with_len_more next_pair 0 m m (omega arith))) grown in
@@ -162,12 +158,13 @@ tree_front seed n (suc m) within =
     let more : m + 1 ≡ suc m = omega arith in
     let p = f m in
     let Below : RouterPair → Type 0 = λ x. x.high < (m + 1) + 1 in
+    let here : m + 1 < (m + 1) + 1 = omega arith in
     let order : p.low < p.high = mod_below (word seed m) (m + 1) (omega arith) in
     let lack : Lack pairs p = each_weaker (λ (q : RouterPair). q.high < m + 1) (λ (q : RouterPair). same_pair q p ≡ false)
     (λ q less. and_right (nat_eq q.low p.low) (nat_eq q.high p.high) (ne_eqb q.high p.high (λ e. omega (arith, less, e)))) pairs front.lower in
     let grown : IsTreeFront n (m + 1) (pairs ++ p ∷ []) = record {
       apart = apart_more n m pairs p front.apart order (omega (arith, within)) lack;
-      lower = each_more Below pairs p (each_weaker (λ (x : RouterPair). x.high < m + 1) Below (λ x less. omega (arith, less)) pairs front.lower) (omega arith);
+      lower = each_both Below pairs (p ∷ []) (each_weaker (λ (x : RouterPair). x.high < m + 1) Below (λ x less. omega (arith, less)) pairs front.lower) (here, tt);
     } in
     let all : IsTreeFront n (m + 1) (map f (range_with_len 0 (m + 1))) =
     subst (IsTreeFront n (m + 1)) (sym (map-range_with_len_more f 0 m m (omega arith))) grown in
@@ -183,11 +180,13 @@ same_pair-sym p q = rw (eqb-sym p.low q.low, eqb-sym p.high q.high) refl
       | inr other ↦ ne_eqb a b (λ e. eqb-false b a other (sym e)) ∙ sym other
     ]
 
+pub none_of : (p : RouterPair) (pairs : List RouterPair) → list_any (same_pair p) pairs ≡ false → Each (λ q. same_pair p q ≡ false) pairs
+none_of p [] none = tt
+none_of p (q ∷ pairs) none = let parts = or_parts (same_pair p q) (list_any (same_pair p) pairs) none in (parts.0, none_of p pairs parts.1)
+
 none_lack : (p : RouterPair) (pairs : List RouterPair) → list_any (same_pair p) pairs ≡ false → Lack pairs p
-none_lack p [] none = tt
-none_lack p (q ∷ pairs) none =
-    let parts = or_parts (same_pair p q) (list_any (same_pair p) pairs) none in
-    (same_pair-sym q p ∙ parts.0, none_lack p pairs parts.1)
+none_lack p pairs none =
+    each_weaker (λ (q : RouterPair). same_pair p q ≡ false) (λ (q : RouterPair). same_pair q p ≡ false) (λ q is. same_pair-sym q p ∙ is) pairs (none_of p pairs none)
 
 joined_apart : (n most : ℕ) (pairs : List RouterPair) (a b : ℕ) → a < n → b < n → AreApart n most pairs →
     AreApart n (most + 1) (joined_with pairs a b)

@@ -2,7 +2,7 @@
 use Rattle.std.proofs.Common.{◌≡◌, ℕ, ◌+◌, ◌*◌, ◌<◌, ◌≤◌, true, false, not, List, [], ◌∷◌, map, length, inl, inr, refl, sym, ap, ◌∙◌, arith}
 use Rattle.std.specs.Prelude.{nat_eq, slice_index}
 use Rattle.std.specs.List.{AllByRecursion as Each, list_all, list_any}
-use Rattle.std.proofs.lemmas.Bool.{and_parts, not-true, cases_Bool, or_parts, eq-eqb, eqb-true, ne_eqb, true≢false}
+use Rattle.std.proofs.lemmas.Bool.{and_parts, not-true, cases_Bool, eq-eqb, eqb-true, ne_eqb, true≢false}
 use Rattle.std.proofs.lemmas.List.{length-map}
 use Rattle.mesh_atoms.specs.declared.settings.RadioArc.{RadioArc}
 use Rattle.mesh_atoms.specs.Settings.{Ends, AreArcs, are_distinct, ends_eq, joins_routers}
@@ -10,8 +10,9 @@ use Rattle.mesh_config.specs.Checks.Compared.{ends_of}
 use Rattle.mesh_emulate.specs.declared.making.pairs.RouterPair.{RouterPair}
 use Rattle.mesh_emulate.specs.Making.Pairs.{same_pair}
 use Rattle.mesh_emulate.specs.Making.Scenario.{IsMadeArc, AreMadeArcs}
-use Rattle.mesh_emulate.proofs.MakingLemmas.Apart.{AreApart}
+use Rattle.mesh_emulate.proofs.MakingLemmas.Apart.{AreApart, none_of}
 use Rattle.mesh_emulate.specs.declared.making.kind.Kind.{Kind}
+use Rattle.mesh_texts.proofs.LineLists.{each_weaker}
 
 -- from a router to another
 abbrev way : ℕ → ℕ → Ends
@@ -36,10 +37,6 @@ ways_of k n seed number (p ∷ pairs) (a ∷ b ∷ arcs) all =
 
 abbrev InOrder : RouterPair → Type 0
 InOrder p = p.low < p.high
-
-none_of : (p : RouterPair) (pairs : List RouterPair) → list_any (same_pair p) pairs ≡ false → Each (λ q. same_pair p q ≡ false) pairs
-none_of p [] none = tt
-none_of p (q ∷ pairs) none = let parts = or_parts (same_pair p q) (list_any (same_pair p) pairs) none in (parts.0, none_of p pairs parts.1)
 
 ways_differ : (a b c d : ℕ) → (a ≡ c → b ≡ d → ⊥) → ends_eq (way a b) (way c d) ≡ false
 ways_differ a b c d differ = elim (cases_Bool (nat_eq a c)) [
@@ -89,10 +86,6 @@ length-ways : (pairs : List RouterPair) → length (ways pairs) ≡ 2 * length p
 length-ways [] = refl
 length-ways (p ∷ pairs) = omega (arith, length-ways pairs)
 
-orders_of : (n : ℕ) (pairs : List RouterPair) → Each (λ p. (p.low < p.high) × (p.high < n)) pairs → Each InOrder pairs
-orders_of n [] all = tt
-orders_of n (p ∷ pairs) all = (all.0.0, orders_of n pairs all.1)
-
 module _ (k : Kind) (n seed : ℕ) (pairs : List RouterPair) (arcs : List RadioArc) (few : n ≤ 64) (apart : AreApart n (2 * n) pairs) (made : AreMadeArcs k n seed 0 pairs arcs) where
   pub arcs_few : length arcs ≤ 4096
   arcs_few =
@@ -101,7 +94,7 @@ module _ (k : Kind) (n seed : ℕ) (pairs : List RouterPair) (arcs : List RadioA
       omega (arith, size, ends, length-ways pairs, apart.few, few)
 
   pub arcs_distinct : are_distinct ends_eq (map ends_of arcs) ≡ true
-  arcs_distinct = ap (are_distinct ends_eq) (ways_of k n seed 0 pairs arcs made) ∙ distinct_ways pairs (orders_of n pairs apart.within) apart.distinct
+  arcs_distinct = ap (are_distinct ends_eq) (ways_of k n seed 0 pairs arcs made) ∙ distinct_ways pairs (each_weaker (λ (p : RouterPair). (p.low < p.high) × (p.high < n)) InOrder (λ p is. is.0) pairs apart.within) apart.distinct
 
   pub arcs_sound : (counts : List ℕ) → ((x : ℕ) → x < n → slice_index counts x ≡ 1) → AreArcs counts (map ends_of arcs)
   arcs_sound counts one = record {

@@ -1,14 +1,10 @@
 -- The greatest metric of routes.
 use Rattle.std.proofs.Common.{◌≡◌, ℕ, ◌+◌, ◌<◌, ◌≤◌, List, [], ◌∷◌, ◌++◌, map, length, take, get_or, max, Some, refl, sym, ap, ◌∙◌, arith, inl, inr}
 use Rattle.std.proofs.lemmas.Bool.{cases_lt}
-use Rattle.std.proofs.lemmas.Grind.{flat_map-append}
-use Rattle.std.proofs.lemmas.List.{append-nil, take_more, map-append}
+use Rattle.std.proofs.lemmas.List.{flat_map_more, map_more}
 use Rattle.std.proofs.lemmas.List.Elements.{All-push, All-weaker, Contains-append_left, Contains-append_right}
 use Rattle.mesh_atoms.specs.State.{State}
 use Rattle.mesh_emulate.specs.Making.Routes.{metrics_of, IsGreatest}
-
-pub greatest_first : (metric : ℕ) → IsGreatest (metric ∷ []) (Some metric)
-greatest_first metric = ((0, omega arith, refl), All-push (λ m. m ≤ metric) [] metric (λ k d lt. absurd (omega (arith, lt))) (omega arith))
 
 greatest_same : (metrics : List ℕ) (greatest metric : ℕ) → IsGreatest metrics (Some greatest) → metric ≤ greatest →
     IsGreatest (metrics ++ metric ∷ []) (Some greatest)
@@ -37,9 +33,5 @@ greatest_max metrics greatest metric is = elim (cases_lt greatest metric) [
 pub metrics_more : {R : Type 0} (state : R → State) (routers : List R) (i : ℕ) (r : R) → i < length routers → r ≡ get_or routers i r →
     metrics_of (map state (take (i + 1) routers)) ≡ metrics_of (map state (take i routers)) ++ map (λ route. route.metric) (state r).routes
 metrics_more {R} state routers i r within is =
-    let front = take i routers in
-    let Metrics : List R → List ℕ = λ l. metrics_of (map state l) in
-    ap Metrics (take_more routers i r within ∙ ap (λ (s : R). front ++ s ∷ []) (sym is))
-    ∙ ap metrics_of (map-append state front (r ∷ []))
-    ∙ flat_map-append (λ (p : State). map (λ route. route.metric) p.routes) (map state front) (state r ∷ [])
-    ∙ ap (λ (l : List ℕ). Metrics front ++ l) (append-nil (map (λ route. route.metric) (state r).routes))
+    ap metrics_of (map_more state routers i r within ∙ ap (λ (s : R). map state (take i routers) ++ state s ∷ []) (sym is))
+    ∙ sym (flat_map_more (λ (p : State). map (λ route. route.metric) p.routes) [] (map state (take i routers)) (state r))

@@ -1,17 +1,17 @@
 -- The least routes of the routers of a settled network, one behind the other.
-use Rattle.std.proofs.Common.{◌≡◌, ◌≢◌, ℕ, zero, suc, ◌+◌, List, [], ◌∷◌, ◌++◌, map, get_or, Some, inl, inr, refl, sym, ap, ◌∙◌, subst, arith}
+use Rattle.std.proofs.Common.{◌≡◌, ◌≢◌, ℕ, zero, suc, ◌+◌, List, [], ◌∷◌, ◌++◌, map, Some, inl, inr, refl, sym, ap, ◌∙◌, subst, arith}
 use Rattle.std.specs.Prelude.{Contains, slice_get}
 use Rattle.std.specs.List.{AllPairs}
 use Rattle.std.proofs.lemmas.List.{map-append}
-use Rattle.std.proofs.lemmas.List.Elements.{Contains-append_cases, Contains-append_left, Contains-append_right, Contains-get_or}
+use Rattle.std.proofs.lemmas.Simd.{map-map}
+use Rattle.std.proofs.lemmas.List.Elements.{Contains-append_cases, Contains-append_left, Contains-append_right}
 use Rattle.mesh_atoms.specs.declared.addr.NetAddr.{NetAddr}
 use Rattle.mesh_atoms.specs.declared.graphs.Route.{Route}
 use Rattle.mesh_atoms.specs.Nodes.{IsBefore}
 use Rattle.mesh_atoms.specs.State.{State}
-use Rattle.mesh_config.proofs.Builds.{map-then}
 use Rattle.mesh_emulate.specs.Making.Made.{Reached}
 use Rattle.mesh_emulate.specs.Making.Routes.{metrics_of}
-use Rattle.mesh_atoms.proofs.Lists.{contains_map_cases as from_map, all_pairs_tail, contains_map, all_pairs_head}
+use Rattle.mesh_atoms.proofs.Lists.{contains_map_cases as from_map, all_pairs_cons, all_pairs_tail, contains_map, all_pairs_head}
 
 abbrev pub reached_by : ℕ → Route → Reached
 reached_by x r = record { router = x; dest = r.dest; metric = r.metric }
@@ -26,7 +26,7 @@ metrics_same i [] = refl
 metrics_same i (p ∷ ps) =
     let metric : Reached → ℕ = λ r. r.metric in
     map-append metric (map (reached_by i) p.routes) (all_reached (i + 1) ps)
-    ∙ rw (map-then metric (reached_by i) p.routes, metrics_same (i + 1) ps) refl
+    ∙ rw (map-map metric (reached_by i) p.routes, metrics_same (i + 1) ps) refl
 
 -- Of which router, and by which route
 
@@ -67,19 +67,12 @@ is_there i n (s ∷ ps) (suc j) p r place at within =
 
 -- Each once
 
-apart_first : {A : Type 0} (x : A) (xs : List A) → ((y : A) → Contains xs y → x ≢ y) → AllPairs (λ a b. a ≢ b) xs →
-    AllPairs (λ a b. a ≢ b) (x ∷ xs)
-apart_first x xs others all zero zero d less within = absurd (omega (arith, less))
-apart_first x xs others all zero (suc j) d less within = others (get_or xs j d) (Contains-get_or xs j d (omega (arith, within)))
-apart_first x xs others all (suc i) zero d less within = absurd (omega (arith, less))
-apart_first x xs others all (suc i) (suc j) d less within = all i j d (omega (arith, less)) (omega (arith, within))
-
 apart_both : {A : Type 0} (xs ys : List A) → AllPairs (λ a b. a ≢ b) xs → AllPairs (λ a b. a ≢ b) ys →
     ((x y : A) → Contains xs x → Contains ys y → x ≢ y) → AllPairs (λ a b. a ≢ b) (xs ++ ys)
 apart_both [] ys one two cross = two
 apart_both {A} (x ∷ xs) ys one two cross =
     let rest = apart_both xs ys (all_pairs_tail (λ (a b : A). a ≢ b) x xs one) two (λ a b within. cross a b (suc within.0, omega (arith, within.1), within.2)) in
-    apart_first x (xs ++ ys)
+    all_pairs_cons (λ (a b : A). a ≢ b) x (xs ++ ys)
     (λ y within. elim (Contains-append_cases xs ys y within) [
       | inl here ↦ all_pairs_head (λ (a b : A). a ≢ b) x xs one y here
       | inr there ↦ cross x y (0, omega arith, refl) there
@@ -93,7 +86,7 @@ one_router_apart : (x : ℕ) (rows : List Route) → AllPairs (λ r t. IsBefore 
     AllPairs (λ a b. a ≢ b) (map (reached_by x) rows)
 one_router_apart x [] ordered = λ i j d less within. absurd (omega (arith, within))
 one_router_apart x (r ∷ rows) ordered =
-    apart_first (reached_by x r) (map (reached_by x) rows)
+    all_pairs_cons (λ (a b : Reached). a ≢ b) (reached_by x r) (map (reached_by x) rows)
     (λ q within same.
     let found = from_map (reached_by x) rows q within in
     let dest : r.dest ≡ found.0.dest = ap (λ (y : Reached). y.dest) (same ∙ sym found.2) in

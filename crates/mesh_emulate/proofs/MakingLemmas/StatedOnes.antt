@@ -1,5 +1,5 @@
 -- The routers of a made scenario: their names and addresses, none of which stands twice.
-use Rattle.std.proofs.Common.{◌≡◌, ℕ, zero, suc, ◌+◌, ◌/◌, ◌%◌, ◌<◌, ◌≤◌, true, false, not, None, List, [], ◌∷◌, ◌++◌, map, length, codes, decimal, inl, inr, refl, ap, ◌∙◌, subst, arith}
+use Rattle.std.proofs.Common.{◌≡◌, ℕ, zero, suc, ◌+◌, ◌/◌, ◌%◌, ◌<◌, ◌≤◌, true, false, not, None, List, [], ◌∷◌, ◌++◌, map, length, codes, decimal, inl, inr, refl, ap, ◌∙◌, arith}
 use Rattle.std.specs.Prelude.{nat_le, slice_index, ◌&&◌}
 use Rattle.std.specs.Cmp.Lexicographic.{bytes_decides}
 use Rattle.std.specs.List.{flat_map, list_all, list_any, range_with_len}
@@ -17,15 +17,6 @@ use Rattle.mesh_config.specs.declared.stated.stated.StatedInterface.{StatedInter
 use Rattle.mesh_config.specs.declared.stated.stated.StatedRouter.{StatedRouter}
 use Rattle.mesh_config.specs.Stated.Router.{InterfaceFields, stated_interface_fields}
 use Rattle.mesh_config.specs.Keys.Faults.{first}
-
--- One router more
-
-pub stated_more : (i n : ℕ) (ds : List StatedRouter) (d : StatedRouter) → i + length ds ≡ n → AreStated i ds → IsStated n d →
-    AreStated i (ds ++ d ∷ [])
-stated_more i n [] d here all one = let at : n ≡ i = omega (arith, here) in (subst (λ (k : ℕ). IsStated k d) at one, tt)
-stated_more i n (e ∷ ds) d here all one =
-    let at : (i + 1) + length ds ≡ n = omega (arith, here) in
-    (all.0, stated_more (i + 1) n ds d at all.1 one)
 
 -- Names
 

@@ -1,7 +1,8 @@
 -- The routers of a made scenario as their tables would state them.
-use Rattle.std.specs.Prelude.{◌≡◌, ℕ, ◌+◌, List, [], ◌∷◌, map}
+use Rattle.std.specs.Prelude.{◌≡◌, ℕ, List, [], ◌∷◌, map}
 use Rattle.mesh_emulate.specs.Making.Scenario.{name_of, face_of}
 use Rattle.mesh_config.specs.declared.stated.stated.StatedRouter.{StatedRouter}
+use Rattle.mesh_config.specs.Senders.{EachAt}
 use Rattle.mesh_config.specs.Stated.Router.{stated_interface_fields, IsPlainHead}
 
 -- router i
@@ -12,5 +13,4 @@ pub record IsStated (i : ℕ) (d : StatedRouter) : Type 0 where
 
 -- the routers from number i on
 abbrev pub AreStated : ℕ → List StatedRouter → Type 0
-AreStated i [] = Unit {0}
-AreStated i (d ∷ ds) = IsStated i d × AreStated (i + 1) ds
+AreStated i ds = EachAt IsStated i ds

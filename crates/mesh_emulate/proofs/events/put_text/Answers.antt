@@ -1,9 +1,6 @@
 use Rattle.mesh_emulate.proofs.TraceFacts.{router_at, text_put}
 use Rattle.mesh_emulate.proofs.events.put_text.Goals as goal
 
-pub put_event-requires : goal.put_event-requires
-put_event-requires g c = c.requires.packet
-
 pub returns : goal.returns
 returns g c =
     let net = g.N.Network.net c.args.net.now in

@@ -4,12 +4,6 @@ use Rattle.mesh_emulate.proofs.Putting.{puts_made}
 use Rattle.mesh_emulate.proofs.TraceFacts.{last_event, event_left, event_told}
 use Rattle.mesh_emulate.proofs.events.trace_events.Goals as goal
 
-pub put_text-put-requires : goal.put_text-put-requires
-put_text-put-requires g c =
-    let step = rw c.in-Ok-Some.field-0-is at c.in-Ok-Some.ensures.step in
-    let packets = rw c.in-Ok-Some.field-0-is at c.in-Ok-Some.ensures.packets in
-    last_event c.args.scenario.now (g.N.Network.net c.events.net) (g.N.Network.net c.step.new.self) c.in-Ok-Some.event c.events.invariant.scenario step packets
-
 pub events-preserved : goal.events-preserved
 events-preserved g c =
     let step = rw c.in-Ok-Some.field-0-is at c.in-Ok-Some.ensures.step in

@@ -1,14 +1,10 @@
-use Rattle.std.proofs.Common.{List, Ok, Err, sym, subst}
-use Rattle.mesh_atoms.specs.Settled.{AreStates}
+use Rattle.std.proofs.Common.{List, Ok, Err, subst}
 use Rattle.mesh_atoms.specs.State.{State}
 use Rattle.mesh_emulate.specs.Emulation.{IsEndSummary}
 use Rattle.mesh_emulate.specs.Parts.{MakesWanted, IsTripText}
 use Rattle.mesh_emulate.proofs.Putting.{puts_made, both_put, both_stop, wanted_starts}
 use Rattle.mesh_io.specs.Pieces.{MakesOne, PutsPieces}
 use Rattle.mesh_emulate.proofs.summary.tell_end.Goals as goal
-
-pub tell_trip-requires-clause-states : goal.tell_trip-requires-clause-states
-tell_trip-requires-clause-states g c = subst (AreStates c.args.scenario.now) (sym c.routers.ensures) c.requires.network.routers
 
 pub returns-in-Ok-clause-leaves : goal.returns-in-Ok-clause-leaves
 returns-in-Ok-clause-leaves g c =

@@ -1,9 +1,6 @@
 use Rattle.mesh_emulate.specs.Wants.{wants_of}
-use Rattle.mesh_emulate.proofs.Preparing.{start_known, send_refused, probe_refused}
+use Rattle.mesh_emulate.proofs.Preparing.{start_known, probe_refused}
 use Rattle.mesh_emulate.proofs.wanted.errand_of.Goals as goal
-
-pub returns-in-Err-clause-unknown : goal.returns-in-Err-clause-unknown
-returns-in-Err-clause-unknown c = send_refused c.args.scenario.now (wants_of c.args.wanted.now) c.in-Err.fault c.in-Err.ensures.unknown
 
 pub returns-in-Err-origin_of-clause-unknown : goal.returns-in-Err-origin_of-clause-unknown
 returns-in-Err-origin_of-clause-unknown c =

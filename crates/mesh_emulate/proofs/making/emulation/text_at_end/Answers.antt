@@ -2,12 +2,6 @@ use Rattle.std.proofs.Common.{map}
 use Rattle.mesh_texts.proofs.Gaps.{gap_is}
 use Rattle.mesh_emulate.proofs.making.emulation.text_at_end.Goals as goal
 
-pub settled-gap-requires : goal.settled-gap-requires
-settled-gap-requires g c = c.requires.network c.in_ok-graph.graph c.in_ok-graph.ensures.graph
-
-pub put_made-requires : goal.put_made-requires
-put_made-requires g c = c.requires.few
-
 pub returns : goal.returns
 returns g c =
     let s = c.args.scenario.now in

@@ -1,5 +1,6 @@
 use Rattle.std.proofs.Common.{◌≡◌, ◌∷◌, [], ◌+◌, length, length-append, arith}
-use Rattle.mesh_emulate.proofs.MakingLemmas.StatedOnes.{stated_more}
+use Rattle.mesh_config.proofs.Builds.{each_more}
+use Rattle.mesh_emulate.specs.Making.Stated.{IsStated}
 use Rattle.mesh_emulate.proofs.making.stated.stated_routers.Goals as goal
 
 pub loop-i-preserved : goal.loop-i-preserved
@@ -8,6 +9,6 @@ loop-i-preserved c =
     let one = c.in_ok-router_of.field-0 in
     let here : 0 + length all ≡ c.loop-i.i = omega (arith, c.loop-i.invariant.count) in
     rw c.in_ok-push.ensures.ok (record {
-      stated = stated_more 0 c.loop-i.i all one here c.loop-i.invariant.stated c.in_ok-router_of.ensures;
+      stated = each_more IsStated 0 c.loop-i.i all one c.loop-i.invariant.stated here c.in_ok-router_of.ensures;
       count = omega (arith, length-append all (one ∷ []), c.loop-i.invariant.count);
     })
