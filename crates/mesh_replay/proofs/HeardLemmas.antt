@@ -1,4 +1,2 @@
-pub mod Arcs
 pub mod Faces
-pub mod Hearing
 pub mod Opening

@@ -3,8 +3,8 @@ pub mod Cases
 pub mod Ending
 pub mod Events
 pub mod Going
-pub mod Hearing
 pub mod Kept
+pub mod Next
 pub mod Opening
 pub mod Reached
 pub mod RelayLines

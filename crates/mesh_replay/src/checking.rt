@@ -1,19 +1,20 @@
 //! The checking of a trace, event by event and line by line.
 
 mod case;
+mod checked;
 mod events;
 mod frames;
-mod heard;
 mod hellos;
 mod lines;
+mod next;
 mod octets;
 mod opening;
 mod relays;
+mod renewal;
 mod router;
 mod scene;
 mod step;
 mod tcs;
-mod ticks;
 mod whole;
 mod words;
 

@@ -1,5 +1,5 @@
 -- The relays of an event are told, and then what it sends.
-use Rattle.std.proofs.Common.{◌≡◌, ℕ, List, [], ◌++◌, refl, sym, ◌∙◌, ap, subst, Bool, true, false}
+use Rattle.std.proofs.Common.{◌≡◌, ℕ, List, [], ◌++◌, refl, sym, ◌∙◌, subst, Bool, true, false}
 use Rattle.mesh_atoms.specs.declared.tuples.Relays.{Relays}
 use Rattle.mesh_atoms.specs.RelayGraphs.{AreRelays}
 use Rattle.mesh_atoms.specs.State.{State}
@@ -23,9 +23,6 @@ event_not {s = s} lines is_in stops =
     record { progress = stops.progress; settings = is_in.settings; kept = λ yes. absurd cc; leads = leads_not (leads_before (sent_items s lines) stops.stops) refl }
 
 -- the router with the relays that were told
-pub same_with : {u s : State} {r q : Relays} → u ≡ s → r ≡ q → with_relays u r ≡ with_relays s q
-same_with {s = s} {r = r} same is = ap (λ (t : State). with_relays t r) same ∙ ap (λ (p : Relays). with_relays s p) is
-
 pub in_again : {event : CheckedEvent} {s t : State} {relays : Relays} → MayBeIn event s → t ≡ with_relays s relays → MayBeIn event t
 in_again {event} is_in t_is = subst (MayBeIn event) (sym t_is) (record { settings = is_in.settings; last = is_in.last })
 

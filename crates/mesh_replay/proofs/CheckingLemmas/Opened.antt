@@ -1,6 +1,8 @@
--- An event that its line opens.
-use Rattle.std.proofs.Common.{◌≡◌, ◌<◌, ℕ, List, length, arith, [], ◌∷◌, ◌++◌, refl, sym, ◌∙◌, subst, append-nil, Bool, true, false, Some, inl, inr}
+-- The next event, which its line opens.
+use Rattle.std.proofs.Common.{◌≡◌, ◌<◌, ℕ, List, map, length, get_or, arith, [], ◌∷◌, ◌++◌, refl, sym, ◌∙◌, subst, append-nil, set-set, Bool, true, false, Some, inl, inr}
 use Rattle.std.specs.Prelude.{slice_get, slice_set}
+use Rattle.std.proofs.lemmas.List.{length-map}
+use Rattle.std.proofs.lemmas.Option.{slice_get_read, slice_get_within}
 use Rattle.mesh_atoms.specs.declared.addr.Addr4.{Addr4}
 use Rattle.mesh_atoms.specs.declared.codes.metric.Metric.{Metric}
 use Rattle.mesh_atoms.specs.declared.settings.RouterSettings.{RouterSettings}
@@ -10,12 +12,12 @@ use Rattle.mesh_atoms.specs.declared.tuples.Relays.{Relays}
 use Rattle.mesh_atoms.specs.Advertised.{GivesAsSelector, AreTcRows}
 use Rattle.mesh_atoms.specs.State.{State}
 use Rattle.mesh_trace.specs.machine.Net.{NetState}
+use Rattle.mesh_trace.specs.machine.Traffic.{Traffic}
 use Rattle.mesh_trace.specs.declared.reading.Reader.{Reader}
 use Rattle.mesh_trace.specs.Positions.Alike.{HasAddresses}
-use Rattle.mesh_trace.specs.Positions.Leading.{LineLeads, Reaches}
-use Rattle.mesh_trace.specs.Positions.Standing.{Item, TracePosition, IsDone, with_state, with_traffic}
-use Rattle.mesh_trace.specs.Reading.Lines.{IsLineOf}
-use Rattle.mesh_trace.proofs.machine.Places.{same_at, set_at}
+use Rattle.mesh_trace.specs.Positions.Leading.{Reaches}
+use Rattle.mesh_trace.specs.Positions.Standing.{Item, TracePosition, with_state, with_traffic}
+use Rattle.mesh_trace.proofs.machine.Places.{mapped_at, same_at, set_at}
 use Rattle.mesh_trace.proofs.machine.topo.AdvertisedLemmas.Advertising.{same_row}
 use Rattle.mesh_trace.proofs.PositionsLemmas.Addresses.{positions_have_addresses}
 use Rattle.mesh_trace.proofs.PositionsLemmas.AlikeNets.{set_length}
@@ -23,48 +25,40 @@ use Rattle.mesh_trace.proofs.PositionsLemmas.Walks.{leads_on as walks_on}
 use Rattle.mesh_replay.specs.declared.checking.case.Case.{Case}
 use Rattle.mesh_replay.specs.declared.checking.case.CheckedEvent.{CheckedEvent}
 use Rattle.mesh_replay.specs.declared.checking.case.Progress.{Progress}
-use Rattle.mesh_replay.specs.Checking.Cases.{StandsIn}
-use Rattle.mesh_replay.specs.Checking.Ending.{EndsEvent, KeepsRouters}
+use Rattle.mesh_replay.specs.declared.checking.next.ComingFrame.{ComingFrame}
+use Rattle.mesh_replay.specs.declared.checking.next.NextEvent.{NextEvent}
+use Rattle.mesh_replay.specs.Checking.Ending.{EndsEvent, KeepsRouters, MayBegin}
 use Rattle.mesh_replay.specs.Checking.Going.{at, FitsOrStops}
 use Rattle.mesh_replay.specs.Checking.Kept.{AreAtRest, IsAtRest, IsSoundRouter, with_relays}
-use Rattle.mesh_replay.specs.Checking.Texts.{TakesText, TookText}
+use Rattle.mesh_replay.specs.Checking.Next.{EventBy, IsComing, IsNextEvent, OpensAlone, opening_text}
+use Rattle.mesh_replay.specs.Checking.Scenes.{IsReachedNet, net_of}
+use Rattle.mesh_replay.specs.Checking.Texts.{TakesText}
 use Rattle.mesh_replay.proofs.CheckingLemmas.Going.{went_one, stops_here, goes_on, goes_not}
 
--- lines of this text alone lead on from between events: however the event leaves router x, to the network after that
-pub record Opens (net : NetState) (y : ℕ) (text : List ℕ) (x : ℕ) (By : State → List Item → Type 0) (after : State → NetState) : Type 0 where
-  pub leads : (line : List ℕ) (is : State) (left : List Item) → IsLineOf line text → By is left → LineLeads (at net y []) line (at (after is) x left)
-  pub only : (line : List ℕ) (q : TracePosition) → LineLeads (at net y []) line q → IsLineOf line text
-  pub undone : IsDone (at net y []) → ⊥
-  pub stands : (is : State) → slice_get (after is).routers x ≡ Some is
-
 -- the next line is another
-pub opened_not : {net : NetState} {y x : ℕ} {text : List ℕ} {By : State → List Item → Type 0} {after : State → NetState} {trace : List ℕ} {old new : Reader} {reads : Bool} → Opens net y text x By after →
+opened_not : {net after : NetState} {y x : ℕ} {text : List ℕ} {By : State → List Item → Type 0} {trace : List ℕ} {old new : Reader} {reads : Bool} → OpensAlone net y text x By after →
     TakesText trace old new text reads → (q : TracePosition) → reads ≡ false → FitsOrStops trace old new (at net y []) q false
 opened_not opens takes q bad = goes_not (stops_here (takes.still bad)
     (λ line lines p there leads. takes.other bad (record { line = line; lines = lines; next = there; is = opens.only line p leads })) opens.undone)
 
 -- it was taken, and so was what follows
-pub opened_on : {net : NetState} {y x : ℕ} {text : List ℕ} {By : State → List Item → Type 0} {after : State → NetState} {case : Case} {old : Reader} {mid new : Progress} {event : CheckedEvent} {t : State} {reads fits : Bool} →
-    Opens net y text x By after → TakesText case.trace.now old mid.reader text reads → reads ≡ true → event.router ≡ x → EndsEvent case mid new event By t fits → (m : NetState) →
-    ((is : State) → (after is).scenario ≡ case.scenario.now) → ((is : State) → (after is).traffic ≡ mid.traffic.traffic) →
-    ((is : State) → with_traffic (with_state (after is) x t) new.traffic.traffic ≡ m) → FitsOrStops case.trace.now old new.reader (at net y []) (at m x []) fits
-opened_on {net} {y} {x} {text} {after = after} {case = case} {old = old} {mid = mid} {new = new} {event = event} {t = t} {fits = fits} opens takes good place ends m scenario flights is =
-    let took : TookText case.trace.now old mid.reader text = takes.takes good in
-    let there = after ends.is in
-    let stands : StandsIn case mid event.router ends.is there =
-    record { scenario = scenario ends.is; traffic = flights ends.is; stands = subst (λ (k : ℕ). slice_get there.routers k ≡ Some ends.is) (sym place) (opens.stands ends.is) } in
-    let told = subst (λ (k : ℕ). FitsOrStops case.trace.now mid.reader new.reader (at there k (ends.left ++ [])) (at (with_traffic (with_state there k t) new.traffic.traffic) k []) fits) place
-    (ends.tells.leads.leads there [] stands) in
+opened_on : {net after : NetState} {y : ℕ} {text : List ℕ} {By : State → List Item → Type 0} {case : Case} {old : Reader} {mid new : Progress} {event : CheckedEvent} {t : State} {reads fits : Bool} →
+    OpensAlone net y text event.router By after → TakesText case.trace.now old mid.reader text reads → reads ≡ true → EndsEvent case mid new event By t fits → after.scenario ≡ case.scenario.now → after.traffic ≡ mid.traffic.traffic →
+    FitsOrStops case.trace.now old new.reader (at net y []) (at (with_traffic (with_state after event.router t) new.traffic.traffic) event.router []) fits
+opened_on {after = after} {case = case} {mid = mid} {new = new} {event = event} {t = t} {fits = fits} opens takes good ends scenario flights =
+    let took = takes.takes good in
+    let there = with_state after event.router ends.is in
+    let told = ends.tells.leads.leads there [] (record { scenario = scenario; traffic = flights; stands = opens.stands ends.is }) in
     goes_on (went_one took (opens.leads took.line ends.is ends.left took.is ends.by))
-    (subst (λ (l : List Item). FitsOrStops case.trace.now mid.reader new.reader (at there x l) (at m x []) fits) (append-nil ends.left)
-    (subst (λ (n : NetState). FitsOrStops case.trace.now mid.reader new.reader (at there x (ends.left ++ [])) (at n x []) fits) (is ends.is) told))
+    (subst (λ (l : List Item). FitsOrStops case.trace.now mid.reader new.reader (at there event.router l) (at (with_traffic (with_state after event.router t) new.traffic.traffic) event.router []) fits) (append-nil ends.left)
+    (subst (λ (r : List State). FitsOrStops case.trace.now mid.reader new.reader (at there event.router (ends.left ++ [])) (at (record after { routers = r; traffic = new.traffic.traffic }) event.router []) fits) (set-set after.routers event.router ends.is t) told))
 
 -- however it leaves the router, that has neighbours with addresses
-pub opened_addresses : {net : NetState} {y x : ℕ} {text : List ℕ} {By : State → List Item → Type 0} {after : State → NetState} {trace : List ℕ} {old new : Reader} {reads : Bool} → Opens net y text x By after →
+opened_addresses : {net after : NetState} {y x : ℕ} {text : List ℕ} {By : State → List Item → Type 0} {trace : List ℕ} {old new : Reader} {reads : Bool} → OpensAlone net y text x By after →
     TakesText trace old new text reads → reads ≡ true → (s : Scenario) (lines : List (List ℕ)) → Reaches s lines (at net y []) → (is : State) (left : List Item) → By is left → HasAddresses is
-opened_addresses {net} {y} {x} {text} {after = after} {trace = trace} {old = old} {new = new} opens takes good s lines (first, is_first, leads) is left by =
-    let took : TookText trace old new text = takes.takes good in
-    let q : TracePosition = at (after is) x left in
+opened_addresses {net} {after} {y} {x} opens takes good s lines (first, is_first, leads) is left by =
+    let took = takes.takes good in
+    let q : TracePosition = at (with_state after x is) x left in
     (positions_have_addresses s (lines ++ took.line ∷ []) q
     (first, is_first, walks_on first (at net y []) q lines (took.line ∷ []) leads (q, opens.leads took.line is left took.is by, refl))).addresses x is (opens.stands is)
 
@@ -87,6 +81,14 @@ pub sound_with : (s : State) (relays : Relays) → IsSoundRouter s → IsSoundRo
 sound_with s relays sound = record { bases = sound.bases; rows = rows_with s relays s.rows sound.rows }
 
 -- ---- all routers
+
+-- what was read at a place of a list stands there
+pub read_at : {A : Type 0} {xs ys : List A} {i : ℕ} {x : A} → xs ≡ ys → i < length ys → x ≡ get_or xs i x → slice_get ys i ≡ Some x
+read_at {ys = ys} {i = i} {x = x} same below is = slice_get_read ys (length ys) i x refl below (subst (λ (l : List _). x ≡ get_or l i x) same is)
+
+pub state_at : {A : Type 0} (state : A → State) (routers : List A) {x : ℕ} {here : A} → x < length (map state routers) → here ≡ get_or routers x here → slice_get (map state routers) x ≡ Some (state here)
+state_at state routers {x} {here} below is =
+    let inside : x < length routers = (let same = length-map routers state in omega (arith, below, same)) in mapped_at state routers x here (read_at refl inside is)
 
 pub router_within : {s : Scenario} {routers : List State} {x : ℕ} → AreAtRest s routers → x < length s.routers → x < length routers
 router_within are below = let count = are.count in omega (arith, count, below)
@@ -111,3 +113,42 @@ routers_kept {event = event} {t = t} routers was are stands same ends = record {
     ];
   };
 }
+
+-- ---- the next event
+
+module _ {case : Case} {net : NetState} {flights : Traffic} {next : NextEvent} (is : IsNextEvent case net flights next) where
+  pub next_within : next.router < length case.scenario.now.routers
+  next_within = slice_get_within case.scenario.now.routers next.router is.settings is.settings_are
+
+  pub next_comes : {event : CheckedEvent} → slice_get case.scenario.now.routers next.router ≡ Some event.settings.now → (heard : ComingFrame) → next.heard ≡ Some heard → event.moment ≡ next.moment → IsComing event heard
+  next_comes there heard is_heard now = record {
+    now = (is.comes heard is_heard).0 ∙ sym now;
+    iface = subst (λ (r : RouterSettings). heard.arrival.iface < length r.interfaces) (same_at case.scenario.now.routers next.router is.settings _ is.settings_are there) (is.comes heard is_heard).1;
+  }
+
+module _ (case : Case) (old : Progress) (next : NextEvent) {routers : List State} {was : State} {settings : RouterSettings} {reader : Reader} {reads : Bool} (kept : AreAtRest case.scenario.now routers)
+    (there : slice_get case.scenario.now.routers next.router ≡ Some settings) (stands : slice_get routers next.router ≡ Some was)
+    (takes : TakesText case.trace.now old.reader reader (opening_text settings next.moment next.heard) reads) (count : ℕ) (before : Progress) (is : IsNextEvent case (net_of case routers count before) old.traffic.traffic next) where
+  opens : (y : ℕ) → OpensAlone (net_of case routers count before) y (opening_text settings next.moment next.heard) next.router (EventBy next.moment next.heard was) (net_of case routers next.last_ticks old)
+  opens y = subst (λ (r : RouterSettings). OpensAlone (net_of case routers count before) y (opening_text r next.moment next.heard) next.router (EventBy next.moment next.heard was) (net_of case routers next.last_ticks old))
+      (settings_same next.router kept there stands) (is.opens y was stands)
+
+  -- its line isn't there
+  pub next_not : (y : ℕ) (q : TracePosition) → reads ≡ false → FitsOrStops case.trace.now old.reader reader (at (net_of case routers count before) y []) q false
+  next_not y q bad = opened_not (opens y) takes q bad
+
+  -- the router may begin, since lines lead there
+  pub next_begins : {event : CheckedEvent} → event.settings.now ≡ settings → reads ≡ true → IsReachedNet case (net_of case routers count before) → MayBegin event was (EventBy next.moment next.heard was)
+  next_begins same good (lines, y, reaches) = record {
+    settings = settings_same next.router kept there stands ∙ sym same;
+    kept = kept.kept next.router was stands;
+    addresses = opened_addresses (opens y) takes good case.scenario.now lines reaches;
+  }
+
+  -- what follows its line
+  pub next_on : {event : CheckedEvent} {new : Progress} {t : State} {fits : Bool} → event.router ≡ next.router → reads ≡ true → EndsEvent case (record old { reader = reader }) new event (EventBy next.moment next.heard was) t fits → (y : ℕ) →
+      FitsOrStops case.trace.now old.reader new.reader (at (net_of case routers count before) y []) (at (net_of case (slice_set routers next.router t) next.last_ticks new) next.router []) fits
+  next_on {event} {new} {t} {fits} place good ends y =
+      subst (λ (x : ℕ). OpensAlone (net_of case routers count before) y (opening_text settings next.moment next.heard) x (EventBy next.moment next.heard was) (net_of case routers next.last_ticks old) →
+      FitsOrStops case.trace.now old.reader new.reader (at (net_of case routers count before) y []) (at (net_of case (slice_set routers x t) next.last_ticks new) x []) fits) place
+      (λ o. opened_on o takes good ends refl refl) (opens y)

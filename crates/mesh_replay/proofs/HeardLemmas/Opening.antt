@@ -4,23 +4,20 @@ use Rattle.std.specs.Prelude.{slice_get}
 use Rattle.std.proofs.lemmas.List.Elements.{All-head, All-tail}
 use Rattle.mesh_atoms.specs.declared.addr.Addr4.{Addr4}
 use Rattle.mesh_atoms.specs.declared.settings.RadioArc.{RadioArc}
-use Rattle.mesh_atoms.specs.declared.settings.Scenario.{Scenario}
 use Rattle.mesh_atoms.specs.State.{State}
 use Rattle.mesh_trace.proofs.machine.Places.{same_at}
-use Rattle.mesh_trace.specs.machine.declared.arrival.Arrival.{Arrival}
 use Rattle.mesh_trace.specs.machine.Net.{NetState, HearsNext, IsSender}
 use Rattle.mesh_trace.specs.machine.Traffic.{Delivery, with_heard}
 use Rattle.mesh_texts.specs.Lines.Marks.{face_name}
 use Rattle.mesh_texts.specs.Trace.{heard_line}
 use Rattle.mesh_trace.specs.Positions.Due.{HearsBy}
 use Rattle.mesh_trace.specs.Positions.Events.{OpensHearing, OpensEvent, By_delivery, By_tick, By_last_tick}
-use Rattle.mesh_trace.specs.Positions.Items.{TellsItem, Tells_flooding, Tells_routing, Tells_hello, Tells_tc, Tells_frame, Tells_loss}
-use Rattle.mesh_trace.specs.Positions.Leading.{LineLeads, To_event, To_item, LeadsBy, Reaches}
-use Rattle.mesh_trace.specs.Positions.Standing.{Item, TracePosition, with_state, with_traffic}
+use Rattle.mesh_trace.specs.Positions.Leading.{LineLeads, To_event, To_item}
+use Rattle.mesh_trace.specs.Positions.Standing.{TracePosition, with_traffic}
 use Rattle.mesh_trace.specs.Reading.Lines.{IsLineOf}
 use Rattle.mesh_trace.proofs.PositionsLemmas.EventsOnce.{not_tick, not_last, behind_all as behind, sender_once}
 use Rattle.mesh_replay.specs.Checking.Going.{at}
-use Rattle.mesh_replay.proofs.CheckingLemmas.Opened.{Opens}
+use Rattle.mesh_replay.specs.Checking.Next.{OpensAlone}
 use Rattle.mesh_atoms.proofs.Lists.{set_here}
 
 -- ---- what is heard first is one frame
@@ -49,33 +46,6 @@ next_once : (net : NetState) (d e : Delivery) (others more : List Delivery) → 
 next_once net d e others more h k =
     heard_once h.first.before h.first.behind k.first.before k.first.behind d e (sym h.first.whole ∙ k.first.whole) h.first.later h.first.no_earlier k.first.later k.first.no_earlier
 
--- ---- the scenario stays
-
-opens_scenario : (old : NetState) (line : List ℕ) (new : TracePosition) → OpensEvent old line new → new.net.scenario ≡ old.scenario
-opens_scenario old line new (By_delivery h) = ap (λ (p : TracePosition). p.net.scenario) h.leads
-opens_scenario old line new (By_tick x moment next h) = ap (λ (p : TracePosition). p.net.scenario) h.leads
-opens_scenario old line new (By_last_tick only some h) = ap (λ (p : TracePosition). p.net.scenario) h.leads
-
-tells_scenario : (net : NetState) (x : ℕ) (s : State) (line : List ℕ) (item : Item) (new : NetState) (more : List Item) → TellsItem net x s line item new more → new.scenario ≡ net.scenario
-tells_scenario net x s line item new more (Tells_flooding face relays g at_face graph are is) = refl
-tells_scenario net x s line item new more (Tells_routing relays g graph are is) = refl
-tells_scenario net x s line item new more (Tells_hello frame is tells) = ap (λ (n : NetState). n.scenario) tells.leads
-tells_scenario net x s line item new more (Tells_tc first further are tells) = ap (λ (n : NetState). n.scenario) tells.leads
-tells_scenario net x s line item new more (Tells_frame tells) = ap (λ (n : NetState). n.scenario) tells.leads
-tells_scenario net x s line item new more (Tells_loss is) = refl
-
-leads_scenario : (old : TracePosition) (line : List ℕ) (new : TracePosition) → LineLeads old line new → new.net.scenario ≡ old.net.scenario
-leads_scenario old line new (To_event none opens) = opens_scenario old.net line new opens
-leads_scenario old line new (To_item {s} {item} {rest} {more} {net} left stands tells leads) =
-    ap (λ (p : TracePosition). p.net.scenario) leads ∙ tells_scenario old.net old.router s line item net more tells
-
-leads_by_scenario : (old : TracePosition) (lines : List (List ℕ)) (new : TracePosition) → LeadsBy old lines new → new.net.scenario ≡ old.net.scenario
-leads_by_scenario old [] new same = ap (λ (p : TracePosition). p.net.scenario) same
-leads_by_scenario old (line ∷ lines) new (mid, one, more) = leads_by_scenario mid lines new more ∙ leads_scenario old line mid one
-
-pub reached_scenario : (s : Scenario) (lines : List (List ℕ)) (p : TracePosition) → Reaches s lines p → p.net.scenario ≡ s
-reached_scenario s lines p (first, is, leads) = leads_by_scenario first lines p leads ∙ is.opening.scenario_is
-
 -- ---- the frame that is heard next
 
 pub record ComesNext (net : NetState) (d : Delivery) (others : List Delivery) (arc : RadioArc) (sender : Addr4) (was : State) : Type 0 where
@@ -84,14 +54,8 @@ pub record ComesNext (net : NetState) (d : Delivery) (others : List Delivery) (a
   pub sender_is : IsSender net.scenario.routers arc sender
   pub stands : slice_get net.routers arc.to ≡ Some was
 
-abbrev pub its_line : Delivery → RadioArc → Addr4 → State → List ℕ
+abbrev its_line : Delivery → RadioArc → Addr4 → State → List ℕ
 its_line d arc sender was = heard_line d.moment was.settings.name (face_name was.settings.interfaces arc.to_iface) sender d.frame
-
-abbrev pub its_arrival : Delivery → RadioArc → Addr4 → Arrival
-its_arrival d arc sender = record { now = d.moment; iface = arc.to_iface; sender = sender }
-
-abbrev pub heard_net : NetState → List Delivery → ℕ → State → NetState
-heard_net net others x is = with_traffic (with_state net x is) (with_heard net.traffic others)
 
 module _ (net : NetState) (y : ℕ) (d : Delivery) (others : List Delivery) (arc : RadioArc) (sender : Addr4) (was : State) (comes : ComesNext net d others arc sender was) where
   opens_alone : (line : List ℕ) (after : TracePosition) → OpensHearing net line after → IsLineOf line (its_line d arc sender was)
@@ -115,7 +79,7 @@ module _ (net : NetState) (y : ℕ) (d : Delivery) (others : List Delivery) (arc
   heard_alone line after (To_item left stands tells leads) = absurd cc
 
   -- its line leads on, however the frame leaves the router, and no other does
-  pub heard_opens : Opens net y (its_line d arc sender was) arc.to (HearsBy was (its_arrival d arc sender) d.frame) (heard_net net others arc.to)
+  pub heard_opens : OpensAlone net y (its_line d arc sender was) arc.to (HearsBy was (record { now = d.moment; iface = arc.to_iface; sender = sender }) d.frame) (with_traffic net (with_heard net.traffic others))
   heard_opens = record {
     leads = λ line is left line_is hears. To_event refl (By_delivery (record {
       delivery = d;

@@ -43,76 +43,58 @@ told_apart s r iface relays may = told_with (with_relays s r) s.relays iface rel
 -- ---- graphs with the same members
 
 record SameMembers (g h : NeighbourGraph) : Type 0 where
-  near : (e : Near) → Contains g.near e → Contains h.near e
-  near_back : (e : Near) → Contains h.near e → Contains g.near e
-  direct : (e : Direct) → Contains g.direct e → Contains h.direct e
-  direct_back : (e : Direct) → Contains h.direct e → Contains g.direct e
-  far : (e : Far) → Contains g.far e → Contains h.far e
-  far_back : (e : Far) → Contains h.far e → Contains g.far e
+  near : (e : Near) → Contains g.near e ↔ Contains h.near e
+  direct : (e : Direct) → Contains g.direct e ↔ Contains h.direct e
+  far : (e : Far) → Contains g.far e ↔ Contains h.far e
+
+back : {g h : NeighbourGraph} → SameMembers g h → SameMembers h g
+back same = record { near = λ e. ((same.near e).1, (same.near e).0); direct = λ e. ((same.direct e).1, (same.direct e).0); far = λ e. ((same.far e).1, (same.far e).0) }
+
+by_both : {A B C : Type 0} → A ↔ C → B ↔ C → A ↔ B
+by_both one other = (λ a. other.1 (one.0 a), λ b. one.1 (other.0 b))
 
 same_members : (s : State) (iface : Option ℕ) (g h : NeighbourGraph) → IsGraphFor s iface g → IsGraphFor s iface h → SameMembers g h
-same_members s (Some i) g h one other = record {
-  near = λ e has. (other.near e).1 ((one.near e).0 has);
-  near_back = λ e has. (one.near e).1 ((other.near e).0 has);
-  direct = λ e has. (other.direct e).1 ((one.direct e).0 has);
-  direct_back = λ e has. (one.direct e).1 ((other.direct e).0 has);
-  far = λ e has. (other.far e).1 ((one.far e).0 has);
-  far_back = λ e has. (one.far e).1 ((other.far e).0 has);
-}
-same_members s None g h one other = record {
-  near = λ e has. (other.near e).1 ((one.near e).0 has);
-  near_back = λ e has. (one.near e).1 ((other.near e).0 has);
-  direct = λ e has. (other.direct e).1 ((one.direct e).0 has);
-  direct_back = λ e has. (one.direct e).1 ((other.direct e).0 has);
-  far = λ e has. (other.far e).1 ((one.far e).0 has);
-  far_back = λ e has. (one.far e).1 ((other.far e).0 has);
-}
-
-back : (g h : NeighbourGraph) → SameMembers g h → SameMembers h g
-back g h same = record { near = same.near_back; near_back = same.near; direct = same.direct_back; direct_back = same.direct; far = same.far_back; far_back = same.far }
+same_members s (Some i) g h one other = record { near = λ e. by_both (one.near e) (other.near e); direct = λ e. by_both (one.direct e) (other.direct e); far = λ e. by_both (one.far e) (other.far e) }
+same_members s None g h one other = record { near = λ e. by_both (one.near e) (other.near e); direct = λ e. by_both (one.direct e) (other.direct e); far = λ e. by_both (one.far e) (other.far e) }
 
 offers_over : (g h : NeighbourGraph) → SameMembers g h → (Among : Near → Type 0) (y : Addr4) (c : ℕ) → Offers g Among y c → Offers h Among y c
-offers_over g h same Among y c (inl (d, has, at, cost)) = inl (d, same.direct d has, at, cost)
-offers_over g h same Among y c (inr (n, has, among, f, reaches, via, at, cost)) = inr (n, same.near n has, among, f, same.far f reaches, via, at, cost)
+offers_over g h same Among y c (inl (d, has, at, cost)) = inl (d, (same.direct d).0 has, at, cost)
+offers_over g h same Among y c (inr (n, has, among, f, reaches, via, at, cost)) = inr (n, (same.near n).0 has, among, f, (same.far f).0 reaches, via, at, cost)
 
 cheap_over : (g h : NeighbourGraph) → SameMembers g h → (A B : Near → Type 0) (y : Addr4) → IsAsCheap g A B y → IsAsCheap h A B y
 cheap_over g h same A B y cheap c offers =
-    let (e, other, le) = cheap c (offers_over h g (back g h same) B y c offers) in
+    let (e, other, le) = cheap c (offers_over h g (back same) B y c offers) in
     (e, offers_over g h same A y e other, le)
 
 relays_over : (g h : NeighbourGraph) → SameMembers g h → (relays : List Addr4) → AreRelaysOf g relays → AreRelaysOf h relays
 relays_over g h same relays are = record {
   covers = record {
-    always = λ n has will. are.covers.always n (same.near_back n has) will;
-    willing = λ id has. let (n, inside, is, willing) = are.covers.willing id has in (n, same.near n inside, is, willing);
+    always = λ n has will. are.covers.always n ((same.near n).1 has) will;
+    willing = λ id has. let (n, inside, is, willing) = are.covers.willing id has in (n, (same.near n).0 inside, is, willing);
     as_cheap = λ f c has offers.
-        let (e, other, le) = are.covers.as_cheap f c (same.far_back f has) (offers_over h g (back g h same) IsWilling f.addr c offers) in
+        let (e, other, le) = are.covers.as_cheap f c ((same.far f).1 has) (offers_over h g (back same) IsWilling f.addr c offers) in
         (e, offers_over g h same (IsRelay relays) f.addr e other, le);
   };
   needed = record {
     missed = λ n has is willing low.
-        let (f, inside, dear) = are.needed.missed n (same.near_back n has) is willing low in (
+        let (f, inside, dear) = are.needed.missed n ((same.near n).1 has) is willing low in (
           f,
-          same.far f inside,
+          (same.far f).0 inside,
           λ equal. dear (
-            cheap_over h g (back g h same) (IsOtherRelay relays n.id) IsWilling f.addr equal.0,
-            cheap_over h g (back g h same) IsWilling (IsOtherRelay relays n.id) f.addr equal.1,
+            cheap_over h g (back same) (IsOtherRelay relays n.id) IsWilling f.addr equal.0,
+            cheap_over h g (back same) IsWilling (IsOtherRelay relays n.id) f.addr equal.1,
           ),
         );
   };
   ascending = are.ascending;
 }
 
--- relays of one graph of a state are relays of each
-are_of_each : (s : State) (iface : Option ℕ) (g : NeighbourGraph) (relays : List Addr4) → IsGraphFor s iface g → MayTell s iface relays → AreRelaysOf g relays
-are_of_each s iface g relays is may = relays_over may.graph g (same_members s iface may.graph g may.is_graph is) relays may.are
-
--- so the test of one graph tells
+-- relays of one graph of a state are relays of each, so the test of one graph tells
 pub judged : {E : Type 0} (s : State) (iface : Option ℕ) (g : NeighbourGraph) (relays : List Addr4) (r : Result Bool E) → IsGraphFor s iface g → IsAscending relays →
     IfOk r (λ b. IsTrue b ↔ (Covers g relays × Needed g relays)) → IfOk r (λ b. IsTrue b ↔ MayTell s iface relays)
 judged s iface g relays (Ok b) is order tells = (
   λ serves. (let (covers, needed) = tells.0 serves in record { graph = g; is_graph = is; are = record { covers = covers; needed = needed; ascending = order } }),
-  λ may. (let are = are_of_each s iface g relays is may in tells.1 (are.covers, are.needed)),
+  λ may. (let are = relays_over may.graph g (same_members s iface may.graph g may.is_graph is) relays may.are in tells.1 (are.covers, are.needed)),
 )
 judged s iface g relays (Err e) is order tells = tt
 
@@ -120,13 +102,9 @@ judged s iface g relays (Err e) is order tells = tt
 
 pub are_wide : (s : State) (iface : Option ℕ) (relays : List Addr4) → HasAddresses s → MayTell s iface relays → AreAddresses relays
 are_wide s (Some i) relays known may id has =
-    let (near, inside, same, willing) = may.are.covers.willing id has in
-    let at = (may.is_graph.near near).0 inside in
-    subst (λ (a : Addr4). a.0 < 2 ^ 32) same (known near.id at.0 at.2)
+    let (near, inside, same, willing) = may.are.covers.willing id has in let at = (may.is_graph.near near).0 inside in subst (λ (a : Addr4). a.0 < 2 ^ 32) same (known near.id at.0 at.2)
 are_wide s None relays known may id has =
-    let (near, inside, same, willing) = may.are.covers.willing id has in
-    let at = (may.is_graph.near near).0 inside in
-    subst (λ (a : Addr4). a.0 < 2 ^ 32) same (known near.id at.0 at.2)
+    let (near, inside, same, willing) = may.are.covers.willing id has in let at = (may.is_graph.near near).0 inside in subst (λ (a : Addr4). a.0 < 2 ^ 32) same (known near.id at.0 at.2)
 
 pub all_wide : (relays : List Addr4) → AreAddresses relays → AreWide relays
 all_wide relays are = All-weaker (λ (a : Addr4). Contains relays a) (λ (a : Addr4). a.0 < 2 ^ 32) are relays (All-contains_itself relays)

@@ -1,7 +1,7 @@
 -- A network before its first line.
-use Rattle.std.proofs.Common.{◌≡◌, ℕ, ◌+◌, ◌<◌, List, [], ◌∷◌, ◌++◌, refl, sym, ap, subst, length, get_or, All, arith, Some, None, length-append}
+use Rattle.std.proofs.Common.{◌≡◌, ℕ, ◌+◌, ◌<◌, List, [], ◌∷◌, ◌++◌, refl, sym, ◌∙◌, ap, map, subst, length, get_or, All, arith, Some, None, length-append}
 use Rattle.std.specs.Prelude.{slice_get}
-use Rattle.std.proofs.lemmas.List.{length-map}
+use Rattle.std.proofs.lemmas.List.{length-map, map-append}
 use Rattle.std.proofs.lemmas.Option.{slice_get_read}
 use Rattle.std.proofs.lemmas.List.Elements.{All-nil}
 use Rattle.mesh_atoms.specs.State.{State}
@@ -16,29 +16,31 @@ use Rattle.mesh_replay.specs.declared.checking.case.Progress.{Progress}
 use Rattle.mesh_replay.specs.declared.checking.scene.FirstTick.{FirstTick}
 use Rattle.mesh_replay.specs.Checking.Cases.{IsCase}
 use Rattle.mesh_replay.specs.Checking.Going.{at}
-use Rattle.mesh_replay.specs.Checking.Kept.{IsAtRest}
 use Rattle.mesh_replay.specs.Checking.Opening.{AreAtOpeningUpTo, AreAtOpening, IsOpeningProgress, IsAtFirstLine}
 use Rattle.mesh_replay.specs.Checking.Reached.{HasRead}
 use Rattle.mesh_replay.specs.Checking.Scenes.{IsSoundScene, net_of}
 use Rattle.mesh_trace.specs.Reading.Readers.{lines_from}
+use Rattle.mesh_replay.proofs.RouterLemmas.Following.{kept_at_opening}
 
-pub none_opening : (settings : List RouterSettings) (routers : List State) → routers ≡ [] → AreAtOpeningUpTo settings 0 routers
-none_opening settings routers none = subst (AreAtOpeningUpTo settings 0) (sym none) (record { count_is = refl; each = λ x s at. absurd (let no : None ≡ Some s = at in cc) })
+module _ {A : Type 0} (state : A → State) where
+  pub none_opening : (settings : List RouterSettings) (routers : List A) → routers ≡ [] → AreAtOpeningUpTo settings 0 (map state routers)
+  none_opening settings routers none = subst (λ (l : List A). AreAtOpeningUpTo settings 0 (map state l)) (sym none) (record { count_is = refl; each = λ x s at. absurd (let no : None ≡ Some s = at in cc) })
 
-pub opening_more : (settings : List RouterSettings) (k : ℕ) (r : RouterSettings) (router : State) (old new : List State) → k < length settings → r ≡ get_or settings k r → new ≡ old ++ router ∷ [] →
-    IsOpening r router → IsAtRest router → AreAtOpeningUpTo settings k old → AreAtOpeningUpTo settings (k + 1) new
-opening_more settings k r router old new lt is p fresh kept h =
-    rw p (record {
-      count_is = let e = length-append old (router ∷ []) in let f = h.count_is in omega (arith, e, f);
-      each = each_more (λ x t. (q : RouterSettings) × (slice_get settings x ≡ Some q) × IsOpening q t × IsAtRest t) old router h.each
-          (rw h.count_is (r, slice_get_read settings (length settings) k r refl lt is, fresh, kept));
-    })
+  pub opening_more : (settings : List RouterSettings) (k : ℕ) (r : RouterSettings) (router : A) (old new : List A) → k < length settings → r ≡ get_or settings k r → new ≡ old ++ router ∷ [] →
+      IsOpening r (state router) → AreAtOpeningUpTo settings k (map state old) → AreAtOpeningUpTo settings (k + 1) (map state new)
+  opening_more settings k r router old new lt is p fresh h =
+      let one_more : map state new ≡ map state old ++ state router ∷ [] = ap (map state) p ∙ map-append state old (router ∷ []) in
+      rw one_more (record {
+        count_is = let e = length-append (map state old) (state router ∷ []) in let f = h.count_is in omega (arith, e, f);
+        each = each_more (λ x t. (q : RouterSettings) × (slice_get settings x ≡ Some q) × IsOpening q t) (map state old) (state router) h.each
+            (rw h.count_is (r, slice_get_read settings (length settings) k r refl lt is, fresh));
+      })
 
--- there is a router
-pub some_router : (s : Scenario) (routers : List State) → AreAtOpening s.routers routers → 0 < length routers
-some_router s routers h =
-    let least = s.sound_routers.routers.at_least in
-    omega (arith, least, h.count_is, length-map s.routers (λ (r : RouterSettings). r.name))
+  -- there is a router
+  pub some_router : (s : Scenario) (routers : List A) → AreAtOpening s.routers (map state routers) → 0 < length routers
+  some_router s routers h =
+      let least = s.sound_routers.routers.at_least in
+      omega (arith, least, h.count_is, length-map s.routers (λ (r : RouterSettings). r.name), length-map routers state)
 
 pub opening_sound : (case : Case) (routers : List State) (due : FirstTick) (last_ticks : ℕ) (progress : Progress) → IsCase case → IsOpeningProgress case.scenario.now.seed progress →
     IsAtFirstLine case.scenario.now routers due last_ticks → IsSoundScene case routers due last_ticks progress
@@ -51,8 +53,8 @@ opening_sound case routers due last_ticks progress is begun opens = record {
   };
   kept = record {
     count = opens.are.count_is;
-    settings = λ x t at. let (r, stands, fresh, kept) = opens.are.each x t at in rw fresh.settings_are stands;
-    kept = λ x t at. let (r, stands, fresh, kept) = opens.are.each x t at in kept;
+    settings = λ x t at. let (r, stands, fresh) = opens.are.each x t at in rw fresh.settings_are stands;
+    kept = λ x t at. let (r, stands, fresh) = opens.are.each x t at in kept_at_opening r t fresh;
   };
   first = opens.first;
   few = let none = opens.none in omega (arith, none);
@@ -64,7 +66,7 @@ opening_net case routers due last_ticks progress begun opens = record {
   scenario_is = refl;
   count = opens.are.count_is;
   opening = λ x settings state there at.
-      let (r, stands, fresh, kept) = opens.are.each x state at in
+      let (r, stands, fresh) = opens.are.each x state at in
       rw (same_at case.scenario.now.routers x settings r there stands) fresh;
   traffic = begun.traffic_is;
   last_ticks = opens.none;

@@ -7,13 +7,12 @@ use Rattle.mesh_trace.specs.machine.Machine.{IsOpening}
 use Rattle.mesh_trace.specs.machine.Net.{IsFirstDue}
 use Rattle.mesh_replay.specs.declared.checking.case.Progress.{Progress}
 use Rattle.mesh_replay.specs.declared.checking.scene.FirstTick.{FirstTick}
-use Rattle.mesh_replay.specs.Checking.Kept.{IsAtRest}
 
 -- the first routers, one for each settings, so many
 pub record AreAtOpeningUpTo (settings : List RouterSettings) (count : ℕ) (routers : List State) : Type 0 where
   pub count_is : length routers ≡ count
   pub each : (x : ℕ) (state : State) → slice_get routers x ≡ Some state →
-      (r : RouterSettings) × (slice_get settings x ≡ Some r) × IsOpening r state × IsAtRest state
+      (r : RouterSettings) × (slice_get settings x ≡ Some r) × IsOpening r state
 
 -- all routers
 abbrev pub AreAtOpening : List RouterSettings → List State → Type 0

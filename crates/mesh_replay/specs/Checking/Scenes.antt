@@ -1,9 +1,8 @@
 -- The network that is checked, and what comes of its next event.
-use Rattle.std.specs.Prelude.{◌≡◌, ◌<◌, ◌≤◌, ◌+◌, ℕ, List, [], length}
+use Rattle.std.specs.Prelude.{◌≡◌, ◌≤◌, ℕ, List, [], length}
 use Rattle.mesh_atoms.specs.State.{State}
-use Rattle.mesh_trace.specs.machine.Net.{NetState, IsFirstDue, TicksNext, HasOnlyLastTicks, HearsNext}
+use Rattle.mesh_trace.specs.machine.Net.{NetState, IsFirstDue}
 use Rattle.mesh_trace.specs.machine.NetRun.{IsOver}
-use Rattle.mesh_trace.specs.machine.Traffic.{Delivery, with_heard}
 use Rattle.mesh_replay.specs.declared.checking.case.Case.{Case}
 use Rattle.mesh_replay.specs.declared.checking.case.Progress.{Progress}
 use Rattle.mesh_replay.specs.declared.checking.scene.FirstTick.{FirstTick}
@@ -18,19 +17,6 @@ use Rattle.mesh_trace.specs.Positions.Leading.{Reaches}
 abbrev pub net_of : Case → List State → ℕ → Progress → NetState
 net_of case routers last_ticks progress =
     record { scenario = case.scenario.now; routers = routers; traffic = progress.traffic.traffic; last_ticks = last_ticks }
-
--- a frame is heard next, and is out of the air already
-pub record IsNextHearing (net : NetState) (d : Delivery) (routers : List State) (progress : Progress) : Type 0 where
-  pub others : List Delivery
-  pub next : HearsNext net d others
-  pub routers_are : net.routers ≡ routers
-  pub traffic_is : progress.traffic.traffic ≡ with_heard net.traffic others
-
--- router x ticks next at now, and then so many routers had their last tick
-pub data IsTickNext (net : NetState) (x now last_ticks : ℕ) : Type 0 where
-  Is_due : TicksNext net x now → last_ticks ≡ net.last_ticks → IsTickNext net x now last_ticks
-  Is_last : HasOnlyLastTicks net → net.last_ticks < length net.routers → x ≡ net.last_ticks → now ≡ net.scenario.end →
-      last_ticks ≡ net.last_ticks + 1 → IsTickNext net x now last_ticks
 
 -- lines lead to the network between events
 abbrev pub IsReachedNet : Case → NetState → Type 0

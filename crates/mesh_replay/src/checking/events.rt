@@ -9,26 +9,25 @@ use crate::checking::case::{Case, CheckedEvent, Progress};
 use crate::checking::frames::tell_outbox;
 use crate::checking::hellos::tell_hellos;
 use crate::checking::relays::tell_relays;
-use crate::checking::router::{CheckedRouter, EventLines};
+use crate::checking::router::{EventLines, RouterOfTrace};
 use crate::checking::tcs::tell_tcs;
-use mesh_expire::Bases;
 use std::alloc::{AllocError, Global};
 
 // Takes the lines of what an event sends: HELLOs, TCs, and what is forwarded.
-fn tell_sent<B: Bases>(
+fn tell_sent<R: RouterOfTrace>(
     alloc: Global,
     case: &Case,
     event: &CheckedEvent,
-    router: &CheckedRouter<B>,
+    router: &R,
     lines: &EventLines,
     progress: &mut Progress,
 ) -> Result<bool, AllocError>
     requires event { IsEventOf case.now event.now }
     requires progress { IsProgress case.now progress.old }
-    requires router { MayBeIn event.now router.now }
-    requires sound { IsSoundRouter router.now }
-    requires lines { HasLines router.now lines.now }
-    ensures { IfOk result (TellsItems case.now progress.old progress.new event.now (λ s. s ≡ router.now) (λ s. sent_items router.now lines.now) (λ s. [])) }
+    requires router { MayBeIn event.now (R.state router.now) }
+    requires sound { IsSoundRouter (R.state router.now) }
+    requires lines { HasLines (R.state router.now) lines.now }
+    ensures { IfOk result (TellsItems case.now progress.old progress.new event.now (λ s. s ≡ R.state router.now) (λ s. sent_items (R.state router.now) lines.now) (λ s. [])) }
 {
     if !tell_hellos(alloc, case, event, router, lines.hellos, progress)? {
         return Ok(false);
@@ -40,23 +39,23 @@ fn tell_sent<B: Bases>(
 }
 
 /// Takes the lines of an event behind the first: those of the relays, which its router then has, and of what it sends.
-pub(crate) fn tell_event<B: Bases>(
+pub(crate) fn tell_event<R: RouterOfTrace>(
     alloc: Global,
     case: &Case,
     event: &CheckedEvent,
-    router: &mut CheckedRouter<B>,
+    router: &mut R,
     lines: &EventLines,
     progress: &mut Progress,
 ) -> Result<bool, AllocError>
     requires event { IsEventOf case.now event.now }
     requires progress { IsProgress case.now progress.old }
-    requires begun { IsBegun event.now router.old lines.now.before }
-    requires lines { HasLines router.old lines.now }
-    ensures { IfOk result (TellsWholeEvent case.now progress.old progress.new event.now router.old (event_items router.old lines.now) router.new) }
+    requires begun { IsBegun event.now (R.state router.old) lines.now.before }
+    requires lines { HasLines (R.state router.old) lines.now }
+    ensures { IfOk result (TellsWholeEvent case.now progress.old progress.new event.now (R.state router.old) (event_items (R.state router.old) lines.now) (R.state router.new)) }
 {
     let Some(relays) = tell_relays(alloc, case, event, router, &lines.before, progress)? else {
         return Ok(false);
     };
-    let _none = std::mem::replace(&mut router.relays, relays);
+    router.take_relays(relays);
     tell_sent(alloc, case, event, router, lines, progress)
 }

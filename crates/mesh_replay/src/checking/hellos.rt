@@ -8,9 +8,8 @@ ghost use Rattle.mesh_replay.specs.Checking.Sending.{HasHello};
 use crate::checking::case::{Case, CheckedEvent, Progress};
 use crate::checking::frames::send_out;
 use crate::checking::octets::{DueMessage, take_message};
-use crate::checking::router::CheckedRouter;
+use crate::checking::router::RouterOfTrace;
 use mesh_atoms::Hello as HelloMessage;
-use mesh_expire::Bases;
 use std::alloc::{AllocError, Global};
 use std::rc::Rc;
 
@@ -45,40 +44,39 @@ fn tell_hello(
 }
 
 // Takes the lines of the HELLO that the router has on an interface.
-fn tell_hello_of<B: Bases>(
+fn tell_hello_of<R: RouterOfTrace>(
     alloc: Global,
     case: &Case,
     event: &CheckedEvent,
-    router: &CheckedRouter<B>,
+    router: &R,
     iface: usize,
     progress: &mut Progress,
 ) -> Result<bool, AllocError>
     requires event { IsEventOf case.now event.now }
     requires progress { IsProgress case.now progress.old }
-    requires router { MayBeIn event.now router.now }
-    requires sound { IsSoundRouter router.now }
+    requires router { MayBeIn event.now (R.state router.now) }
+    requires sound { IsSoundRouter (R.state router.now) }
     requires iface { iface < length event.now.settings.now.interfaces }
-    ensures { IfOk result (TellsItems case.now progress.old progress.new event.now (λ s. s ≡ router.now) (λ s. Hello iface ∷ []) (λ s. [])) }
+    ensures { IfOk result (TellsItems case.now progress.old progress.new event.now (λ s. s ≡ R.state router.now) (λ s. Hello iface ∷ []) (λ s. [])) }
 {
-    let nhdp = router.holding.nhdp();
-    let hello = nhdp.hello_now(alloc, iface, event.moment, &router.relays)?;
+    let hello = router.hello(alloc, iface)?;
     tell_hello(alloc, case, event, iface, &hello, progress)
 }
 
 /// Takes the lines of the HELLO that the router has on each interface, where they are due.
-pub(crate) fn tell_hellos<B: Bases>(
+pub(crate) fn tell_hellos<R: RouterOfTrace>(
     alloc: Global,
     case: &Case,
     event: &CheckedEvent,
-    router: &CheckedRouter<B>,
+    router: &R,
     due: bool,
     progress: &mut Progress,
 ) -> Result<bool, AllocError>
     requires event { IsEventOf case.now event.now }
     requires progress { IsProgress case.now progress.old }
-    requires router { MayBeIn event.now router.now }
-    requires sound { IsSoundRouter router.now }
-    ensures { IfOk result (TellsItems case.now progress.old progress.new event.now (λ s. s ≡ router.now) (λ s. hello_items router.now due) (λ s. [])) }
+    requires router { MayBeIn event.now (R.state router.now) }
+    requires sound { IsSoundRouter (R.state router.now) }
+    ensures { IfOk result (TellsItems case.now progress.old progress.new event.now (λ s. s ≡ R.state router.now) (λ s. hello_items (R.state router.now) due) (λ s. [])) }
 {
     if !due {
         return Ok(true);

@@ -10,12 +10,10 @@ ghost use Rattle.mesh_replay.specs.Checking.Texts.{ReadsNext, TakesNext, told_te
 
 use crate::checking::case::{Case, CheckedEvent, Progress};
 use crate::checking::lines::{DueLine, put_front, take_due};
-use crate::checking::router::{Before, CheckedRouter};
+use crate::checking::router::{Before, RouterOfTrace};
 use crate::checking::words::relays_in;
 use mesh_atoms::{Addr4, Relays, RouterSettings, Seq};
-use mesh_expire::Bases;
 use mesh_relay::serves;
-use mesh_routes::graph_of;
 use mesh_trace::Reader;
 use std::alloc::{AllocError, Global};
 
@@ -32,19 +30,19 @@ fn is_ascending(addrs: &[Addr4]) -> bool
 }
 
 // Whether the router may choose these relays, for an interface or for routing.
-fn may_be<B: Bases>(
+fn may_be<R: RouterOfTrace>(
     alloc: Global,
-    router: &CheckedRouter<B>,
+    router: &R,
     iface: Option<usize>,
     relays: &[Addr4],
 ) -> Result<bool, AllocError>
-    requires { IsSoundRouter router.now }
-    ensures { IfOk result (λ b. IsTrue b ↔ MayTell router.now iface relays.now) }
+    requires { IsSoundRouter (R.state router.now) }
+    ensures { IfOk result (λ b. IsTrue b ↔ MayTell (R.state router.now) iface relays.now) }
 {
     if !is_ascending(relays) {
         return Ok(false);
     }
-    let graph = graph_of(alloc, router.holding.nhdp(), router.settings(), iface)?;
+    let graph = router.graph(alloc, iface)?;
     serves(alloc, &graph, relays)
 }
 
@@ -68,18 +66,18 @@ fn relays_next(
 }
 
 // Takes the next line, where it tells relays that the router may choose.
-fn other_relays<B: Bases>(
+fn other_relays<R: RouterOfTrace>(
     alloc: Global,
     trace: &[u8],
     event: &CheckedEvent,
-    router: &CheckedRouter<B>,
+    router: &R,
     iface: Option<usize>,
     reader: &mut Reader,
 ) -> Result<Option<Seq<Addr4>>, AllocError>
     requires reading { IsReaderOf trace.now reader.old }
-    requires sound { IsSoundRouter router.now }
-    requires addresses { HasAddresses router.now }
-    ensures { IfOk result (TakesNext (MayTell router.now iface) (told_text event.now.settings.now iface) trace.now reader.old reader.new) }
+    requires sound { IsSoundRouter (R.state router.now) }
+    requires addresses { HasAddresses (R.state router.now) }
+    ensures { IfOk result (TakesNext (MayTell (R.state router.now) iface) (told_text event.now.settings.now iface) trace.now reader.old reader.new) }
 {
     let Some(relays) = relays_next(alloc, trace, event.settings, iface, reader)? else {
         return Ok(None);
@@ -131,18 +129,18 @@ fn same_relays(
 }
 
 // Takes a relay line, and gives the relays that it tells; `None` where the next line is none that fits.
-fn told_relays<B: Bases>(
+fn told_relays<R: RouterOfTrace>(
     alloc: Global,
     trace: &[u8],
     event: &CheckedEvent,
-    router: &CheckedRouter<B>,
+    router: &R,
     before: &Before,
     iface: Option<usize>,
     reader: &mut Reader,
 ) -> Result<Option<Seq<Addr4>>, AllocError>
     requires reading { IsReaderOf trace.now reader.old }
-    requires begun { IsBegun event.now router.now before.now }
-    ensures { IfOk result (TakesNext (MayTell router.now iface) (told_text event.now.settings.now iface) trace.now reader.old reader.new) }
+    requires begun { IsBegun event.now (R.state router.now) before.now }
+    ensures { IfOk result (TakesNext (MayTell (R.state router.now) iface) (told_text event.now.settings.now iface) trace.now reader.old reader.new) }
 {
     if let Some(relays) = same_relays(trace, event, before, iface, reader)? {
         return Ok(Some(relays));
@@ -151,17 +149,17 @@ fn told_relays<B: Bases>(
 }
 
 // Takes the lines of the flooding relays, and gives the relays of each interface; `None` where a line doesn't fit.
-fn tell_flooding<B: Bases>(
+fn tell_flooding<R: RouterOfTrace>(
     alloc: Global,
     case: &Case,
     event: &CheckedEvent,
-    router: &CheckedRouter<B>,
+    router: &R,
     before: &Before,
     progress: &mut Progress,
 ) -> Result<Option<Seq<Seq<Addr4>>>, AllocError>
     requires progress { IsProgress case.now progress.old }
-    requires begun { IsBegun event.now router.now before.now }
-    ensures { IfOk result (TellsFlooding case.now progress.old progress.new event.now router.now) }
+    requires begun { IsBegun event.now (R.state router.now) before.now }
+    ensures { IfOk result (TellsFlooding case.now progress.old progress.new event.now (R.state router.now)) }
 {
     let mut flooding = Seq::new(alloc);
     for iface in 0..event.settings.interfaces.len() {
@@ -183,17 +181,17 @@ fn tell_flooding<B: Bases>(
 }
 
 /// Takes the relay lines of an event, and gives the relays that they tell; `None` where one doesn't fit.
-pub(crate) fn tell_relays<B: Bases>(
+pub(crate) fn tell_relays<R: RouterOfTrace>(
     alloc: Global,
     case: &Case,
     event: &CheckedEvent,
-    router: &CheckedRouter<B>,
+    router: &R,
     before: &Before,
     progress: &mut Progress,
 ) -> Result<Option<Relays>, AllocError>
     requires progress { IsProgress case.now progress.old }
-    requires begun { IsBegun event.now router.now before.now }
-    ensures { IfOk result (TellsRelays case.now progress.old progress.new event.now router.now) }
+    requires begun { IsBegun event.now (R.state router.now) before.now }
+    ensures { IfOk result (TellsRelays case.now progress.old progress.new event.now (R.state router.now)) }
 {
     let Some(flooding) = tell_flooding(alloc, case, event, router, before, progress)? else {
         return Ok(None);

@@ -1,6 +1,4 @@
 //! The network that is checked.
-use crate::checking::router::CheckedRouter;
-use mesh_expire::Bases;
 
 /// The router that ticks first, and when.
 #[derive(Clone, Copy)]
@@ -11,17 +9,9 @@ pub(crate) struct FirstTick {
 
 /// The routers, the tick that is next, and how many routers had their tick at the end.
 #[derive(Drop)]
-pub(crate) struct CheckedNet<B: Bases> {
-    pub(crate) routers: Vec<CheckedRouter<B>>,
+pub(crate) struct CheckedNet<R> {
+    pub(crate) routers: Vec<R>,
     pub(crate) due: FirstTick,
-    pub(crate) last_ticks: usize,
-}
-
-/// A tick that is next: of which router, and when; and how many routers then had their tick at the end.
-#[derive(Clone, Copy)]
-pub(crate) struct NextTick {
-    pub(crate) router: usize,
-    pub(crate) moment: u64,
     pub(crate) last_ticks: usize,
 }
 

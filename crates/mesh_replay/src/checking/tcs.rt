@@ -10,10 +10,9 @@ ghost use Rattle.mesh_replay.specs.Checking.Sending.{AreDueRows, HasAnsn, HasTc}
 use crate::checking::case::{Case, CheckedEvent, Progress};
 use crate::checking::frames::{send_out, tell_further};
 use crate::checking::octets::{DueMessage, take_message};
-use crate::checking::router::{CheckedRouter, EventLines};
+use crate::checking::router::{EventLines, RouterOfTrace};
 use mesh_atoms::{Tc, TcRow};
 use mesh_bases::tc_of_rows;
-use mesh_expire::Bases;
 use mesh_topo::PartSpan;
 use std::alloc::{AllocError, Global};
 use std::rc::Rc;
@@ -111,26 +110,26 @@ fn tell_spans(
 }
 
 /// Takes the lines of the TCs that the router sends.
-pub(crate) fn tell_tcs<B: Bases>(
+pub(crate) fn tell_tcs<R: RouterOfTrace>(
     alloc: Global,
     case: &Case,
     event: &CheckedEvent,
-    router: &CheckedRouter<B>,
+    router: &R,
     lines: &EventLines,
     progress: &mut Progress,
 ) -> Result<bool, AllocError>
     requires event { IsEventOf case.now event.now }
     requires progress { IsProgress case.now progress.old }
-    requires router { MayBeIn event.now router.now }
-    requires sound { IsSoundRouter router.now }
-    requires within { AreWithinRows lines.now.parts router.now.rows }
-    ensures { IfOk result (TellsItems case.now progress.old progress.new event.now (λ s. s ≡ router.now)
-        (λ s. tc_items router.now lines.now.sequence lines.now.parts) (λ s. [])) }
+    requires router { MayBeIn event.now (R.state router.now) }
+    requires sound { IsSoundRouter (R.state router.now) }
+    requires within { AreWithinRows lines.now.parts (R.state router.now).rows }
+    ensures { IfOk result (TellsItems case.now progress.old progress.new event.now (λ s. s ≡ R.state router.now)
+        (λ s. tc_items (R.state router.now) lines.now.sequence lines.now.parts) (λ s. [])) }
 {
     let octets = event.settings.validity()?;
     let due = DueRows {
-        rows: router.rows.as_slice(),
-        ansn: router.ansn,
+        rows: router.rows(),
+        ansn: router.ansn(),
         validity: octets.as_slice(),
         complete: lines.parts.len() == 1,
     };

@@ -1,5 +1,5 @@
 //! Whether a whole trace is that of a run.
-ghost use Rattle.std.specs.Prelude.{◌≡◌, ◌↔◌, ℕ, length, IfOk};
+ghost use Rattle.std.specs.Prelude.{◌≡◌, ◌↔◌, ℕ, length, map, IfOk};
 ghost use Rattle.mesh_trace.specs.machine.Net.{NetState};
 ghost use Rattle.mesh_trace.specs.machine.NetRun.{IsOver};
 ghost use Rattle.mesh_replay.specs.Checking.Answers.{ReplayAnswers};
@@ -11,7 +11,9 @@ ghost use Rattle.mesh_trace.specs.Reading.Readers.{IsReaderOf};
 
 use crate::answer::Replay;
 use crate::checking::case::{Case, Progress};
+use crate::checking::checked::CheckedRouter;
 use crate::checking::opening::{opening_net, opening_progress, routers_of};
+use crate::checking::router::RouterOfTrace;
 use crate::checking::scene::{CheckedNet, Outcome};
 use crate::checking::step::next_event;
 use mesh_atoms::Scenario;
@@ -31,6 +33,17 @@ pub fn replay<B: Bases>(
         ↔ IsWholeTrace scenario.now (lines_of trace.now) × (lines ≡ length (lines_of trace.now))) }
     ensures no { IfOk result (λ answer. (line : ℕ) → answer ≡ Replay.No line ↔ IsUnfit scenario.now (lines_of trace.now) line) }
 {
+    replay_with::<CheckedRouter<B>>(alloc, scenario, trace)
+}
+
+// The same with routers that are given by their type.
+fn replay_with<R: RouterOfTrace>(
+    alloc: Global,
+    scenario: &Scenario,
+    trace: &[u8],
+) -> Result<Replay, AllocError>
+    ensures { IfOk result (ReplayAnswers scenario.now (lines_of trace.now)) }
+{
     let ways = ways_of(alloc, scenario.routers.as_slice(), scenario.arcs.as_slice())?;
     let case = Case {
         trace,
@@ -38,20 +51,20 @@ pub fn replay<B: Bases>(
         ways,
     };
     let mut progress = opening_progress(alloc, scenario);
-    let routers = routers_of::<B>(alloc, scenario.routers.as_slice())?;
+    let routers = routers_of::<R>(alloc, scenario.routers.as_slice())?;
     let mut scene = opening_net(routers);
     check(alloc, &case, &mut scene, &mut progress)
 }
 
 // Takes the lines of one event after the other, from where those that were read lead to.
-fn check<B: Bases>(
+fn check<R: RouterOfTrace>(
     alloc: Global,
     case: &Case,
-    scene: &mut CheckedNet<B>,
+    scene: &mut CheckedNet<R>,
     progress: &mut Progress,
 ) -> Result<Replay, AllocError>
-    requires sound { IsSoundScene case.now scene.old.routers.items scene.old.due scene.old.last_ticks progress.old }
-    requires read { HasRead case.now progress.old.reader (net_of case.now scene.old.routers.items scene.old.last_ticks progress.old) }
+    requires sound { IsSoundScene case.now (map R.state scene.old.routers.items) scene.old.due scene.old.last_ticks progress.old }
+    requires read { HasRead case.now progress.old.reader (net_of case.now (map R.state scene.old.routers.items) scene.old.last_ticks progress.old) }
     ensures { IfOk result (ReplayAnswers case.now.scenario.now (lines_of case.now.trace.now)) }
 {
     for _ in 0..u64::MAX {

@@ -1,28 +1,28 @@
 use Rattle.std.proofs.Common.{subst}
 use Rattle.mesh_atoms.proofs.Options.{if_ok_weaker}
 use Rattle.mesh_replay.specs.Checking.RelayLines.{TellsRelays}
-use Rattle.mesh_replay.proofs.CheckingLemmas.Ended.{event_not, event_told, in_again, lines_again, same_with, sound_again}
+use Rattle.mesh_replay.proofs.CheckingLemmas.Ended.{event_not, event_told, in_again, lines_again, sound_again}
 use Rattle.mesh_replay.proofs.checking.events.tell_event.Goals as goal
 
 pub returns-in_default : goal.returns-in_default
 returns-in_default g c =
-    event_not c.args.lines.now c.requires.begun.is_in (subst (TellsRelays c.args.case.now c.args.progress.now c.tell_relays.new.progress c.args.event.now c.args.router.now) c.in_default.is c.in_ok-relays.ensures)
+    event_not c.args.lines.now c.requires.begun.is_in (subst (TellsRelays c.args.case.now c.args.progress.now c.tell_relays.new.progress c.args.event.now (g.R.RouterOfTrace.state c.args.router.now)) c.in_default.is c.in_ok-relays.ensures)
 
 pub tell_sent-requires-clause-progress : goal.tell_sent-requires-clause-progress
 tell_sent-requires-clause-progress g c =
-    (subst (TellsRelays c.args.case.now c.args.progress.now c.tell_relays.new.progress c.args.event.now c.args.router.now) c.in-Some.is c.in_ok-relays.ensures).progress
+    (subst (TellsRelays c.args.case.now c.args.progress.now c.tell_relays.new.progress c.args.event.now (g.R.RouterOfTrace.state c.args.router.now)) c.in-Some.is c.in_ok-relays.ensures).progress
 
 pub tell_sent-requires-clause-router : goal.tell_sent-requires-clause-router
-tell_sent-requires-clause-router g c = in_again c.requires.begun.is_in (same_with c.router.view_is c.replace-none.ensures.after)
+tell_sent-requires-clause-router g c = in_again c.requires.begun.is_in c.take_relays.ensures
 
 pub tell_sent-requires-clause-sound : goal.tell_sent-requires-clause-sound
-tell_sent-requires-clause-sound g c = sound_again c.requires.begun.sound (same_with c.router.view_is c.replace-none.ensures.after)
+tell_sent-requires-clause-sound g c = sound_again c.requires.begun.sound c.take_relays.ensures
 
 pub tell_sent-requires-clause-lines : goal.tell_sent-requires-clause-lines
-tell_sent-requires-clause-lines g c = lines_again c.requires.lines (same_with c.router.view_is c.replace-none.ensures.after)
+tell_sent-requires-clause-lines g c = lines_again c.requires.lines c.take_relays.ensures
 
 pub returns : goal.returns
 returns g c =
-    let had = subst (TellsRelays c.args.case.now c.args.progress.now c.tell_relays.new.progress c.args.event.now c.args.router.now) c.in-Some.is c.in_ok-relays.ensures in
+    let had = subst (TellsRelays c.args.case.now c.args.progress.now c.tell_relays.new.progress c.args.event.now (g.R.RouterOfTrace.state c.args.router.now)) c.in-Some.is c.in_ok-relays.ensures in
     if_ok_weaker c.tell_sent.result
-    (λ fits tells. event_told c.args.lines.now c.requires.begun.is_in c.requires.begun.sound had (same_with c.router.view_is c.replace-none.ensures.after) tells) c.tell_sent.ensures
+    (λ fits tells. event_told c.args.lines.now c.requires.begun.is_in c.requires.begun.sound had c.take_relays.ensures tells) c.tell_sent.ensures

@@ -8,7 +8,7 @@ use Rattle.mesh_replay.proofs.checking.events.tell_sent.Goals as goal
 pub returns-then-not-branch : goal.returns-then-not-branch
 returns-then-not-branch g c =
     let bad : c.in_ok-tell_hellos.field-0 ≡ false = search rules in
-    tells_not_behind (λ s. tc_items c.args.router.now c.args.lines.now.sequence c.args.lines.now.parts ++ map Sent c.args.lines.now.out) c.in_ok-tell_hellos.ensures bad
+    tells_not_behind (λ s. tc_items (g.R.RouterOfTrace.state c.args.router.now) c.args.lines.now.sequence c.args.lines.now.parts ++ map Sent c.args.lines.now.out) c.in_ok-tell_hellos.ensures bad
 
 pub returns-then-not-branch-2 : goal.returns-then-not-branch-2
 returns-then-not-branch-2 g c =

@@ -1,5 +1,6 @@
+use Rattle.std.specs.Prelude.{map}
 use Rattle.mesh_trace.proofs.machine.FirstDue.{IsFirstOf}
 use Rattle.mesh_replay.proofs.checking.opening.first_due.Given as goal
 
 abbrev pub invariant-loop-router : goal.invariant-loop-router
-invariant-loop-router g l = IsFirstOf l.routers.items l.router l.first.router l.first.moment
+invariant-loop-router g l = IsFirstOf (map g.R.RouterOfTrace.state l.routers.items) l.router l.first.router l.first.moment

@@ -7,16 +7,16 @@ use Rattle.mesh_replay.proofs.checking.relays.other_relays.Goals as goal
 
 pub returns-in_default : goal.returns-in_default
 returns-in_default g c =
-    takes_none (λ relays may. all_wide relays (are_wide c.args.router.now c.args.iface relays c.requires.addresses may)) c.in_ok-relays.ensures c.in_default.is
+    takes_none (λ relays may. all_wide relays (are_wide (g.R.RouterOfTrace.state c.args.router.now) c.args.iface relays c.requires.addresses may)) c.in_ok-relays.ensures c.in_default.is
 
 pub returns-then-not-branch : goal.returns-then-not-branch
 returns-then-not-branch g c =
     let bad : c.in_ok-may_be.field-0 ≡ false = search rules in
-    takes_not (λ relays may. all_wide relays (are_wide c.args.router.now c.args.iface relays c.requires.addresses may)) c.in_ok-relays.ensures c.in-Some.relays c.in-Some.is
-    (subst (λ l. IsTrue c.in_ok-may_be.field-0 ↔ MayTell c.args.router.now c.args.iface l) c.as_slice.ensures c.in_ok-may_be.ensures) bad
+    takes_not (λ relays may. all_wide relays (are_wide (g.R.RouterOfTrace.state c.args.router.now) c.args.iface relays c.requires.addresses may)) c.in_ok-relays.ensures c.in-Some.relays c.in-Some.is
+    (subst (λ l. IsTrue c.in_ok-may_be.field-0 ↔ MayTell (g.R.RouterOfTrace.state c.args.router.now) c.args.iface l) c.as_slice.ensures c.in_ok-may_be.ensures) bad
 
 pub returns : goal.returns
 returns g c =
     let good : c.in_ok-may_be.field-0 ≡ true = search rules in
-    takes_one (λ relays may. all_wide relays (are_wide c.args.router.now c.args.iface relays c.requires.addresses may)) c.in_ok-relays.ensures c.in-Some.relays c.in-Some.is
-    (subst (λ l. MayTell c.args.router.now c.args.iface l) c.as_slice.ensures (c.in_ok-may_be.ensures.0 good)) c.take.ensures.took.0 c.take.ensures.took.1 c.take.ensures.reading
+    takes_one (λ relays may. all_wide relays (are_wide (g.R.RouterOfTrace.state c.args.router.now) c.args.iface relays c.requires.addresses may)) c.in_ok-relays.ensures c.in-Some.relays c.in-Some.is
+    (subst (λ l. MayTell (g.R.RouterOfTrace.state c.args.router.now) c.args.iface l) c.as_slice.ensures (c.in_ok-may_be.ensures.0 good)) c.take.ensures.took.0 c.take.ensures.took.1 c.take.ensures.reading

@@ -9,19 +9,19 @@ loop-iface-init g c = told_nothing c.requires.begun.none c.requires.progress _ c
 
 pub returns-in-None : goal.returns-in-None
 returns-in-None g c =
-    let inside : c.loop-iface.iface < length c.args.router.now.settings.interfaces =
+    let inside : c.loop-iface.iface < length (g.R.RouterOfTrace.state c.args.router.now).settings.interfaces =
     (let a = c.loop-iface-test.true in let b = c.len-iface-end.ensures in let d = ap (λ (r : RouterSettings). length r.interfaces) c.requires.begun.is_in.settings in omega (arith, a, b, d)) in
     stops_flooding c.requires.begun.is_in c.loop-iface.invariant inside c.in_ok-relays.ensures c.in-None.is
 
 pub loop-iface-preserved : goal.loop-iface-preserved
 loop-iface-preserved g c =
-    let inside : c.loop-iface.iface < length c.args.router.now.settings.interfaces =
+    let inside : c.loop-iface.iface < length (g.R.RouterOfTrace.state c.args.router.now).settings.interfaces =
     (let a = c.loop-iface-test.true in let b = c.len-iface-end.ensures in let d = ap (λ (r : RouterSettings). length r.interfaces) c.requires.begun.is_in.settings in omega (arith, a, b, d)) in
     told_more c.requires.begun.is_in c.loop-iface.invariant inside c.in_ok-relays.ensures c.in-Some.is c.in_ok-push-in-Some.ensures.ok
 
 pub returns : goal.returns
 returns g c =
-    let all : c.loop-iface.iface ≡ length c.args.router.now.settings.interfaces =
+    let all : c.loop-iface.iface ≡ length (g.R.RouterOfTrace.state c.args.router.now).settings.interfaces =
     (let a = c.loop-iface-test.false in let b = c.len-iface-end.ensures in let d = ap (λ (r : RouterSettings). length r.interfaces) c.requires.begun.is_in.settings in
     let e = c.loop-iface.auto.iface-end in omega (arith, a, b, d, e)) in
-    subst (λ (n : ℕ). HasTold c.args.case.now c.args.progress.now c.loop-iface.progress c.args.event.now.router c.args.router.now n c.loop-iface.flooding) all c.loop-iface.invariant
+    subst (λ (n : ℕ). HasTold c.args.case.now c.args.progress.now c.loop-iface.progress c.args.event.now.router (g.R.RouterOfTrace.state c.args.router.now) n c.loop-iface.flooding) all c.loop-iface.invariant

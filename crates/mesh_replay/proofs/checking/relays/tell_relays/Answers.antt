@@ -4,14 +4,14 @@ use Rattle.mesh_replay.proofs.RelaysLemmas.Floods.{stops_routing, told_all}
 use Rattle.mesh_replay.proofs.checking.relays.tell_relays.Goals as goal
 
 pub returns-in_default : goal.returns-in_default
-returns-in_default g c = subst (TellsFlooding c.args.case.now c.args.progress.now c.tell_flooding.new.progress c.args.event.now c.args.router.now) c.in_default.is c.in_ok-flooding.ensures
+returns-in_default g c = subst (TellsFlooding c.args.case.now c.args.progress.now c.tell_flooding.new.progress c.args.event.now (g.R.RouterOfTrace.state c.args.router.now)) c.in_default.is c.in_ok-flooding.ensures
 
 pub returns-in-Some-routing : goal.returns-in-Some-routing
 returns-in-Some-routing g c =
-    let had = subst (TellsFlooding c.args.case.now c.args.progress.now c.tell_flooding.new.progress c.args.event.now c.args.router.now) c.in-Some.is c.in_ok-flooding.ensures in
+    let had = subst (TellsFlooding c.args.case.now c.args.progress.now c.tell_flooding.new.progress c.args.event.now (g.R.RouterOfTrace.state c.args.router.now)) c.in-Some.is c.in_ok-flooding.ensures in
     told_all c.requires.begun.is_in had refl c.in_ok-routing.ensures c.in-Some-routing.is
 
 pub returns-in-None : goal.returns-in-None
 returns-in-None g c =
-    let had = subst (TellsFlooding c.args.case.now c.args.progress.now c.tell_flooding.new.progress c.args.event.now c.args.router.now) c.in-Some.is c.in_ok-flooding.ensures in
+    let had = subst (TellsFlooding c.args.case.now c.args.progress.now c.tell_flooding.new.progress c.args.event.now (g.R.RouterOfTrace.state c.args.router.now)) c.in-Some.is c.in_ok-flooding.ensures in
     stops_routing c.requires.begun.is_in had refl c.in_ok-routing.ensures c.in-None.is

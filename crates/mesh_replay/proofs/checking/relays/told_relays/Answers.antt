@@ -7,8 +7,8 @@ use Rattle.mesh_replay.proofs.checking.relays.told_relays.Goals as goal
 
 pub returns-in-Some : goal.returns-in-Some
 returns-in-Some g c =
-    takes_so (MayTell c.args.router.now c.args.iface) c.in-Some.relays c.in_ok-relays.ensures c.in-Some.is
-    (again_may c.args.router.now c.args.before.now c.args.iface c.in-Some.relays c.requires.begun.stand)
+    takes_so (MayTell (g.R.RouterOfTrace.state c.args.router.now) c.args.iface) c.in-Some.relays c.in_ok-relays.ensures c.in-Some.is
+    (again_may (g.R.RouterOfTrace.state c.args.router.now) c.args.before.now c.args.iface c.in-Some.relays c.requires.begun.stand)
 
 pub returns : goal.returns
 returns g c = if_ok_weaker c.other_relays.result (λ told takes. takes_later (c.in_ok-relays.ensures.still (is_nothing c.in_ok-relays.field-0 c.in_default.is)) takes) c.other_relays.ensures

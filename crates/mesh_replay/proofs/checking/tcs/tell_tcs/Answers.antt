@@ -1,4 +1,4 @@
-use Rattle.std.proofs.Common.{ℕ, sym, ◌∙◌, ap, List, length}
+use Rattle.std.proofs.Common.{ℕ, ◌∙◌, sym, ap, List, length}
 use Rattle.std.specs.Prelude.{nat_eq}
 use Rattle.mesh_atoms.specs.declared.tc.TcRow.{TcRow}
 use Rattle.mesh_atoms.specs.State.{State}
@@ -12,7 +12,7 @@ pub returns : goal.returns
 returns g c =
     let lines = c.args.lines.now in
     if_ok_weaker c.tell_spans.result (λ fits tells. tells_where (tells_as tells (λ s.
-    ap (λ (n : ℕ). span_items (nat_eq n 1) lines.sequence c.as_slice.result.now c.as_slice-3.result.now) c.len.ensures
-    ∙ (ap (λ (l : List TcRow). span_items (nat_eq (length lines.parts) 1) lines.sequence l c.as_slice-3.result.now) (c.as_slice.ensures ∙ ap (λ (s : State). s.rows) c.router.view_is)
-    ∙ ap (λ (l : List PartSpan). span_items (nat_eq (length lines.parts) 1) lines.sequence c.args.router.now.rows l) c.as_slice-3.ensures)))
-    (λ s is same. ap (λ (t : State). t.ansn) same ∙ sym (ap (λ (t : State). t.ansn) c.router.view_is))) c.tell_spans.ensures
+    ap (λ (n : ℕ). span_items (nat_eq n 1) lines.sequence c.rows.result.now c.as_slice-2.result.now) c.len.ensures
+    ∙ (ap (λ (l : List TcRow). span_items (nat_eq (length lines.parts) 1) lines.sequence l c.as_slice-2.result.now) c.rows.ensures
+    ∙ ap (λ (l : List PartSpan). span_items (nat_eq (length lines.parts) 1) lines.sequence (g.R.RouterOfTrace.state c.args.router.now).rows l) c.as_slice-2.ensures)))
+    (λ s is same. ap (λ (t : State). t.ansn) same ∙ sym c.ansn.ensures)) c.tell_spans.ensures

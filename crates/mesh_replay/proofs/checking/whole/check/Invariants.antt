@@ -1,3 +1,4 @@
+use Rattle.std.specs.Prelude.{map}
 use Rattle.mesh_replay.specs.Checking.Reached.{HasRead}
 use Rattle.mesh_replay.specs.Checking.Scenes.{IsSoundScene, net_of}
 use Rattle.mesh_replay.proofs.checking.whole.check.Given as goal
@@ -5,6 +6,6 @@ use Rattle.mesh_replay.proofs.checking.whole.check.Given as goal
 -- the lines of the events so far lead here
 abbrev pub invariant-loop : goal.invariant-loop
 invariant-loop g l = record {
-  sound : IsSoundScene l.case l.scene.routers.items l.scene.due l.scene.last_ticks l.progress;
-  read : HasRead l.case l.progress.reader (net_of l.case l.scene.routers.items l.scene.last_ticks l.progress);
+  sound : IsSoundScene l.case (map g.R.RouterOfTrace.state l.scene.routers.items) l.scene.due l.scene.last_ticks l.progress;
+  read : HasRead l.case l.progress.reader (net_of l.case (map g.R.RouterOfTrace.state l.scene.routers.items) l.scene.last_ticks l.progress);
 }

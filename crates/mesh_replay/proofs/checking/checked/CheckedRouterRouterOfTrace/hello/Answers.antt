@@ -1,0 +1,8 @@
+use Rattle.std.proofs.Common.{refl, sym}
+use Rattle.mesh_atoms.proofs.Options.{if_ok_weaker}
+use Rattle.mesh_replay.specs.Checking.Kept.{state_of}
+use Rattle.mesh_replay.proofs.checking.checked.CheckedRouterRouterOfTrace.hello.Goals as goal
+
+pub returns : goal.returns
+returns g c =
+    if_ok_weaker c.hello_now.result (λ hello is. is (state_of c.args.self.now.holding c.args.self.now.derived) (sym c.nhdp.ensures.settings) (sym c.nhdp.ensures.near) refl) c.hello_now.ensures.ok
