@@ -3,9 +3,7 @@ pub mod CommandLemmas  -- tool
 -- Lemmas of this crate alone.
 mod CheckingLemmas
 mod FramesLemmas
-mod HeardLemmas
 mod RelaysLemmas
 mod RouterLemmas
 mod SceneLemmas
-mod TicksLemmas
 mod TrafficLemmas

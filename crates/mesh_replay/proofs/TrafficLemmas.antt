@@ -1,2 +1,1 @@
-pub mod Flying
 pub mod Hearing

@@ -1,39 +1,42 @@
--- The next event, which its line opens.
-use Rattle.std.proofs.Common.{◌≡◌, ◌<◌, ℕ, List, map, length, get_or, arith, [], ◌∷◌, ◌++◌, refl, sym, ◌∙◌, subst, append-nil, set-set, Bool, true, false, Some, inl, inr}
-use Rattle.std.specs.Prelude.{slice_get, slice_set}
-use Rattle.std.proofs.lemmas.List.{length-map}
-use Rattle.std.proofs.lemmas.Option.{slice_get_read, slice_get_within}
-use Rattle.mesh_atoms.specs.declared.addr.Addr4.{Addr4}
-use Rattle.mesh_atoms.specs.declared.codes.metric.Metric.{Metric}
-use Rattle.mesh_atoms.specs.declared.settings.RouterSettings.{RouterSettings}
-use Rattle.mesh_atoms.specs.declared.settings.Scenario.{Scenario}
-use Rattle.mesh_atoms.specs.declared.tc.TcRow.{TcRow}
+-- The next event: its line, and what follows it.
+use Rattle.std.proofs.Common.{◌≡◌, ℕ, List, [], ◌++◌, refl, sym, ◌∙◌, subst, Bool, true, false, ◌<◌, map, length, get_or, arith, ◌∷◌, append-nil, set-set, Some, inl, inr}
 use Rattle.mesh_atoms.specs.declared.tuples.Relays.{Relays}
-use Rattle.mesh_atoms.specs.Advertised.{GivesAsSelector, AreTcRows}
+use Rattle.mesh_atoms.specs.RelayGraphs.{AreRelays}
 use Rattle.mesh_atoms.specs.State.{State}
-use Rattle.mesh_trace.specs.machine.Net.{NetState}
-use Rattle.mesh_trace.specs.machine.Traffic.{Traffic}
-use Rattle.mesh_trace.specs.declared.reading.Reader.{Reader}
 use Rattle.mesh_trace.specs.Positions.Alike.{HasAddresses}
-use Rattle.mesh_trace.specs.Positions.Leading.{Reaches}
-use Rattle.mesh_trace.specs.Positions.Standing.{Item, TracePosition, with_state, with_traffic}
-use Rattle.mesh_trace.proofs.machine.Places.{mapped_at, same_at, set_at}
-use Rattle.mesh_trace.proofs.machine.topo.AdvertisedLemmas.Advertising.{same_row}
-use Rattle.mesh_trace.proofs.PositionsLemmas.Addresses.{positions_have_addresses}
-use Rattle.mesh_trace.proofs.PositionsLemmas.AlikeNets.{set_length}
-use Rattle.mesh_trace.proofs.PositionsLemmas.Walks.{leads_on as walks_on}
+use Rattle.mesh_trace.specs.Positions.Standing.{Item, relay_items, TracePosition, with_state, with_traffic}
 use Rattle.mesh_replay.specs.declared.checking.case.Case.{Case}
 use Rattle.mesh_replay.specs.declared.checking.case.CheckedEvent.{CheckedEvent}
 use Rattle.mesh_replay.specs.declared.checking.case.Progress.{Progress}
+use Rattle.mesh_replay.specs.declared.checking.router.EventLines.{EventLines}
+use Rattle.mesh_replay.specs.Checking.Cases.{MayBeIn, IsProgress, LeadsPast, TellsItems}
+use Rattle.mesh_replay.specs.Checking.Ending.{EndsEvent, MayBegin, TellsWholeEvent, KeepsRouters}
+use Rattle.mesh_replay.specs.Checking.Events.{BeginsEvent}
+use Rattle.mesh_replay.specs.Checking.Kept.{HasLines, IsSoundRouter, event_items, sent_items, with_relays, AreAtRest, IsAtRest}
+use Rattle.mesh_replay.specs.Checking.RelayLines.{HasRelays, IsBegun, StopsRelays}
+use Rattle.mesh_replay.proofs.CheckingLemmas.Telling.{leads_before, leads_not, leads_nowhere, leads_on, went_one, stops_here, goes_on, goes_not}
+use Rattle.std.specs.Prelude.{slice_get, slice_set}
+use Rattle.std.proofs.lemmas.List.{length-map}
+use Rattle.std.proofs.lemmas.Option.{slice_get_read, slice_get_within}
+use Rattle.mesh_atoms.specs.declared.settings.RouterSettings.{RouterSettings}
+use Rattle.mesh_atoms.specs.declared.settings.Scenario.{Scenario}
+use Rattle.mesh_bases.proofs.RowMoments.{rows_stay}
+use Rattle.mesh_trace.specs.machine.Net.{NetState}
+use Rattle.mesh_trace.specs.machine.Traffic.{Traffic}
+use Rattle.mesh_trace.specs.declared.reading.Reader.{Reader}
+use Rattle.mesh_trace.specs.Positions.Leading.{Reaches}
+use Rattle.mesh_trace.proofs.machine.Places.{mapped_at, same_at, set_at}
+use Rattle.mesh_trace.proofs.PositionsLemmas.Addresses.{positions_have_addresses}
+use Rattle.mesh_trace.proofs.PositionsLemmas.AlikeNets.{set_length}
+use Rattle.mesh_trace.proofs.PositionsLemmas.Walks.{leads_on as walks_on}
 use Rattle.mesh_replay.specs.declared.checking.next.ComingFrame.{ComingFrame}
 use Rattle.mesh_replay.specs.declared.checking.next.NextEvent.{NextEvent}
-use Rattle.mesh_replay.specs.Checking.Ending.{EndsEvent, KeepsRouters, MayBegin}
 use Rattle.mesh_replay.specs.Checking.Going.{at, FitsOrStops}
-use Rattle.mesh_replay.specs.Checking.Kept.{AreAtRest, IsAtRest, IsSoundRouter, with_relays}
 use Rattle.mesh_replay.specs.Checking.Next.{EventBy, IsComing, IsNextEvent, OpensAlone, opening_text}
 use Rattle.mesh_replay.specs.Checking.Scenes.{IsReachedNet, net_of}
 use Rattle.mesh_replay.specs.Checking.Texts.{TakesText}
-use Rattle.mesh_replay.proofs.CheckingLemmas.Going.{went_one, stops_here, goes_on, goes_not}
+
+-- ---- The next event, which its line opens.
 
 -- the next line is another
 opened_not : {net after : NetState} {y x : ℕ} {text : List ℕ} {By : State → List Item → Type 0} {trace : List ℕ} {old new : Reader} {reads : Bool} → OpensAlone net y text x By after →
@@ -64,21 +67,8 @@ opened_addresses {net} {after} {y} {x} opens takes good s lines (first, is_first
 
 -- ---- other relays
 
-rows_with : (s : State) (relays : Relays) (rows : List TcRow) → AreTcRows s rows → AreTcRows (with_relays s relays) rows
-rows_with s relays rows are =
-    let t = with_relays s relays in
-    let to : (a o : Addr4) (m : Metric) → GivesAsSelector s a o m → GivesAsSelector t a o m = λ a o m g. record { neighbour = g.neighbour; symmetric = g.symmetric; selects = g.selects; metric = g.metric; address = g.address } in
-    let back : (a o : Addr4) (m : Metric) → GivesAsSelector t a o m → GivesAsSelector s a o m = λ a o m g. record { neighbour = g.neighbour; symmetric = g.symmetric; selects = g.selects; metric = g.metric; address = g.address } in
-    record {
-      exactly = λ row. (
-        λ has. same_row (GivesAsSelector s) (GivesAsSelector t) (λ a o m. (to a o m, back a o m)) s.settings.attached row ((are.exactly row).0 has),
-        λ is. (are.exactly row).1 (same_row (GivesAsSelector t) (GivesAsSelector s) (λ a o m. (back a o m, to a o m)) s.settings.attached row is),
-      );
-      ordered = are.ordered;
-    }
-
 pub sound_with : (s : State) (relays : Relays) → IsSoundRouter s → IsSoundRouter (with_relays s relays)
-sound_with s relays sound = record { bases = sound.bases; rows = rows_with s relays s.rows sound.rows }
+sound_with s relays sound = record { bases = sound.bases; rows = rows_stay s (with_relays s relays) (λ o n. (λ has. has, λ has. has)) refl s.rows sound.rows }
 
 -- ---- all routers
 
@@ -152,3 +142,53 @@ module _ (case : Case) (old : Progress) (next : NextEvent) {routers : List State
       subst (λ (x : ℕ). OpensAlone (net_of case routers count before) y (opening_text settings next.moment next.heard) x (EventBy next.moment next.heard was) (net_of case routers next.last_ticks old) →
       FitsOrStops case.trace.now old.reader new.reader (at (net_of case routers count before) y []) (at (net_of case (slice_set routers x t) next.last_ticks new) x []) fits) place
       (λ o. opened_on o takes good ends refl refl) (opens y)
+
+-- ---- The relays of an event are told, and then what it sends.
+
+-- the relay lines don't all fit
+pub event_not : {case : Case} {old new : Progress} {event : CheckedEvent} {s : State} (lines : EventLines) → MayBeIn event s → StopsRelays case old new event.router s → TellsWholeEvent case old new event s (event_items s lines) s false
+event_not {s = s} lines is_in stops =
+    record { progress = stops.progress; settings = is_in.settings; kept = λ yes. absurd cc; leads = leads_not (leads_before (sent_items s lines) stops.stops) refl }
+
+-- the router with the relays that were told
+pub in_again : {event : CheckedEvent} {s t : State} {relays : Relays} → MayBeIn event s → t ≡ with_relays s relays → MayBeIn event t
+in_again {event} is_in t_is = subst (MayBeIn event) (sym t_is) (record { settings = is_in.settings; last = is_in.last })
+
+pub sound_again : {s t : State} {relays : Relays} → IsSoundRouter s → t ≡ with_relays s relays → IsSoundRouter t
+sound_again {s} {relays = relays} sound t_is = subst IsSoundRouter (sym t_is) (sound_with s relays sound)
+
+pub lines_again : {s t : State} {relays : Relays} {lines : EventLines} → HasLines s lines → t ≡ with_relays s relays → HasLines t lines
+lines_again {lines = lines} has t_is = subst (λ (u : State). HasLines u lines) (sym t_is) (record { within = has.within; faces = has.faces })
+
+-- and what is sent
+pub event_told : {case : Case} {old mid new : Progress} {event : CheckedEvent} {s t : State} {relays : Relays} {fits : Bool} (lines : EventLines) → MayBeIn event s → IsSoundRouter s → HasRelays case old mid event.router s relays →
+    t ≡ with_relays s relays → TellsItems case mid new event (λ u. u ≡ t) (λ u. sent_items t lines) (λ u. []) fits → TellsWholeEvent case old new event s (event_items s lines) t fits
+event_told {case} {old} {mid} {new} {event} {s} {t} {fits = fits} lines is_in sound has t_is sent = record {
+  progress = sent.progress;
+  settings = (in_again is_in t_is).settings;
+  kept = λ yes. record { sound = sound_again sound t_is; relays = subst (λ (u : State). AreRelays u u.last) (sym t_is) has.chosen };
+  leads = subst (λ (u : State). LeadsPast case mid new event.router t t (sent_items u lines) [] fits → LeadsPast case old new event.router s t (relay_items s.settings ++ sent_items s lines) [] fits) (sym t_is)
+      (λ leads. leads_on (leads_before (sent_items s lines) (subst (λ (u : State). LeadsPast case old mid event.router s u (relay_items s.settings) [] true) (sym t_is) has.leads)) refl leads)
+      (sent.told t (in_again is_in t_is) refl);
+}
+
+-- an event that begins
+pub begun_by : {event : CheckedEvent} {was is : State} {now : ℕ} {By : State → List Item → Type 0} {lines : EventLines} → MayBegin event was By → BeginsEvent was now is lines → now ≡ event.moment → HasAddresses is →
+    IsBegun event is lines.before
+begun_by may begins moment addresses = record {
+  is_in = record { settings = begins.follows.settings ∙ may.settings; last = begins.follows.last ∙ moment };
+  sound = begins.sound;
+  addresses = addresses;
+  none = begins.follows.relays;
+  stand = begins.stand;
+}
+
+-- a frame with a fault changes nothing, and nothing is told behind its line
+pub refused_ends : {case : Case} {progress : Progress} {event : CheckedEvent} {was : State} {By : State → List Item → Type 0} → MayBegin event was By → IsProgress case progress → By was [] →
+    EndsEvent case progress progress event By was true
+refused_ends {was = was} may progress by = record {
+  is = was;
+  left = [];
+  by = by;
+  tells = record { progress = progress; settings = may.settings; kept = λ yes. may.kept; leads = leads_nowhere };
+}

@@ -1,25 +1,68 @@
--- Items of an event that are told, one after the other.
-use Rattle.std.proofs.Common.{◌≡◌, ℕ, zero, suc, List, [], ◌∷◌, ◌++◌, refl, sym, ap, subst, append_assoc, Bool, true, false, set-set}
+-- Lines that are read lead on, and so items of an event are told.
+use Rattle.std.proofs.Common.{ℕ, List, [], ◌∷◌, ◌++◌, refl, sym, ◌∙◌, ap, append_assoc, length-append, arith, Bool, true, false, ◌≡◌, zero, suc, subst, set-set}
+use Rattle.mesh_trace.specs.declared.reading.Reader.{Reader}
+use Rattle.mesh_trace.specs.Positions.Leading.{LineLeads}
+use Rattle.mesh_trace.specs.Positions.Standing.{TracePosition, IsDone, Item, with_state, with_traffic}
+use Rattle.mesh_trace.specs.Reading.Readers.{lines_from, IsReaderOf}
+use Rattle.mesh_trace.proofs.PositionsLemmas.Walks.{leads_on as walks_on}
+use Rattle.mesh_replay.specs.Checking.Going.{Went, NothingLeadsOn, StopsBefore, FitsOrStops, at}
+use Rattle.mesh_replay.specs.Checking.Texts.{IsStill, TookText}
 use Rattle.std.specs.Prelude.{slice_get, slice_set, Some}
 use Rattle.mesh_atoms.specs.State.{State}
-use Rattle.mesh_trace.specs.machine.Net.{NetState}
 use Rattle.mesh_trace.specs.machine.Traffic.{Traffic as Flights}
-use Rattle.mesh_trace.specs.Positions.Standing.{Item, with_state, with_traffic}
 use Rattle.mesh_replay.specs.declared.checking.case.Case.{Case}
 use Rattle.mesh_replay.specs.declared.checking.case.CheckedEvent.{CheckedEvent}
 use Rattle.mesh_replay.specs.declared.checking.case.Progress.{Progress}
-use Rattle.mesh_trace.specs.declared.reading.Reader.{Reader}
-use Rattle.mesh_trace.specs.Reading.Readers.{IsReaderOf}
-use Rattle.mesh_replay.specs.Checking.Cases.{MayBeIn, IsProgress, LeadsPast, StandsIn, TellsItems}
-use Rattle.mesh_replay.specs.Checking.Going.{at, FitsOrStops}
-use Rattle.mesh_replay.proofs.CheckingLemmas.Going.{went_nowhere, goes_on, goes_there, goes_not}
+use Rattle.mesh_replay.specs.Checking.Cases.{MayBeIn, IsProgress, LeadsPast, TellsItems}
 use Rattle.mesh_atoms.proofs.Lists.{set_here}
 
--- ---- of one state of the router
+-- ---- Lines that are read lead on, one after the other.
 
--- where it stands once items were told
-pub stands_on : {case : Case} {old new : Progress} {x : ℕ} {s t : State} {net : NetState} → StandsIn case old x s net → StandsIn case new x t (with_traffic (with_state net x t) new.traffic.traffic)
-stands_on {x = x} {s = s} {t = t} {net = net} is = record { scenario = is.scenario; traffic = refl; stands = set_here net.routers x t s is.stands }
+-- no line was read
+pub went_nowhere : {trace : List ℕ} {reader : Reader} {p : TracePosition} → Went trace reader reader p p
+went_nowhere = record { lines = []; leads = refl; read = refl; taken = omega arith }
+
+-- one line was read, which leads on
+pub went_one : {trace : List ℕ} {old new : Reader} {text : List ℕ} {p q : TracePosition} → (took : TookText trace old new text) → LineLeads p took.line q → Went trace old new p q
+went_one {q = q} took leads = record { lines = took.line ∷ []; leads = (q, leads, refl); read = took.lines; taken = took.taken }
+
+-- then more lines
+pub went_on : {trace : List ℕ} {old mid new : Reader} {p q r : TracePosition} → Went trace old mid p q → Went trace mid new q r → Went trace old new p r
+went_on {trace} {new = new} {p = p} {q = q} {r = r} one more = record {
+  lines = one.lines ++ more.lines;
+  leads = walks_on p q r one.lines more.lines one.leads more.leads;
+  read = one.read ∙ (ap (λ (l : List (List ℕ)). one.lines ++ l) more.read ∙ sym (append_assoc one.lines more.lines (lines_from trace new.at)));
+  taken = let a = one.taken in let b = more.taken in let c = length-append one.lines more.lines in omega (arith, a, b, c);
+}
+
+-- lines lead to where they stop
+pub stops_on : {trace : List ℕ} {old mid new : Reader} {p q : TracePosition} → Went trace old mid p q → StopsBefore trace mid new q → StopsBefore trace old new p
+stops_on went stops = record { stop = stops.stop; went = went_on went stops.went; holds = stops.holds; undone = stops.undone }
+
+-- no line is read where the next one doesn't fit
+pub stops_here : {trace : List ℕ} {old new : Reader} {p : TracePosition} → IsStill old new → NothingLeadsOn trace old p → (IsDone p → ⊥) → StopsBefore trace old new p
+stops_here {trace} {p = p} still holds undone = record {
+  stop = p;
+  went = record { lines = []; leads = refl; read = ap (lines_from trace) (sym still.place); taken = let same = still.taken in omega (arith, same) };
+  holds = λ line rest q there leads. holds line rest q (ap (lines_from trace) (sym still.place) ∙ there) leads;
+  undone = undone;
+}
+
+-- lines that fit, then more lines
+pub goes_on : {trace : List ℕ} {old mid new : Reader} {p q r : TracePosition} {fits : Bool} → Went trace old mid p q → FitsOrStops trace mid new q r fits → FitsOrStops trace old new p r fits
+goes_on went goes = record { goes = λ yes. went_on went (goes.goes yes); stops = λ no. stops_on went (goes.stops no) }
+
+-- they fit, so they lead there
+pub goes_there : {trace : List ℕ} {old new : Reader} {p q : TracePosition} → Went trace old new p q → FitsOrStops trace old new p q true
+goes_there went = record { goes = λ yes. went; stops = λ no. absurd cc }
+
+-- they stop on the way to wherever
+pub goes_not : {trace : List ℕ} {old new : Reader} {p q : TracePosition} → StopsBefore trace old new p → FitsOrStops trace old new p q false
+goes_not stops = record { goes = λ yes. absurd cc; stops = λ no. stops }
+
+-- ---- Items of an event that are told, one after the other.
+
+-- ---- of one state of the router
 
 pub set_itself : {A : Type 0} (xs : List A) (i : ℕ) (a : A) → slice_get xs i ≡ Some a → slice_set xs i a ≡ xs
 set_itself [] i a at = refl
@@ -32,7 +75,7 @@ pub leads_on : {case : Case} {old mid new : Progress} {x : ℕ} {s t u : State} 
 leads_on {case} {old} {mid} {new} {x} {s} {t} {u} {a} {b} {c} {reads} {fits} one good two = record {
   leads = λ net rest is. (let here = with_traffic (with_state net x t) mid.traffic.traffic in
       subst (λ (l : List State). FitsOrStops case.trace.now old.reader new.reader (at net x (a ++ rest)) (at (record net { routers = l; traffic = new.traffic.traffic }) x (c ++ rest)) fits)
-      (set-set net.routers x t u) (goes_on ((one.leads net rest is).goes good) (two.leads here rest (stands_on is))));
+      (set-set net.routers x t u) (goes_on ((one.leads net rest is).goes good) (two.leads here rest (record { scenario = is.scenario; traffic = refl; stands = set_here net.routers x t s is.stands }))));
 }
 
 -- items behind those that are told
@@ -56,11 +99,6 @@ pub leads_next : {case : Case} {start here there : Progress} {x : ℕ} {s t u : 
     LeadsPast case here there x t u (item ∷ []) [] fits → LeadsPast case start there x s u all more fits
 leads_next {case} {start} {here} {x = x} {s = s} {t = t} {all = all} {more = more} before is one =
     leads_on (subst (λ (l : List Item). LeadsPast case start here x s t all l true) is before) refl (leads_before more one)
-
-pub leads_more : {case : Case} {start here there : Progress} {x : ℕ} {s t u : State} {all left more : List Item} {item : Item} {fits : Bool} → LeadsPast case start here x s t all left true → left ≡ item ∷ more →
-    LeadsPast case here there x t u (item ∷ []) [] fits → fits ≡ true → LeadsPast case start there x s u all more true
-leads_more {case} {start} {there = there} {x = x} {s = s} {u = u} {all = all} {more = more} before is one good =
-    subst (λ (b : Bool). LeadsPast case start there x s u all more b) good (leads_next before is one)
 
 -- ---- of each state that is so
 
@@ -94,7 +132,10 @@ tells_nowhere is = record { progress = is; told = λ s at so. leads_nowhere }
 pub tells_more : {case : Case} {start here there : Progress} {event : CheckedEvent} {IsSo : State → Type 0} {all left more : State → List Item} {item : State → Item} {fits : Bool} →
     TellsItems case start here event IsSo all left true → ((s : State) → left s ≡ item s ∷ more s) → TellsItems case here there event IsSo (λ s. item s ∷ []) (λ s. []) fits → fits ≡ true →
     TellsItems case start there event IsSo all more true
-tells_more before is one good = record { progress = one.progress; told = λ s at so. leads_more (before.told s at so) (is s) (one.told s at so) good }
+tells_more {case} {start} {there = there} {event = event} {all = all} {more = more} before is one good = record {
+  progress = one.progress;
+  told = λ s at so. subst (λ (b : Bool). LeadsPast case start there event.router s s (all s) (more s) b) good (leads_next (before.told s at so) (is s) (one.told s at so));
+}
 
 -- one item that stops
 pub tells_stop : {case : Case} {start here there : Progress} {event : CheckedEvent} {IsSo : State → Type 0} {all left more none : State → List Item} {item : State → Item} {fits : Bool} →
@@ -102,20 +143,15 @@ pub tells_stop : {case : Case} {start here there : Progress} {event : CheckedEve
     TellsItems case start there event IsSo all none false
 tells_stop before is one bad = record { progress = one.progress; told = λ s at so. leads_not (leads_next (before.told s at so) (is s) (one.told s at so)) bad }
 
--- the same with what is left by other words
+-- the same by other words
+pub tells_as : {case : Case} {old new : Progress} {event : CheckedEvent} {IsSo : State → Type 0} {a b c d : State → List Item} {fits : Bool} → TellsItems case old new event IsSo a c fits → ((s : State) → a s ≡ b s) → ((s : State) → c s ≡ d s) →
+    TellsItems case old new event IsSo b d fits
+tells_as one items left = record { progress = one.progress; told = λ s is so. rw (← items s, ← left s) (one.told s is so) }
+
+-- with what is left
 pub tells_to : {case : Case} {old new : Progress} {event : CheckedEvent} {IsSo : State → Type 0} {a b c : State → List Item} {fits : Bool} → TellsItems case old new event IsSo a b fits → ((s : State) → b s ≡ c s) →
     TellsItems case old new event IsSo a c fits
-tells_to {case} {old} {new} {event} {a = a} {fits = fits} one same = record {
-  progress = one.progress;
-  told = λ s is so. subst (λ (l : List Item). LeadsPast case old new event.router s s (a s) l fits) (same s) (one.told s is so);
-}
-
-pub tells_as : {case : Case} {old new : Progress} {event : CheckedEvent} {IsSo : State → Type 0} {a b c : State → List Item} {fits : Bool} → TellsItems case old new event IsSo a c fits → ((s : State) → a s ≡ b s) →
-    TellsItems case old new event IsSo b c fits
-tells_as {case} {old} {new} {event} {c = c} {fits = fits} one same = record {
-  progress = one.progress;
-  told = λ s is so. subst (λ (l : List Item). LeadsPast case old new event.router s s l (c s) fits) (same s) (one.told s is so);
-}
+tells_to one left = tells_as one (λ s. refl) left
 
 -- the same of fewer states
 pub tells_where : {case : Case} {old new : Progress} {event : CheckedEvent} {IsSo Others : State → Type 0} {a b : State → List Item} {fits : Bool} → TellsItems case old new event IsSo a b fits →

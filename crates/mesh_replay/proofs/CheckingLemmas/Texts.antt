@@ -1,5 +1,5 @@
 -- The next line is taken, where it is what is looked for.
-use Rattle.std.proofs.Common.{◌≡◌, ℕ, ◌+◌, List, ◌∷◌, ◌++◌, refl, sym, ◌∙◌, ap, subst, append_assoc, arith, codes, Bool, true, false, Option, Some, None}
+use Rattle.std.proofs.Common.{◌≡◌, ℕ, ◌+◌, List, ◌∷◌, ◌++◌, refl, sym, ◌∙◌, ap, subst, append_assoc, arith, codes, Bool, false, Option, Some, None}
 use Rattle.std.specs.Borrow.{Bor}
 use Rattle.std.specs.Prelude.{◌↔◌, IsTrue, IsFalse, IfSome}
 use Rattle.std.proofs.lemmas.Bool.{false≢true}
@@ -155,9 +155,6 @@ module _ {A : Type 0} (text : A → List ℕ) (given : Option A) {trace : List �
     still = λ none. record { place = refl; taken = refl };
     none = λ none a some next. absurd cc;
   }
-
-  pub takes_given : {new : Reader} {fits : Bool} (a : A) → given ≡ Some a → TakesText trace old new (text a) fits → fits ≡ true → TakesNext (λ b. given ≡ Some b) text trace old new (Some a)
-  takes_given a is takes good = record { reading = takes.reading; takes = (is, takes.takes good); still = λ none. absurd cc; none = λ none. absurd cc }
 
   pub takes_other : {new : Reader} {fits : Bool} (a : A) → given ≡ Some a → TakesText trace old new (text a) fits → fits ≡ false → TakesNext (λ b. given ≡ Some b) text trace old new None
   takes_other a is takes bad = record {

@@ -24,12 +24,9 @@ weight_line : (feed : Bool) (octet : ℕ) (lines : List (List ℕ)) → weight l
 weight_line true octet lines = omega arith
 weight_line false octet lines = weight_begun octet lines
 
-weight_one : (octet : ℕ) (text : List ℕ) → weight (lines_of text) < weight (lines_of (octet ∷ text))
-weight_one octet text = weight_line (eqb octet 10) octet (lines_of text)
-
 weight_more : (more text : List ℕ) → weight (lines_of text) + length more ≤ weight (lines_of (more ++ text))
 weight_more [] text = omega arith
-weight_more (octet ∷ more) text = omega (arith, weight_more more text, weight_one octet (more ++ text))
+weight_more (octet ∷ more) text = omega (arith, weight_more more text, weight_line (eqb octet 10) octet (lines_of (more ++ text)))
 
 more_lines : (octet : ℕ) (more text whole : List ℕ) → whole ≡ octet ∷ (more ++ text) → lines_of whole ≡ lines_of text → ⊥
 more_lines octet more text whole is same =

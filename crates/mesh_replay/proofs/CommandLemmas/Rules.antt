@@ -1,9 +1,18 @@
--- The first line of a text, and what stands behind it.
-use Rattle.std.proofs.Common.{◌≡◌, ℕ, suc, ◌≤◌, ◌⊎◌, inl, inr, eqb, List, [], ◌∷◌, ◌++◌, codes, length, refl, sym, ap, ◌∙◌, arith}
+-- Lines of an input: the first line of a text, the rule, and how a text is cut in front of a line.
+use Rattle.std.proofs.Common.{◌≡◌, ℕ, suc, ◌≤◌, ◌⊎◌, inl, inr, eqb, List, [], ◌∷◌, ◌++◌, codes, length, refl, sym, ap, ◌∙◌, arith, take, drop, append_assoc, false}
 use Rattle.std.proofs.lemmas.Bool.{cases_Bool, eqb-true}
-use Rattle.mesh_replay.specs.Command.Parts.{IsRuled}
+use Rattle.mesh_replay.specs.Command.Parts.{IsRuled, HaveNone, IsCutAt}
 use Rattle.mesh_replay.specs.Command.Split.{BeginsWithRule}
 use Rattle.mesh_trace.specs.Reading.Lines.{lines_of, begun}
+use Rattle.std.proofs.lemmas.List.{drop_all, take-append-drop, append-nil}
+use Rattle.std.proofs.lemmas.List.Elements.{All-nil, All-push}
+use Rattle.mesh_replay.specs.declared.command.marks.Mark.{Mark}
+use Rattle.mesh_replay.specs.Command.Marks.{IsMarkLine, word_of, TellsNext}
+use Rattle.mesh_trace.specs.declared.reading.Reader.{Reader}
+use Rattle.mesh_trace.specs.Reading.Readers.{lines_from}
+use Rattle.mesh_replay.specs.declared.command.marks.Mark.TheVariants as mark
+
+-- ---- The first line of a text, and what stands behind it.
 
 -- the first line is the whole text, or a line feed stands behind it
 pub data FirstLine (text line : List ℕ) (more : List (List ℕ)) : Type 0 where
@@ -16,7 +25,7 @@ begun_first : (octet : ℕ) (lines : List (List ℕ)) (line : List ℕ) (more : 
 begun_first octet [] line more is = inl (refl, cc, cc)
 begun_first octet (rest ∷ lines) line more is = inr (rest, cc, cc)
 
-no_lines : (text : List ℕ) → lines_of text ≡ [] → text ≡ []
+pub no_lines : (text : List ℕ) → lines_of text ≡ [] → text ≡ []
 no_lines [] is = refl
 no_lines (octet ∷ text) is = elim (cases_Bool (eqb octet 10)) [
   | inl feed ↦ let bad : [] ∷ lines_of text ≡ [] = rw feed at is in absurd (cc)
@@ -50,13 +59,62 @@ first_line (octet ∷ text) line more is = elim (cases_Bool (eqb octet 10)) [
 
 -- ---- the line `---`
 
-ruled : (text : List ℕ) (more : List (List ℕ)) → FirstLine text (codes "---") more →
-    ((text ≡ codes "---") ⊎ ((behind : List ℕ) × (text ≡ codes "---\n" ++ behind)))
-ruled text more (Is_last is none) = inl is
-ruled text more (Is_followed behind is lines) = inr (behind, is)
-
 pub rule_alone : (text : List ℕ) → BeginsWithRule text → length text ≤ 3 → IsRuled text []
-rule_alone text (more, begins) short = by (ruled text more (first_line text (codes "---") more begins)) where
-  by : ((text ≡ codes "---") ⊎ ((behind : List ℕ) × (text ≡ codes "---\n" ++ behind))) → IsRuled text []
-  by (inl is) = inl (is, refl)
-  by (inr (behind, is)) = let long : length text ≡ suc (suc (suc (suc (length behind)))) = ap length is in absurd (omega (arith, long, short))
+rule_alone text (more, begins) short = by (first_line text (codes "---") more begins) where
+  by : FirstLine text (codes "---") more → IsRuled text []
+  by (Is_last is none) = inl (is, refl)
+  by (Is_followed behind is lines) = let long : length text ≡ suc (suc (suc (suc (length behind)))) = ap length is in absurd (omega (arith, long, short))
+
+-- ---- How a text is cut in front of a line.
+
+-- the lines in front of a place, of which none is of the kind
+pub record Passed (IsKind : List ℕ → Type 0) (text : List ℕ) (at : ℕ) : Type 0 where
+  pub lines : List (List ℕ)
+  pub between : lines_of text ≡ lines ++ lines_of (drop at text)
+  pub none : HaveNone IsKind lines
+
+pub pass_none : (IsKind : List ℕ → Type 0) (text : List ℕ) (at : ℕ) → at ≡ 0 → Passed IsKind text at
+pass_none IsKind text at start = record { lines = []; between = rw start refl; none = All-nil (λ line. IsKind line → ⊥) }
+
+-- one line more
+pub pass_line : (IsKind : List ℕ → Type 0) (text line : List ℕ) (at at' : ℕ) → Passed IsKind text at →
+    lines_of (drop at text) ≡ line ∷ lines_of (drop at' text) → (IsKind line → ⊥) → Passed IsKind text at'
+pass_line IsKind text line at at' passed here other = record {
+  lines = passed.lines ++ line ∷ [];
+  between = passed.between ∙ (ap (λ (l : List (List ℕ)). passed.lines ++ l) here ∙ sym (append_assoc passed.lines (line ∷ []) (lines_of (drop at' text))));
+  none = All-push (λ l. IsKind l → ⊥) passed.lines line passed.none other;
+}
+
+-- a place where a text is cut
+pub cut_there : (IsKind : List ℕ → Type 0) (text : List ℕ) (at : ℕ) → Passed IsKind text at →
+    (drop at text ≡ []) ⊎ ((line : List ℕ) × (more : List (List ℕ)) × (lines_of (drop at text) ≡ line ∷ more) × IsKind line) →
+    IsCutAt IsKind text (take at text) (drop at text)
+cut_there IsKind text at passed next = record {
+  whole = sym (take-append-drop at text);
+  lines = passed.lines;
+  between = passed.between;
+  none = passed.none;
+  next = next;
+}
+
+-- nothing is behind the end
+pub cut_at_end : (IsKind : List ℕ → Type 0) (text : List ℕ) (at : ℕ) → Passed IsKind text at → length text ≡ at →
+    IsCutAt IsKind text (take at text) (drop at text)
+cut_at_end IsKind text at passed end = cut_there IsKind text at passed (inl (drop_all at text (omega (arith, end))))
+
+-- ---- Lines that end a part of an input.
+
+-- such a line begins with its word
+begins : (m : Mark) (line : List ℕ) → IsMarkLine m line → (rest : List ℕ) × (line ≡ word_of m ++ rest)
+begins mark.Rule line is = ([], is ∙ sym (append-nil (word_of mark.Rule)))
+begins mark.Report line (rest, is) = (rest, is)
+
+-- no line that begins with the word is next
+pub not_next : (m : Mark) (text : List ℕ) (reader : Reader) → reader.text ≡ word_of m →
+    ((line rest : List ℕ) (lines : List (List ℕ)) → lines_from text reader.at ≡ line ∷ lines → line ≡ reader.text ++ rest → ⊥) →
+    TellsNext m text reader false
+not_next m text reader word none = record {
+  is = λ yes. let bad : ⊥ = cc in absurd bad;
+  other = λ no line more here kind. let (rest, same) = begins m line kind in
+      none line rest more here (same ∙ ap (λ (w : List ℕ). w ++ rest) (sym word));
+}

@@ -23,16 +23,13 @@ no_report line lines short none = All-cons (λ l. BeginsReport l → ⊥) line l
 no_reports : HaveNone BeginsReport []
 no_reports = All-nil (λ l. BeginsReport l → ⊥)
 
-line_a : HaveNone IsRule (codes "a" ∷ [])
-line_a = no_rule (codes "a") [] (λ is. omega (arith, is)) no_rules
-
 line_b : HaveNone BeginsReport (codes "b" ∷ [])
 line_b = no_report (codes "b") [] (omega arith) no_reports
 
 -- behind a line `a`
 cut_a : (more : List (List ℕ)) (rest : List ℕ) → lines_of rest ≡ codes "---" ∷ more →
     IsCutAt IsRule (codes "a\n" ++ rest) (codes "a\n") rest
-cut_a more rest here = record { whole = refl; lines = codes "a" ∷ []; between = refl; none = line_a; next = inr (codes "---", more, here, refl) }
+cut_a more rest here = record { whole = refl; lines = codes "a" ∷ []; between = refl; none = no_rule (codes "a") [] (λ is. omega (arith, is)) no_rules; next = inr (codes "---", more, here, refl) }
 
 -- a trace that ends the input
 cut_end : (text : List ℕ) → HaveNone BeginsReport (lines_of text) → IsCutAt BeginsReport text text []

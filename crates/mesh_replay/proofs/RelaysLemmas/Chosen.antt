@@ -1,14 +1,16 @@
 -- Which relays a router may choose.
-use Rattle.std.proofs.Common.{◌≡◌, ℕ, ◌<◌, ◌^◌, inl, inr, refl, subst, Bool, true, false, List, Contains, Option, Some, None, Result, Ok, Err}
+use Rattle.std.proofs.Common.{◌≡◌, ℕ, ◌+◌, ◌-◌, ◌<◌, ◌≤◌, inl, inr, List, length, get_or, subst, arith, ◌^◌, refl, Bool, true, false, Contains, Option, Some, None, Result, Ok, Err}
+use Rattle.std.proofs.lemmas.Bool.{cases_lt}
+use Rattle.std.proofs.lemmas.List.{get_or_default}
+use Rattle.mesh_atoms.specs.declared.addr.Addr4.{Addr4}
 use Rattle.std.specs.Prelude.{◌↔◌, IfOk, IsTrue, cond}
 use Rattle.std.proofs.lemmas.List.Elements.{All-weaker, All-contains_itself}
-use Rattle.mesh_atoms.specs.declared.addr.Addr4.{Addr4}
 use Rattle.mesh_atoms.specs.declared.graphs.Direct.{Direct}
 use Rattle.mesh_atoms.specs.declared.graphs.Far.{Far}
 use Rattle.mesh_atoms.specs.declared.graphs.Near.{Near}
 use Rattle.mesh_atoms.specs.declared.graphs.NeighbourGraph.{NeighbourGraph}
 use Rattle.mesh_atoms.specs.declared.tuples.Relays.{Relays}
-use Rattle.mesh_atoms.specs.RelayGraphs.{AreRelays, AreRelaysOf, IsFloodingGraph, IsRoutingGraph}
+use Rattle.mesh_atoms.specs.RelayGraphs.{AreRelays, AreRelaysOf}
 use Rattle.mesh_atoms.specs.Relays.{Covers, Needed, Offers, IsWilling, IsRelay, IsOtherRelay, IsAsCheap}
 use Rattle.mesh_atoms.specs.State.{State}
 use Rattle.mesh_atoms.specs.Words.{IsAscending}
@@ -18,11 +20,23 @@ use Rattle.mesh_replay.specs.Checking.RelayLines.{AreWide, IsAgain, IsGraphFor, 
 use Rattle.mesh_trace.specs.Positions.Alike.{HasAddresses}
 use Rattle.mesh_trace.proofs.PositionsLemmas.RelayTexts.{AreAddresses}
 
--- ---- the graph of a state
+-- ---- Addresses that ascend, as far as they were looked at.
 
-pub graph_for : (s : State) (iface : Option ℕ) (g : NeighbourGraph) → (iface ≡ None → IsRoutingGraph s g) → ((i : ℕ) → iface ≡ Some i → IsFloodingGraph s s.last i g) → IsGraphFor s iface g
-graph_for s None g routing flooding = routing refl
-graph_for s (Some i) g routing flooding = flooding i refl
+pub rises_on : (addrs : List Addr4) (i : ℕ) (z : Addr4) → 1 ≤ i → i < length addrs → (get_or addrs (i - 1) z).0 < (get_or addrs i z).0 →
+    ((j k : ℕ) (d : Addr4) → j < k → k < i → k < length addrs → (get_or addrs j d).0 < (get_or addrs k d).0) →
+    (j k : ℕ) (d : Addr4) → j < k → k < i + 1 → k < length addrs → (get_or addrs j d).0 < (get_or addrs k d).0
+rises_on addrs i z some inside step before j k d less upto within = elim (cases_lt k i) [
+  | inl earlier ↦ before j k d less earlier within
+  | inr here ↦
+      let last : (get_or addrs (i - 1) d).0 < (get_or addrs i d).0 = rw (get_or_default addrs (i - 1) d z (omega (arith, some, inside)), get_or_default addrs i d z inside) step in
+      let is_last : i ≡ k = omega (arith, here, upto) in
+      subst (λ (n : ℕ). (get_or addrs j d).0 < (get_or addrs n d).0) is_last (elim (cases_lt j (i - 1)) [
+        | inl front ↦ (let more = before j (i - 1) d front (omega (arith, some)) (omega (arith, inside)) in omega (arith, more, last))
+        | inr at ↦ (let same : i - 1 ≡ j = omega (arith, at, less, here, upto, some) in subst (λ (n : ℕ). (get_or addrs n d).0 < (get_or addrs i d).0) same last)
+      ])
+]
+
+-- ---- Which relays a router may choose.
 
 -- relays are chosen whatever relays there are
 pub told_with : (s : State) (r : Relays) (iface : Option ℕ) (relays : List Addr4) → MayTell s iface relays → MayTell (with_relays s r) iface relays

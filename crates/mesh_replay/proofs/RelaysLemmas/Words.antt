@@ -1,5 +1,5 @@
 -- Addresses are read back from their texts.
-use Rattle.std.proofs.Common.{◌≡◌, ℕ, zero, suc, ◌+◌, ◌-◌, ◌<◌, ◌^◌, ◌/◌, ◌%◌, ◌*◌, inl, inr, true, false, Bool, eqb, List, [], ◌∷◌, ◌++◌, length, length-append, take, drop, refl, sym, ap, ◌∙◌, subst, arith, append_assoc, codes, decimal, Some, None, Option}
+use Rattle.std.proofs.Common.{◌≡◌, ℕ, zero, suc, ◌+◌, ◌-◌, ◌<◌, ◌^◌, ◌/◌, ◌%◌, ◌*◌, inl, inr, true, false, Bool, eqb, List, [], ◌∷◌, ◌++◌, length, length-append, take, drop, refl, sym, ap, ◌∙◌, subst, arith, append_assoc, codes, decimal, Some, None, Option, below_more, All}
 use Rattle.std.specs.Prelude.{◌==◌, ◌&&◌, nat_lt, slice_range, slice_index}
 use Rattle.std.specs.Fmt.{digits}
 use Rattle.std.specs.List.{position_from}
@@ -8,10 +8,15 @@ use Rattle.std.proofs.lemmas.Iterator.Adapters.{position_from-zero}
 use Rattle.std.proofs.lemmas.List.{append-nil, take_at, drop_at, take_all}
 use Rattle.mesh_atoms.specs.declared.addr.Addr4.{Addr4}
 use Rattle.mesh_atoms.specs.Literals.{number_of, cut, dotted_of, address_of}
-use Rattle.mesh_texts.specs.Lines.Marks.{dotted, spaced}
+use Rattle.mesh_texts.specs.Lines.Marks.{dotted, spaced, relays_text}
 use Rattle.mesh_texts.proofs.Cuts.{lacks, lacks_rest, not_here}
 use Rattle.mesh_texts.proofs.Marked.{decimal_lacks, dotted_lacks}
 use Rattle.mesh_texts.proofs.RouteLines.{in_order, same_dotted}
+use Rattle.std.proofs.lemmas.List.Elements.{All-head, All-tail}
+use Rattle.mesh_atoms.proofs.Lists.{contains_none}
+use Rattle.mesh_trace.proofs.PositionsLemmas.RelayTexts.{same_relays}
+
+-- ---- Addresses are read back from their texts.
 
 -- ---- numbers
 
@@ -34,15 +39,9 @@ all_are_read = refl
 
 read_below : (k n : ℕ) → are_read k ≡ true → n < k → number_of 255 (decimal n) ≡ Some n
 read_below zero n are less = absurd (omega (arith, less))
-read_below (suc k) n are less = elim (cases_Bool (eqb n k)) [
-  | inl same ↦ subst (λ (m : ℕ). number_of 255 (decimal m) ≡ Some m) (sym (eqb-true n k same)) (number_is k (number_of 255 (decimal k)) (both (is_number k (number_of 255 (decimal k))) (are_read k) are).0)
-  | inr other ↦ read_below k n (both (is_number k (number_of 255 (decimal k))) (are_read k) are).1 (by other)
-] where
-  by : eqb n k ≡ false → n < k
-  by other = elim (cases_Bool (nat_lt n k)) [
-    | inl lower ↦ omega (arith, ltb-true n k lower)
-    | inr upper ↦ absurd (let same : n ≡ k = (let high = ltb-false n k upper in omega (arith, less, high)) in let yes = eq-eqb n k same in cc)
-  ]
+read_below (suc k) n are less =
+    let (here, more) = both (is_number k (number_of 255 (decimal k))) (are_read k) are in
+    below_more (λ m. number_of 255 (decimal m) ≡ Some m) k (λ m inside. read_below k m more inside) (number_is k (number_of 255 (decimal k)) here) n (omega (arith, less))
 
 number_read : (n : ℕ) → n < 256 → number_of 255 (decimal n) ≡ Some n
 number_read n small = read_below 256 n all_are_read small
@@ -124,17 +123,79 @@ word_whole [] (b ∷ more) none = absurd (none 0 (omega arith) refl)
 word_whole (c ∷ w) (b ∷ more) none =
     let (front, behind) = word_whole w (b ∷ more) (λ j less here. none (suc j) (omega (arith, less)) here) in (ap (λ (l : List ℕ). c ∷ l) front, behind)
 
-blankless : (a : Addr4) → lacks 32 (dotted a) ≡ true
-blankless a = dotted_lacks 32 (omega arith) refl a
-
 -- the same of a text that is so
 pub word_before : (text : List ℕ) (a : Addr4) (more : List Addr4) (k : ℕ) → text ≡ dotted a ++ spaced more → k < length text → eqb (slice_index text k) 32 ≡ true →
     ((j : ℕ) → j < k → eqb (slice_index text j) 32 ≡ true → ⊥) → (take k text ≡ dotted a) × (drop k text ≡ spaced more)
 word_before text a more k is =
     subst (λ (l : List ℕ). k < length l → eqb (slice_index l k) 32 ≡ true → ((j : ℕ) → j < k → eqb (slice_index l j) 32 ≡ true → ⊥) → (take k l ≡ dotted a) × (drop k l ≡ spaced more)) (sym is)
-    (word_at (dotted a) more k (blankless a))
+    (word_at (dotted a) more k (dotted_lacks 32 (omega arith) refl a))
 
 pub word_alone : (text : List ℕ) (a : Addr4) (more : List Addr4) → text ≡ dotted a ++ spaced more → ((j : ℕ) → j < length text → eqb (slice_index text j) 32 ≡ true → ⊥) →
     (text ≡ dotted a) × ([] ≡ spaced more)
 word_alone text a more is =
     subst (λ (l : List ℕ). ((j : ℕ) → j < length l → eqb (slice_index l j) 32 ≡ true → ⊥) → (l ≡ dotted a) × ([] ≡ spaced more)) (sym is) (word_whole (dotted a) more)
+
+-- ---- Addresses that are read one after the other.
+
+-- what is left of the addresses when some were read
+pub record IsLeft (addrs read : List Addr4) (text : List ℕ) : Type 0 where
+  pub more : List Addr4
+  pub wide : All (λ a. a.0 < 2 ^ 32) more
+  pub whole : addrs ≡ read ++ more
+  pub text_is : text ≡ spaced more
+
+pub all_left : (addrs : List Addr4) (text : List ℕ) → All (λ a. a.0 < 2 ^ 32) addrs → text ≡ spaced addrs → IsLeft addrs [] text
+all_left addrs text wide is = record { more = addrs; wide = wide; whole = refl; text_is = is }
+
+-- one more is read
+pub one_less : (addrs read : List Addr4) (text rest : List ℕ) (addr : Addr4) → IsLeft addrs read text → 0 < length text →
+    ((a : Addr4) (more : List Addr4) → a.0 < 2 ^ 32 → text ≡ spaced (a ∷ more) → (addr ≡ a) × (rest ≡ spaced more)) → IsLeft addrs (read ++ addr ∷ []) rest
+one_less addrs read text rest addr left some first = by left.more left.wide left.whole left.text_is where
+  by : (more : List Addr4) → All (λ a. a.0 < 2 ^ 32) more → addrs ≡ read ++ more → text ≡ spaced more → IsLeft addrs (read ++ addr ∷ []) rest
+  by [] wide whole is = absurd (let nothing : length text ≡ 0 = ap length is in omega (arith, some, nothing))
+  by (a ∷ more) wide whole is =
+      let (same, rest_is) = first a more (All-head (λ (b : Addr4). b.0 < 2 ^ 32) a more wide) is in
+      record {
+        more = more;
+        wide = All-tail (λ (b : Addr4). b.0 < 2 ^ 32) a more wide;
+        whole = whole ∙ (ap (λ (b : Addr4). read ++ b ∷ more) (sym same) ∙ sym (append_assoc read (addr ∷ []) more));
+        text_is = rest_is;
+      }
+
+-- none can't be read
+pub none_wrong : (addrs read : List Addr4) (text : List ℕ) → IsLeft addrs read text → 0 < length text →
+    ((a : Addr4) (more : List Addr4) → a.0 < 2 ^ 32 → text ≡ spaced (a ∷ more) → ⊥) → ⊥
+none_wrong addrs read text left some never = by left.more left.wide left.text_is where
+  by : (more : List Addr4) → All (λ a. a.0 < 2 ^ 32) more → text ≡ spaced more → ⊥
+  by [] wide is = let nothing : length text ≡ 0 = ap length is in omega (arith, some, nothing)
+  by (a ∷ more) wide is = never a more (All-head (λ (b : Addr4). b.0 < 2 ^ 32) a more wide) is
+
+-- all are read
+pub none_left : (addrs read : List Addr4) (text : List ℕ) → IsLeft addrs read text → length text ≡ 0 → read ≡ addrs
+none_left addrs read text left nothing = by left.more left.whole left.text_is where
+  by : (more : List Addr4) → addrs ≡ read ++ more → text ≡ spaced more → read ≡ addrs
+  by [] whole is = sym (append-nil read) ∙ sym whole
+  by (a ∷ more) whole is = absurd (let some : length text ≡ suc (length (dotted a ++ spaced more)) = ap length is in omega (arith, nothing, some))
+
+-- ---- texts of relays
+
+pub none_text : relays_text [] ≡ codes " none"
+unfolding relays_text
+none_text = refl
+
+pub none_alone : (relays : List Addr4) → relays_text relays ≡ codes " none" → [] ≡ relays
+none_alone relays is = same_relays [] relays (λ a has. absurd (contains_none a has)) (none_text ∙ sym is)
+
+pub spaced_text : (relays : List Addr4) (text : List ℕ) → relays_text relays ≡ text → (text ≡ codes " none" → ⊥) → text ≡ spaced relays
+unfolding relays_text
+spaced_text [] text is other = absurd (other (sym is))
+spaced_text (a ∷ more) text is other = sym is
+
+-- ---- texts that are empty, or aren't
+
+pub has_octets : (b : Bool) (n : ℕ) → b ≡ (n == 0) → b ≡ false → 0 < n
+has_octets b zero e none = absurd (let full : b ≡ true = e in cc)
+has_octets b (suc n) e none = omega arith
+
+pub has_none : (b : Bool) (n : ℕ) → b ≡ (n == 0) → b ≡ true → n ≡ 0
+has_none b n e full = eqb-true n 0 (sym e ∙ full)

@@ -1,8 +1,6 @@
 -- What is answered where lines that were read lead to.
-use Rattle.std.proofs.Common.{◌≡◌, ℕ, ◌+◌, ◌<◌, ◌↔◌, List, [], ◌∷◌, ◌++◌, refl, sym, ◌∙◌, ap, subst, length, drop, append_assoc, append-nil, length-append, arith, Result, IfOk}
-use Rattle.std.specs.Prelude.{if◌then◌else◌, ◌==◌, Bool, true, false}
+use Rattle.std.proofs.Common.{◌≡◌, ℕ, ◌+◌, ◌<◌, ◌↔◌, List, [], ◌∷◌, ◌++◌, refl, sym, ◌∙◌, ap, subst, length, drop, append_assoc, append-nil, length-append, arith}
 use Rattle.std.proofs.lemmas.List.{drop_all, length-drop}
-use Rattle.std.proofs.lemmas.Result.{IfOk-weaker}
 use Rattle.mesh_atoms.specs.declared.settings.Scenario.{Scenario}
 use Rattle.mesh_trace.specs.machine.Net.{NetState}
 use Rattle.mesh_trace.specs.machine.NetRun.{IsOver}
@@ -19,10 +17,11 @@ use Rattle.mesh_replay.specs.Checking.Scenes.{Comes}
 use Rattle.mesh_trace.specs.declared.reading.Reader.{Reader}
 use Rattle.mesh_trace.specs.Positions.Leading.{Reaches, Fits as FitsBehind, IsWholeTrace, IsUnfit, At_line, Behind_all}
 use Rattle.mesh_trace.specs.Positions.Standing.{TracePosition}
-use Rattle.mesh_trace.specs.Reading.Lines.{lines_of, begun}
+use Rattle.mesh_trace.specs.Reading.Lines.{lines_of}
 use Rattle.mesh_trace.specs.Reading.Readers.{lines_from}
 use Rattle.mesh_trace.proofs.PositionsLemmas.Fixed.{one_decides_fit, one_decides_end, unfit_is_not_whole, one_unfit, nothing_follows}
 use Rattle.mesh_trace.proofs.PositionsLemmas.Walks.{leads_on}
+use Rattle.mesh_replay.proofs.CommandLemmas.Rules.{no_lines}
 
 -- lines that were read behind others
 record HasReadTo (case : Case) (reader : Reader) (p : TracePosition) : Type 0 where
@@ -70,18 +69,6 @@ stopped case old new before after outcome h comes is =
     rw more.taken (unfit_at s (lines_of case.trace.now) more.lines (lines_from case.trace.now new.reader.at) stops.stop more.reaches more.read
     (λ line rest left. one_decides_fit s more.lines line stops.stop more.reaches (λ q leads. stops.holds line rest q left leads)) (one_decides_end s more.lines stops.stop more.reaches stops.undone))
 
--- a text that isn't empty has lines
-begun_not : (octet : ℕ) (lines : List (List ℕ)) → begun octet lines ≡ [] → ⊥
-begun_not octet [] e = absurd (cc)
-begun_not octet (line ∷ lines) e = absurd (cc)
-
-has_lines : (octet : ℕ) (text : List ℕ) → lines_of (octet ∷ text) ≡ [] → ⊥
-has_lines octet text = by_cases (octet == 10)
-  where
-    by_cases : (b : Bool) → (if b then [] ∷ lines_of text else begun octet (lines_of text)) ≡ [] → ⊥
-    by_cases true e = absurd (cc)
-    by_cases false e = begun_not octet (lines_of text) e
-
 -- at the end of a run
 module _ (case : Case) (reader : Reader) (net : NetState) (h : HasRead case reader net) (over : IsOver net) where
   whole_there : IsWholeTrace case.scenario.now h.lines
@@ -96,36 +83,19 @@ module _ (case : Case) (reader : Reader) (net : NetState) (h : HasRead case read
 
   -- some line is left
   pub longer_if_not : reader.at < length case.trace.now → IsUnfit case.scenario.now (lines_of case.trace.now) (reader.taken + 1)
-  longer_if_not left = with_line (drop reader.at case.trace.now) refl
+  longer_if_not left = by_lines (lines_from case.trace.now reader.at) refl
     where
-      by_lines : (more : List (List ℕ)) → lines_from case.trace.now reader.at ≡ more → (more ≡ [] → ⊥) → IsUnfit case.scenario.now (lines_of case.trace.now) (reader.taken + 1)
-      by_lines [] e some = absurd (some refl)
-      by_lines (line ∷ rest) e some =
+      by_lines : (more : List (List ℕ)) → lines_from case.trace.now reader.at ≡ more → IsUnfit case.scenario.now (lines_of case.trace.now) (reader.taken + 1)
+      by_lines [] e = absurd (let long = length-drop reader.at case.trace.now in let none = ap length (no_lines (drop reader.at case.trace.now) e) in omega (arith, long, none, left))
+      by_lines (line ∷ rest) e =
           rw h.taken (At_line (at net h.router []) h.lines line rest (h.read ∙ ap (λ (l : List (List ℕ)). h.lines ++ l) e) h.reaches (nothing_follows case.scenario.now h.lines line whole_there))
-
-      with_line : (text : List ℕ) → drop reader.at case.trace.now ≡ text → IsUnfit case.scenario.now (lines_of case.trace.now) (reader.taken + 1)
-      with_line [] e = absurd (let long = length-drop reader.at case.trace.now in let none = ap length e in omega (arith, long, none, left))
-      with_line (octet ∷ text) e = by_lines (lines_of (octet ∷ text)) (ap lines_of e) (has_lines octet text)
 
 -- Each answer comes exactly where it says
 
--- where it is yes with that number
-abbrev pub IsYesExactly : Scenario → List (List ℕ) → Replay → Type 0
-IsYesExactly s lines answer = (count : ℕ) → (answer ≡ Yes count ↔ IsWholeTrace s lines × (count ≡ length lines))
-
-abbrev pub IsNoExactly : Scenario → List (List ℕ) → Replay → Type 0
-IsNoExactly s lines answer = (line : ℕ) → (answer ≡ No line ↔ IsUnfit s lines line)
-
-yes_exactly : (s : Scenario) (lines : List (List ℕ)) (answer : Replay) → ReplayAnswers s lines answer → IsYesExactly s lines answer
+pub yes_exactly : (s : Scenario) (lines : List (List ℕ)) (answer : Replay) → ReplayAnswers s lines answer → (count : ℕ) → answer ≡ Yes count ↔ IsWholeTrace s lines × (count ≡ length lines)
 yes_exactly s lines (Yes n) (whole, is) count = ((λ e. (whole, let same : n ≡ count = cc in sym same ∙ is)), (λ both. ap Yes (is ∙ sym both.1)))
 yes_exactly s lines (No k) unfit count = ((λ e. absurd (cc)), (λ both. absurd (unfit_is_not_whole s lines k unfit both.0)))
 
-no_exactly : (s : Scenario) (lines : List (List ℕ)) (answer : Replay) → ReplayAnswers s lines answer → IsNoExactly s lines answer
+pub no_exactly : (s : Scenario) (lines : List (List ℕ)) (answer : Replay) → ReplayAnswers s lines answer → (line : ℕ) → answer ≡ No line ↔ IsUnfit s lines line
 no_exactly s lines (Yes n) (whole, is) line = ((λ e. absurd (cc)), (λ unfit. absurd (unfit_is_not_whole s lines line unfit whole)))
 no_exactly s lines (No k) unfit line = ((λ e. let same : k ≡ line = cc in subst (IsUnfit s lines) same unfit), (λ other. ap No (one_unfit s lines k line unfit other)))
-
-pub if_yes : {E : Type 0} (s : Scenario) (lines : List (List ℕ)) (r : Result Replay E) → IfOk r (ReplayAnswers s lines) → IfOk r (IsYesExactly s lines)
-if_yes s lines r h = IfOk-weaker r (ReplayAnswers s lines) (IsYesExactly s lines) (yes_exactly s lines) h
-
-pub if_no : {E : Type 0} (s : Scenario) (lines : List (List ℕ)) (r : Result Replay E) → IfOk r (ReplayAnswers s lines) → IfOk r (IsNoExactly s lines)
-if_no s lines r h = IfOk-weaker r (ReplayAnswers s lines) (IsNoExactly s lines) (no_exactly s lines) h

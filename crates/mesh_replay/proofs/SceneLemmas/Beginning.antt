@@ -42,45 +42,39 @@ module _ {A : Type 0} (state : A → State) where
       let least = s.sound_routers.routers.at_least in
       omega (arith, least, h.count_is, length-map s.routers (λ (r : RouterSettings). r.name), length-map routers state)
 
-pub opening_sound : (case : Case) (routers : List State) (due : FirstTick) (last_ticks : ℕ) (progress : Progress) → IsCase case → IsOpeningProgress case.scenario.now.seed progress →
-    IsAtFirstLine case.scenario.now routers due last_ticks → IsSoundScene case routers due last_ticks progress
-opening_sound case routers due last_ticks progress is begun opens = record {
-  case_is = is;
-  progress_is = record {
-    reading = record { within = let e = begun.at_start in omega (arith, e); few = let e = begun.none_taken in omega (arith, e) };
-    seed = begun.seed_is;
-    flying = subst (λ (t : net.Traffic). All (λ (d : net.Delivery). d.arc < length case.scenario.now.arcs) t.air) (sym begun.traffic_is) (All-nil (λ (d : net.Delivery). d.arc < length case.scenario.now.arcs));
-  };
-  kept = record {
-    count = opens.are.count_is;
-    settings = λ x t at. let (r, stands, fresh) = opens.are.each x t at in rw fresh.settings_are stands;
-    kept = λ x t at. let (r, stands, fresh) = opens.are.each x t at in kept_at_opening r t fresh;
-  };
-  first = opens.first;
-  few = let none = opens.none in omega (arith, none);
-}
+module _ (case : Case) (routers : List State) (due : FirstTick) (last_ticks : ℕ) (progress : Progress) (begun : IsOpeningProgress case.scenario.now.seed progress) (opens : IsAtFirstLine case.scenario.now routers due last_ticks) where
+  pub opening_sound : IsCase case → IsSoundScene case routers due last_ticks progress
+  opening_sound is = record {
+    case_is = is;
+    progress_is = record {
+      reading = record { within = let e = begun.at_start in omega (arith, e); few = let e = begun.none_taken in omega (arith, e) };
+      seed = begun.seed_is;
+      flying = subst (λ (t : net.Traffic). All (λ (d : net.Delivery). d.arc < length case.scenario.now.arcs) t.air) (sym begun.traffic_is) (All-nil (λ (d : net.Delivery). d.arc < length case.scenario.now.arcs));
+    };
+    kept = record {
+      count = opens.are.count_is;
+      settings = λ x t at. let (r, stands, fresh) = opens.are.each x t at in rw fresh.settings_are stands;
+      kept = λ x t at. let (r, stands, fresh) = opens.are.each x t at in kept_at_opening r t fresh;
+    };
+    first = opens.first;
+    few = let none = opens.none in omega (arith, none);
+  }
 
-opening_net : (case : Case) (routers : List State) (due : FirstTick) (last_ticks : ℕ) (progress : Progress) → IsOpeningProgress case.scenario.now.seed progress →
-    IsAtFirstLine case.scenario.now routers due last_ticks → IsOpeningNet case.scenario.now (net_of case routers last_ticks progress)
-opening_net case routers due last_ticks progress begun opens = record {
-  scenario_is = refl;
-  count = opens.are.count_is;
-  opening = λ x settings state there at.
-      let (r, stands, fresh) = opens.are.each x state at in
-      rw (same_at case.scenario.now.routers x settings r there stands) fresh;
-  traffic = begun.traffic_is;
-  last_ticks = opens.none;
-}
-
--- no line leads to the network before its first event
-pub opening_read : (case : Case) (routers : List State) (due : FirstTick) (last_ticks : ℕ) (progress : Progress) → IsOpeningProgress case.scenario.now.seed progress →
-    IsAtFirstLine case.scenario.now routers due last_ticks → HasRead case progress.reader (net_of case routers last_ticks progress)
-opening_read case routers due last_ticks progress begun opens =
-    let first = at (net_of case routers last_ticks progress) 0 [] in
-    record {
-      lines = [];
-      router = 0;
-      reaches = (first, record { opening = opening_net case routers due last_ticks progress begun opens; nobody = refl; none = refl }, refl);
-      read = ap (lines_from case.trace.now) (sym begun.at_start);
-      taken = begun.none_taken;
-    }
+  -- no line leads to the network before its first event
+  pub opening_read : HasRead case progress.reader (net_of case routers last_ticks progress)
+  opening_read =
+      let first = at (net_of case routers last_ticks progress) 0 [] in
+      let opening : IsOpeningNet case.scenario.now (net_of case routers last_ticks progress) = record {
+        scenario_is = refl;
+        count = opens.are.count_is;
+        opening = λ x settings state there at. let (r, stands, fresh) = opens.are.each x state at in rw (same_at case.scenario.now.routers x settings r there stands) fresh;
+        traffic = begun.traffic_is;
+        last_ticks = opens.none;
+      } in
+      record {
+        lines = [];
+        router = 0;
+        reaches = (first, record { opening = opening; nobody = refl; none = refl }, refl);
+        read = ap (lines_from case.trace.now) (sym begun.at_start);
+        taken = begun.none_taken;
+      }

@@ -1,25 +1,27 @@
--- The frame in the air that is heard first.
-use Rattle.std.proofs.Common.{◌≡◌, ℕ, ◌+◌, ◌<◌, ◌≤◌, List, [], ◌∷◌, ap, zero, suc, length, get_or, map, All, arith, refl, Some, below_more}
-use Rattle.std.specs.Prelude.{slice_get}
+-- What flies, and the frame in the air that is heard first.
+use Rattle.std.proofs.Common.{◌≡◌, ℕ, ◌+◌, ◌<◌, ◌≤◌, List, [], ◌∷◌, ap, zero, suc, length, get_or, map, All, arith, refl, Some, below_more, Result, Ok, Err}
+use Rattle.std.specs.Prelude.{slice_get, IfOk, OnOk}
 use Rattle.std.specs.List.{remove}
 use Rattle.std.proofs.lemmas.List.Elements.{All-nil, All-cons, All-map}
 use Rattle.std.proofs.lemmas.Option.{slice_get_within, slice_get_read, slice_get-get_or}
-use Rattle.mesh_trace.specs.machine.Traffic.{IsHeardFirst}
+use Rattle.mesh_trace.specs.machine.Traffic.{IsHeardFirst, Traffic, Sends, leaving}
 use Rattle.mesh_trace.proofs.machine.Places.{same_at}
 use Rattle.mesh_replay.specs.declared.traffic.air.Delivered.{Delivered}
 use Rattle.mesh_replay.specs.Traffic.Air.{delivery_of, IsNextFrame, AreNoEarlier}
 use Rattle.mesh_atoms.proofs.Lists.{item_at as stands}
+use Rattle.mesh_atoms.specs.declared.network.Emission.{Emission}
+use Rattle.mesh_atoms.specs.declared.settings.Scenario.{Scenario}
+use Rattle.mesh_trace.proofs.machine.Sent.{sent_all, numbered}
 
-nowhere : (i : ℕ) → i < 0 → ⊥
-nowhere i h = omega (arith, h)
+-- ---- The frame in the air that is heard first.
 
 -- the first of none
 pub least_of_none : (flights : List Delivered) → 0 < length flights → IsNextFrame flights 0 0
 least_of_none flights some = let (f, at) = stands flights 0 some in record {
   flight = f;
   stands = at;
-  no_earlier = λ i g there below. absurd (nowhere i below);
-  later = λ i g there below. absurd (nowhere i below);
+  no_earlier = λ i g there below. absurd (omega (arith, below));
+  later = λ i g there below. absurd (omega (arith, below));
 }
 
 -- what stands there
@@ -97,3 +99,18 @@ heard_first flights place f h is = rw is (heard_at flights place h.flight h.stan
 -- all are later than a moment where the first is
 pub all_later : (limit : ℕ) (flights : List Delivered) (place : ℕ) → (h : IsNextFrame flights (length flights) place) → limit < h.flight.moment → All (λ d. limit < d.moment) (map delivery_of flights)
 all_later limit flights place h late = all_at (λ m. limit < m) flights (λ i e there. let no = h.no_earlier i e there (slice_get_within flights i e there) in omega (arith, no, late))
+
+-- ---- What flies, flies by arcs of the scenario.
+
+-- and so does what is sent
+pub still_flying : (s : Scenario) (now x : ℕ) (e : Emission) (old new : Traffic) → Sends s now x e old new → All (λ d. d.arc < length s.arcs) old.air → All (λ d. d.arc < length s.arcs) new.air
+still_flying s now x e old new sends h =
+    sent_all (λ d. d.arc < length s.arcs) s now x (e ∷ []) old new
+    (All-cons (λ (e : Emission). All (λ a. a.0 < length s.arcs) (leaving s.arcs x e.iface)) e [] (numbered s.arcs x e.iface) (All-nil (λ (e : Emission). All (λ a. a.0 < length s.arcs) (leaving s.arcs x e.iface))))
+    (new, sends, refl) h
+
+-- whatever comes of it
+pub all_flying : {E : Type 0} (s : Scenario) (now x iface : ℕ) (frame : List ℕ) (r : Result (List ℕ) E) (old new : Traffic) →
+    IfOk r (λ lost. Sends s now x (record { iface = iface; frame = frame; lost = lost }) old new) → OnOk r (All (λ d. d.arc < length s.arcs) old.air → All (λ d. d.arc < length s.arcs) new.air)
+all_flying s now x iface frame (Ok lost) old new sends = λ h. still_flying s now x (record { iface = iface; frame = frame; lost = lost }) old new sends h
+all_flying s now x iface frame (Err e) old new sends = tt

@@ -20,9 +20,10 @@ use Rattle.mesh_replay.specs.declared.checking.case.CheckedEvent.{CheckedEvent}
 use Rattle.mesh_replay.specs.declared.checking.case.Progress.{Progress}
 use Rattle.mesh_replay.specs.declared.checking.next.ComingFrame.{ComingFrame}
 use Rattle.mesh_replay.specs.declared.checking.next.NextEvent.{NextEvent}
+use Rattle.mesh_replay.specs.declared.checking.scene.FirstTick.{FirstTick}
 use Rattle.mesh_replay.specs.declared.traffic.air.Delivered.{Delivered}
 use Rattle.mesh_replay.specs.Checking.Going.{at}
-use Rattle.mesh_replay.specs.Checking.Scenes.{net_of}
+use Rattle.mesh_replay.specs.Checking.Scenes.{IsSoundScene, net_of}
 
 -- the text of the line that opens an event of a router with these settings at that moment: it hears this frame, or ticks
 abbrev pub opening_text : RouterSettings → ℕ → Option ComingFrame → List ℕ
@@ -70,7 +71,12 @@ pub record IsNextEvent (case : Case) (net : NetState) (flights : Traffic) (next 
       OpensAlone net y (opening_text was.settings next.moment next.heard) next.router (EventBy next.moment next.heard was)
       (record net { traffic = flights; last_ticks = next.last_ticks })
 
--- what is next in a network between events: nothing, or that event
-abbrev pub FindsNext : Case → List State → ℕ → Progress → Progress → Option NextEvent → Type 0
-FindsNext case routers last_ticks old new None = IsOver (net_of case routers last_ticks old) × (new ≡ old)
-FindsNext case routers last_ticks old new (Some next) = IsNextEvent case (net_of case routers last_ticks old) new.traffic.traffic next
+-- in each network between events that is meant, no event is left, and nothing changed
+abbrev pub FindsNone : Case → FirstTick → ℕ → Progress → Progress → Type 0
+FindsNone case due last_ticks old new =
+    (routers : List State) → IsSoundScene case routers due last_ticks old → IsOver (net_of case routers last_ticks old) × (new ≡ old)
+
+-- in each network between events that is meant, that event is next
+abbrev pub FindsNext : Case → FirstTick → ℕ → Progress → Progress → NextEvent → Type 0
+FindsNext case due last_ticks old new next =
+    (routers : List State) → IsSoundScene case routers due last_ticks old → IsNextEvent case (net_of case routers last_ticks old) new.traffic.traffic next

@@ -2,7 +2,7 @@
 ghost use Rattle.std.specs.Prelude.{◌≡◌, ◌<◌, List, length, MatchOption};
 ghost use Rattle.mesh_atoms.specs.State.{State};
 ghost use Rattle.mesh_replay.specs.Checking.Cases.{IsProgress};
-ghost use Rattle.mesh_replay.specs.Checking.Next.{FindsNext, LandsFrame, opening_text};
+ghost use Rattle.mesh_replay.specs.Checking.Next.{FindsNext, FindsNone, LandsFrame, opening_text};
 ghost use Rattle.mesh_replay.specs.Checking.Scenes.{IsSoundScene};
 ghost use Rattle.mesh_replay.specs.Checking.Texts.{text_of};
 ghost use Rattle.mesh_replay.specs.Checking.Ticking.{HasNoTickLeft, IsFoundTick};
@@ -40,8 +40,8 @@ pub(crate) fn next_of(
     progress: &mut Progress,
 ) -> Option<NextEvent>
     requires sound { (routers : List State) × IsSoundScene case.now routers due last_ticks progress.old }
-    ensures next { (routers : List State) → IsSoundScene case.now routers due last_ticks progress.old
-        → FindsNext case.now routers last_ticks progress.old progress.new result }
+    ensures next { MatchOption result (FindsNone case.now due last_ticks progress.old progress.new)
+        (FindsNext case.now due last_ticks progress.old progress.new) }
     ensures reader { progress.new.reader ≡ progress.old.reader }
     ensures progress { IsProgress case.now progress.new }
 {

@@ -1,4 +1,4 @@
-use Rattle.std.proofs.Common.{◌≡◌, ℕ, List, rules, subst, true, false}
+use Rattle.std.proofs.Common.{◌≡◌, ℕ, List, rules, subst}
 use Rattle.mesh_atoms.proofs.Options.{if_ok_weaker}
 use Rattle.mesh_trace.specs.machine.declared.frame.Frame.{Frame}
 use Rattle.mesh_replay.specs.Checking.Texts.{TakesText, sent_text}
@@ -7,21 +7,19 @@ use Rattle.mesh_replay.proofs.checking.frames.tell_frame.Goals as goal
 
 pub returns-then-not-branch : goal.returns-then-not-branch
 returns-then-not-branch c =
-    let bad : c.in_ok-take_due.field-0 ≡ false = search rules in
     let octets : c.as_slice.result.now ≡ c.args.frame.now.value = search rules in
     let event = c.args.event.now in
     let frame : Frame = record { iface = c.args.iface; bytes = c.args.frame.now.value } in
     sent_not {frame = frame} c.requires.progress
     (subst (λ (l : List ℕ). TakesText c.args.case.now.trace.now c.args.progress.now.reader c.take_due.new.reader (sent_text event.settings.now event.moment c.args.iface l) c.in_ok-take_due.field-0) octets c.in_ok-take_due.ensures)
-    bad
+    c.if-not-branch.true
 
 pub returns : goal.returns
 returns c =
-    let good : c.in_ok-take_due.field-0 ≡ true = search rules in
     let octets : c.as_slice.result.now ≡ c.args.frame.now.value = search rules in
     let event = c.args.event.now in
     let frame : Frame = record { iface = c.args.iface; bytes = c.args.frame.now.value } in
     if_ok_weaker c.send_out.result
     (λ fits out. sent_told {frame = frame}
     (subst (λ (l : List ℕ). TakesText c.args.case.now.trace.now c.args.progress.now.reader c.take_due.new.reader (sent_text event.settings.now event.moment c.args.iface l) c.in_ok-take_due.field-0) octets c.in_ok-take_due.ensures)
-    good out) c.send_out.ensures
+    c.if-not-branch.false out) c.send_out.ensures

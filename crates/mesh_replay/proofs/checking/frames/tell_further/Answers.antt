@@ -1,6 +1,6 @@
-use Rattle.std.proofs.Common.{◌≡◌, ◌<◌, length, rules, true, false, arith}
+use Rattle.std.proofs.Common.{◌<◌, length, arith}
 use Rattle.mesh_replay.proofs.CheckingLemmas.Telling.{tells_more, tells_nowhere, tells_stop, tells_to}
-use Rattle.mesh_replay.proofs.FramesLemmas.TcItems.{each_done, each_more}
+use Rattle.mesh_replay.proofs.FramesLemmas.Items.{each_done, each_more}
 use Rattle.mesh_replay.proofs.checking.frames.tell_further.Goals as goal
 
 pub loop-iface-init : goal.loop-iface-init
@@ -8,15 +8,13 @@ loop-iface-init c = tells_nowhere c.requires.progress
 
 pub loop-iface-preserved : goal.loop-iface-preserved
 loop-iface-preserved c =
-    let good : c.in_ok-tell_frame.field-0 ≡ true = search rules in
     let lt : c.loop-iface.iface < length c.args.event.now.settings.now.interfaces = (let a = c.loop-iface-test.true in let b = c.len-iface-end.ensures in omega (arith, a, b)) in
-    tells_more c.loop-iface.invariant (λ s. each_more (length c.args.event.now.settings.now.interfaces) c.loop-iface.iface c.args.frame.now.value lt) c.in_ok-tell_frame.ensures good
+    tells_more c.loop-iface.invariant (λ s. each_more (length c.args.event.now.settings.now.interfaces) c.loop-iface.iface c.args.frame.now.value lt) c.in_ok-tell_frame.ensures c.if-not-branch.false
 
 pub returns-then-not-branch : goal.returns-then-not-branch
 returns-then-not-branch c =
-    let bad : c.in_ok-tell_frame.field-0 ≡ false = search rules in
     let lt : c.loop-iface.iface < length c.args.event.now.settings.now.interfaces = (let a = c.loop-iface-test.true in let b = c.len-iface-end.ensures in omega (arith, a, b)) in
-    tells_stop c.loop-iface.invariant (λ s. each_more (length c.args.event.now.settings.now.interfaces) c.loop-iface.iface c.args.frame.now.value lt) c.in_ok-tell_frame.ensures bad
+    tells_stop c.loop-iface.invariant (λ s. each_more (length c.args.event.now.settings.now.interfaces) c.loop-iface.iface c.args.frame.now.value lt) c.in_ok-tell_frame.ensures c.if-not-branch.true
 
 pub returns : goal.returns
 returns c = tells_to c.loop-iface.invariant

@@ -1,4 +1,4 @@
-use Rattle.std.proofs.Common.{◌≡◌, rules, true, false, ap, map}
+use Rattle.std.proofs.Common.{ap, map}
 use Rattle.std.proofs.lemmas.List.{drop_all, drop_more}
 use Rattle.mesh_trace.specs.Positions.Standing.{Lost}
 use Rattle.mesh_replay.proofs.CheckingLemmas.Telling.{tells_more, tells_nowhere, tells_stop, tells_to}
@@ -10,13 +10,11 @@ loop-arc-init c = tells_nowhere c.requires
 
 pub loop-arc-preserved : goal.loop-arc-preserved
 loop-arc-preserved c =
-    let good : c.in_ok-take_due.field-0 ≡ true = search rules in
-    tells_more c.loop-arc.invariant (λ s. ap (map Lost) (drop_more c.args.lost.now c.loop-arc.arc-index 0 c.loop-arc-test.true)) (loss_told c.loop-arc.invariant.progress c.in_ok-take_due.ensures) good
+    tells_more c.loop-arc.invariant (λ s. ap (map Lost) (drop_more c.args.lost.now c.loop-arc.arc-index 0 c.loop-arc-test.true)) (loss_told c.loop-arc.invariant.progress c.in_ok-take_due.ensures) c.if-not-branch.false
 
 pub returns-then-not-branch : goal.returns-then-not-branch
 returns-then-not-branch c =
-    let bad : c.in_ok-take_due.field-0 ≡ false = search rules in
-    tells_stop c.loop-arc.invariant (λ s. ap (map Lost) (drop_more c.args.lost.now c.loop-arc.arc-index 0 c.loop-arc-test.true)) (loss_told c.loop-arc.invariant.progress c.in_ok-take_due.ensures) bad
+    tells_stop c.loop-arc.invariant (λ s. ap (map Lost) (drop_more c.args.lost.now c.loop-arc.arc-index 0 c.loop-arc-test.true)) (loss_told c.loop-arc.invariant.progress c.in_ok-take_due.ensures) c.if-not-branch.true
 
 pub returns : goal.returns
 returns c = tells_to c.loop-arc.invariant (λ s. ap (map Lost) (drop_all _ _ c.loop-arc-test.false))

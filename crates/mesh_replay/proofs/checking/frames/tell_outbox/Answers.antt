@@ -1,4 +1,4 @@
-use Rattle.std.proofs.Common.{◌≡◌, rules, arith, true, false, None, ap, map}
+use Rattle.std.proofs.Common.{◌≡◌, rules, arith, None, ap, map}
 use Rattle.std.specs.Prelude.{slice_get}
 use Rattle.std.proofs.lemmas.List.{drop_all}
 use Rattle.mesh_trace.specs.Positions.Standing.{Sent}
@@ -12,13 +12,11 @@ loop-i-init c = tells_nowhere c.requires.progress
 
 pub loop-i-preserved : goal.loop-i-preserved
 loop-i-preserved c =
-    let good : c.in_ok-tell_forwarded.field-0 ≡ true = search rules in
-    tells_more c.loop-i.invariant (λ s. frames_from c.args.out.now c.loop-i.i (record { iface = c.in-Some.iface; bytes = c.in-Some.octets.now }) c.in-Some.ensures) c.in_ok-tell_forwarded.ensures good
+    tells_more c.loop-i.invariant (λ s. frames_from c.args.out.now c.loop-i.i (record { iface = c.in-Some.iface; bytes = c.in-Some.octets.now }) c.in-Some.ensures) c.in_ok-tell_forwarded.ensures c.if-not-branch.false
 
 pub returns-then-not-branch : goal.returns-then-not-branch
 returns-then-not-branch c =
-    let bad : c.in_ok-tell_forwarded.field-0 ≡ false = search rules in
-    tells_stop c.loop-i.invariant (λ s. frames_from c.args.out.now c.loop-i.i (record { iface = c.in-Some.iface; bytes = c.in-Some.octets.now }) c.in-Some.ensures) c.in_ok-tell_forwarded.ensures bad
+    tells_stop c.loop-i.invariant (λ s. frames_from c.args.out.now c.loop-i.i (record { iface = c.in-Some.iface; bytes = c.in-Some.octets.now }) c.in-Some.ensures) c.in_ok-tell_forwarded.ensures c.if-not-branch.true
 
 pub returns-after-loop-i : goal.returns-after-loop-i
 returns-after-loop-i c = tells_to c.loop-i.invariant (λ s. ap (map Sent) (drop_all c.loop-i.i c.args.out.now (let whole = c.len-i-end.ensures in let done = c.loop-i-test.false in omega (arith, whole, done))))

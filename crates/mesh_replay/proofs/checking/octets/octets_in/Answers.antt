@@ -3,7 +3,7 @@ use Rattle.std.specs.Prelude.{IfSome}
 use Rattle.std.proofs.lemmas.Bool.{false≢true}
 use Rattle.hex.specs.Hex.{encode_lower}
 use Rattle.mesh_atoms.proofs.Options.{if_ok_weaker}
-use Rattle.mesh_replay.proofs.FramesLemmas.Octets.{only_octets, no_octets}
+use Rattle.mesh_replay.proofs.FramesLemmas.Items.{only_octets, no_octets}
 use Rattle.mesh_replay.proofs.checking.octets.octets_in.Goals as goal
 use Rattle.mesh_replay.proofs.checking.octets.octets_in.Goals.{then-is_lower, else-is_lower}
 

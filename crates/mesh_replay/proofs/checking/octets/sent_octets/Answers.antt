@@ -4,7 +4,7 @@ use Rattle.mesh_atoms.proofs.Options.{if_ok_weaker}
 use Rattle.mesh_texts.specs.Lines.Marks.{face_name}
 use Rattle.mesh_replay.specs.Checking.Sending.{sent_front}
 use Rattle.mesh_replay.proofs.CheckingLemmas.Texts.{reads_none, reads_some}
-use Rattle.mesh_replay.proofs.FramesLemmas.Octets.{sent_parts}
+use Rattle.mesh_replay.proofs.FramesLemmas.Items.{sent_parts}
 use Rattle.mesh_replay.proofs.checking.octets.sent_octets.Goals as goal
 
 pub returns-in-Some : goal.returns-in-Some

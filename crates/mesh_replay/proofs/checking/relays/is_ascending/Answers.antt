@@ -1,4 +1,4 @@
-use Rattle.mesh_replay.proofs.RelaysLemmas.Rising.{rises_on}
+use Rattle.mesh_replay.proofs.RelaysLemmas.Chosen.{rises_on}
 use Rattle.mesh_replay.proofs.checking.relays.is_ascending.Goals as goal
 
 pub loop-i-preserved : goal.loop-i-preserved

@@ -1,4 +1,4 @@
-use Rattle.std.proofs.Common.{◌≡◌, rules, false, true, subst}
+use Rattle.std.proofs.Common.{subst}
 use Rattle.std.specs.Prelude.{◌↔◌, IsTrue}
 use Rattle.mesh_replay.specs.Checking.RelayLines.{MayTell}
 use Rattle.mesh_replay.proofs.CheckingLemmas.Texts.{takes_none, takes_not, takes_one}
@@ -11,12 +11,10 @@ returns-in_default g c =
 
 pub returns-then-not-branch : goal.returns-then-not-branch
 returns-then-not-branch g c =
-    let bad : c.in_ok-may_be.field-0 ≡ false = search rules in
     takes_not (λ relays may. all_wide relays (are_wide (g.R.RouterOfTrace.state c.args.router.now) c.args.iface relays c.requires.addresses may)) c.in_ok-relays.ensures c.in-Some.relays c.in-Some.is
-    (subst (λ l. IsTrue c.in_ok-may_be.field-0 ↔ MayTell (g.R.RouterOfTrace.state c.args.router.now) c.args.iface l) c.as_slice.ensures c.in_ok-may_be.ensures) bad
+    (subst (λ l. IsTrue c.in_ok-may_be.field-0 ↔ MayTell (g.R.RouterOfTrace.state c.args.router.now) c.args.iface l) c.as_slice.ensures c.in_ok-may_be.ensures) c.if-not-branch.true
 
 pub returns : goal.returns
 returns g c =
-    let good : c.in_ok-may_be.field-0 ≡ true = search rules in
     takes_one (λ relays may. all_wide relays (are_wide (g.R.RouterOfTrace.state c.args.router.now) c.args.iface relays c.requires.addresses may)) c.in_ok-relays.ensures c.in-Some.relays c.in-Some.is
-    (subst (λ l. MayTell (g.R.RouterOfTrace.state c.args.router.now) c.args.iface l) c.as_slice.ensures (c.in_ok-may_be.ensures.0 good)) c.take.ensures.took.0 c.take.ensures.took.1 c.take.ensures.reading
+    (subst (λ l. MayTell (g.R.RouterOfTrace.state c.args.router.now) c.args.iface l) c.as_slice.ensures (c.in_ok-may_be.ensures.0 c.if-not-branch.false)) c.take.ensures.took.0 c.take.ensures.took.1 c.take.ensures.reading

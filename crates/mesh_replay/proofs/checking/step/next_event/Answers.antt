@@ -2,7 +2,6 @@ use Rattle.std.proofs.Common.{[], ap, map, subst}
 use Rattle.mesh_trace.specs.declared.reading.Reader.{Reader}
 use Rattle.mesh_replay.specs.declared.checking.case.Progress.{Progress}
 use Rattle.mesh_replay.specs.Checking.Going.{at, FitsOrStops}
-use Rattle.mesh_replay.specs.Checking.Next.{FindsNext, IsNextEvent}
 use Rattle.mesh_replay.specs.Checking.Scenes.{net_of}
 use Rattle.mesh_replay.proofs.SceneLemmas.Ticks.{comes_of, sound_after}
 use Rattle.mesh_replay.proofs.checking.step.next_event.Goals as goal
@@ -13,23 +12,14 @@ next_of-requires g c = record { sound = (map g.R.RouterOfTrace.state c.args.scen
 pub returns-in_default-clause-comes : goal.returns-in_default-clause-comes
 returns-in_default-clause-comes g c =
     let old = map g.R.RouterOfTrace.state c.args.scene.now.routers.items in
-    let (over, same) = subst (FindsNext c.args.case.now old c.args.scene.now.last_ticks c.args.progress.now c.next_of.new.progress) c.in_default.is (c.next_of.ensures.next old c.requires.sound) in
+    let (over, same) = c.in_default.ensures.next old c.requires.sound in
     (over, ap (λ (p : Progress). net_of c.args.case.now old c.args.scene.now.last_ticks p) same, c.next_of.ensures.reader)
 
 pub take_event-requires-clause-next : goal.take_event-requires-clause-next
-take_event-requires-clause-next g c = (
-  c.args.scene.now.last_ticks,
-  c.args.progress.now,
-  c.requires.reached,
-  subst (FindsNext c.args.case.now (map g.R.RouterOfTrace.state c.args.scene.now.routers.items) c.args.scene.now.last_ticks c.args.progress.now c.next_of.new.progress) c.in-Some.is
-      (c.next_of.ensures.next (map g.R.RouterOfTrace.state c.args.scene.now.routers.items) c.requires.sound),
-)
+take_event-requires-clause-next g c = (c.args.scene.now.last_ticks, c.args.progress.now, c.requires.reached, c.in-Some.ensures.next (map g.R.RouterOfTrace.state c.args.scene.now.routers.items) c.requires.sound)
 
 pub returns-clause-comes : goal.returns-clause-comes
 returns-clause-comes g c =
-    let is : IsNextEvent c.args.case.now (net_of c.args.case.now (map g.R.RouterOfTrace.state c.args.scene.now.routers.items) c.args.scene.now.last_ticks c.args.progress.now) c.next_of.new.progress.traffic.traffic c.in-Some.next =
-    subst (FindsNext c.args.case.now (map g.R.RouterOfTrace.state c.args.scene.now.routers.items) c.args.scene.now.last_ticks c.args.progress.now c.next_of.new.progress) c.in-Some.is
-    (c.next_of.ensures.next (map g.R.RouterOfTrace.state c.args.scene.now.routers.items) c.requires.sound) in
     let case = c.args.case.now in
     let scene = c.args.scene.now in
     let old = map g.R.RouterOfTrace.state scene.routers.items in
@@ -41,16 +31,13 @@ returns-clause-comes g c =
     (λ x. (
       c.in-Some.next.router,
       subst (λ (r : Reader). FitsOrStops case.trace.now r c.take_event.new.progress.reader (at before x []) (at (net_of case new c.in-Some.next.last_ticks c.take_event.new.progress) c.in-Some.next.router []) c.in_ok-fits.fits)
-          c.next_of.ensures.reader (c.in_ok-fits.ensures.goes scene.last_ticks c.args.progress.now x is),
+          c.next_of.ensures.reader (c.in_ok-fits.ensures.goes scene.last_ticks c.args.progress.now x (c.in-Some.ensures.next old c.requires.sound)),
     ))
 
 pub returns-clause-sound : goal.returns-clause-sound
 returns-clause-sound g c =
-    let is : IsNextEvent c.args.case.now (net_of c.args.case.now (map g.R.RouterOfTrace.state c.args.scene.now.routers.items) c.args.scene.now.last_ticks c.args.progress.now) c.next_of.new.progress.traffic.traffic c.in-Some.next =
-    subst (FindsNext c.args.case.now (map g.R.RouterOfTrace.state c.args.scene.now.routers.items) c.args.scene.now.last_ticks c.args.progress.now c.next_of.new.progress) c.in-Some.is
-    (c.next_of.ensures.next (map g.R.RouterOfTrace.state c.args.scene.now.routers.items) c.requires.sound) in
     let new = map g.R.RouterOfTrace.state c.take_event.new.routers.items in
     let settled = map g.R.RouterOfTrace.state c.settle.new.scene.routers.items in
     sound_after c.args.case.now c.take_event.new.progress new settled c.settle.new.scene.due c.in-Some.next.last_ticks c.settle.new.scene.last_ticks c.in_ok-fits.fits c.settle.result c.settle.ensures.outcome
     (ap (map g.R.RouterOfTrace.state) c.settle.ensures.routers) c.settle.ensures.last_ticks
-    c.requires.sound.case_is c.in_ok-fits.ensures.kept.progress_is c.in_ok-fits.ensures.kept.kept c.settle.ensures.first is.few
+    c.requires.sound.case_is c.in_ok-fits.ensures.kept.progress_is c.in_ok-fits.ensures.kept.kept c.settle.ensures.first (c.in-Some.ensures.next (map g.R.RouterOfTrace.state c.args.scene.now.routers.items) c.requires.sound).few

@@ -1,4 +1,4 @@
-use Rattle.std.proofs.Common.{◌≡◌, ◌<◌, length, map, refl, rules, subst, arith, true, List, ℕ}
+use Rattle.std.proofs.Common.{map, refl, subst, arith, List, ℕ}
 use Rattle.std.proofs.lemmas.List.{length-map, map-set}
 use Rattle.mesh_atoms.proofs.Lists.{item_at}
 use Rattle.mesh_atoms.proofs.Options.{if_ok_weaker}
@@ -8,12 +8,6 @@ use Rattle.mesh_replay.proofs.checking.step.take_event.Goals as goal
 
 pub bounds-as_slice-next : goal.bounds-as_slice-next
 bounds-as_slice-next g c = let (count, before, reached, is) = c.requires.next in rw c.as_slice.ensures (next_within is)
-
-pub offset_bounds-as_slice-next : goal.offset_bounds-as_slice-next
-offset_bounds-as_slice-next g c =
-    let (count, before, reached, is) = c.requires.next in
-    let below : c.args.next.now.router < length c.as_slice.result.now = rw c.as_slice.ensures (next_within is) in
-    search rules
 
 pub returns-then-not-branch-clause-goes : goal.returns-then-not-branch-clause-goes
 returns-then-not-branch-clause-goes g c count before y is =
@@ -29,11 +23,6 @@ index_mut-router-requires g c =
     let same = length-map c.args.routers.now.items g.R.RouterOfTrace.state in
     omega (arith, below, same)
 
-pub do_event-requires-clause-event : goal.do_event-requires-clause-event
-do_event-requires-clause-event g c =
-    let (count, before, reached, is) = c.requires.next in
-    record { case_is = c.requires.case; stands = read_at c.as_slice.ensures (next_within is) c.index-as_slice-next.is; early = is.early }
-
 pub do_event-requires-clause-comes : goal.do_event-requires-clause-comes
 do_event-requires-clause-comes g c one is_one =
     let (count, before, reached, is) = c.requires.next in
@@ -41,12 +30,11 @@ do_event-requires-clause-comes g c one is_one =
 
 pub do_event-requires-clause-begins : goal.do_event-requires-clause-begins
 do_event-requires-clause-begins g c =
-    let good : c.in_ok-take_due.field-0 ≡ true = search rules in
     let (count, before, reached, is) = c.requires.next in
     let there = read_at c.as_slice.ensures (next_within is) c.index-as_slice-next.is in
     let here = state_at g.R.RouterOfTrace.state c.args.routers.now.items (router_within c.requires.kept (next_within is)) c.index_mut-router.ensures.value in
     let takes = subst (λ (l : List ℕ). TakesText c.args.case.now.trace.now c.args.progress.now.reader c.take_due.new.reader l c.in_ok-take_due.field-0) c.opening_line-line.ensures c.in_ok-take_due.ensures in
-    next_begins c.args.case.now c.args.progress.now c.args.next.now c.requires.kept there here takes count before is refl good reached
+    next_begins c.args.case.now c.args.progress.now c.args.next.now c.requires.kept there here takes count before is refl c.if-not-branch.false reached
 
 pub returns-clause-kept : goal.returns-clause-kept
 returns-clause-kept g c =
@@ -58,10 +46,9 @@ returns-clause-kept g c =
 
 pub returns-clause-goes : goal.returns-clause-goes
 returns-clause-goes g c =
-    let good : c.in_ok-take_due.field-0 ≡ true = search rules in
     let (_, _, _, next) = c.requires.next in
     let there = read_at c.as_slice.ensures (next_within next) c.index-as_slice-next.is in
     let here = state_at g.R.RouterOfTrace.state c.args.routers.now.items (router_within c.requires.kept (next_within next)) c.index_mut-router.ensures.value in
     let takes = subst (λ (l : List ℕ). TakesText c.args.case.now.trace.now c.args.progress.now.reader c.take_due.new.reader l c.in_ok-take_due.field-0) c.opening_line-line.ensures c.in_ok-take_due.ensures in
     if_ok_weaker c.do_event.result (λ fits ends count before y is. rw (map-set g.R.RouterOfTrace.state c.args.routers.now.items c.args.next.now.router c.do_event.new.router)
-    (next_on c.args.case.now c.args.progress.now c.args.next.now c.requires.kept there here takes count before is refl good ends y)) c.do_event.ensures
+    (next_on c.args.case.now c.args.progress.now c.args.next.now c.requires.kept there here takes count before is refl c.if-not-branch.false ends y)) c.do_event.ensures

@@ -1,5 +1,5 @@
 use Rattle.mesh_atoms.proofs.Options.{if_ok_weaker}
-use Rattle.mesh_replay.proofs.FramesLemmas.TcItems.{tc_named}
+use Rattle.mesh_replay.proofs.FramesLemmas.Items.{tc_named}
 use Rattle.mesh_replay.proofs.checking.tcs.tell_span.Goals as goal
 
 pub returns : goal.returns

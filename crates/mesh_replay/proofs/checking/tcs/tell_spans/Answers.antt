@@ -1,10 +1,10 @@
-use Rattle.std.proofs.Common.{◌≡◌, rules, true, false, ap, List, get_or, arith}
+use Rattle.std.proofs.Common.{ap, List, get_or, arith}
 use Rattle.std.proofs.lemmas.List.{drop_all}
 use Rattle.std.proofs.lemmas.Option.{slice_get-get_or}
 use Rattle.mesh_topo.specs.declared.advertised.spans.PartSpan.{PartSpan}
 use Rattle.mesh_replay.specs.Checking.Kept.{span_items}
 use Rattle.mesh_replay.proofs.CheckingLemmas.Telling.{tells_more, tells_nowhere, tells_stop, tells_to}
-use Rattle.mesh_replay.proofs.FramesLemmas.TcItems.{spans_more}
+use Rattle.mesh_replay.proofs.FramesLemmas.Items.{spans_more}
 use Rattle.mesh_replay.proofs.checking.tcs.tell_spans.Goals as goal
 
 pub loop-span-init : goal.loop-span-init
@@ -17,15 +17,13 @@ tell_span-requires-clause-within c =
 
 pub loop-span-preserved : goal.loop-span-preserved
 loop-span-preserved c =
-    let good : c.in_ok-tell_span.field-0 ≡ true = search rules in
     let due = c.args.due.now in
-    tells_more c.loop-span.invariant (λ s. spans_more due.complete c.loop-span.number due.rows.now c.args.spans.now c.loop-span.span-index (record { first = 0; len = 0 }) c.loop-span-test.true) c.in_ok-tell_span.ensures good
+    tells_more c.loop-span.invariant (λ s. spans_more due.complete c.loop-span.number due.rows.now c.args.spans.now c.loop-span.span-index (record { first = 0; len = 0 }) c.loop-span-test.true) c.in_ok-tell_span.ensures c.if-not-branch.false
 
 pub returns-then-not-branch : goal.returns-then-not-branch
 returns-then-not-branch c =
-    let bad : c.in_ok-tell_span.field-0 ≡ false = search rules in
     let due = c.args.due.now in
-    tells_stop c.loop-span.invariant (λ s. spans_more due.complete c.loop-span.number due.rows.now c.args.spans.now c.loop-span.span-index (record { first = 0; len = 0 }) c.loop-span-test.true) c.in_ok-tell_span.ensures bad
+    tells_stop c.loop-span.invariant (λ s. spans_more due.complete c.loop-span.number due.rows.now c.args.spans.now c.loop-span.span-index (record { first = 0; len = 0 }) c.loop-span-test.true) c.in_ok-tell_span.ensures c.if-not-branch.true
 
 pub returns : goal.returns
 returns c =

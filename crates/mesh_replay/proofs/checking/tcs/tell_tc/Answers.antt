@@ -1,7 +1,7 @@
-use Rattle.std.proofs.Common.{◌≡◌, ℕ, List, Some, rules, ◌∙◌, ap, true, false}
+use Rattle.std.proofs.Common.{◌≡◌, ℕ, List, Some, rules, ◌∙◌, ap}
 use Rattle.mesh_atoms.proofs.Options.{if_ok_weaker}
 use Rattle.mesh_replay.proofs.CheckingLemmas.Telling.{tells_not, tells_on, tells_where}
-use Rattle.mesh_replay.proofs.FramesLemmas.TcItems.{tc_told, tc_not}
+use Rattle.mesh_replay.proofs.FramesLemmas.Items.{tc_told, tc_not}
 use Rattle.mesh_replay.proofs.checking.tcs.tell_tc.Goals as goal
 
 pub returns-in_default : goal.returns-in_default
@@ -9,13 +9,11 @@ returns-in_default c = tc_not c.requires.validity c.in_ok-octets.ensures c.requi
 
 pub returns-then-not-branch : goal.returns-then-not-branch
 returns-then-not-branch c =
-    let bad : c.in_ok-send_out.field-0 ≡ false = search rules in
     let octets : c.in-Some.octets ≡ c.in_ok-frame.frame.value = search rules in
-    tells_not (tc_told c.requires.validity c.in_ok-octets.ensures (c.in-Some.is ∙ ap (λ (l : List ℕ). Some l) octets) c.in_ok-send_out.ensures) bad
+    tells_not (tc_told c.requires.validity c.in_ok-octets.ensures (c.in-Some.is ∙ ap (λ (l : List ℕ). Some l) octets) c.in_ok-send_out.ensures) c.if-not-branch.true
 
 pub returns : goal.returns
 returns c =
-    let good : c.in_ok-send_out.field-0 ≡ true = search rules in
     let octets : c.in-Some.octets ≡ c.in_ok-frame.frame.value = search rules in
-    if_ok_weaker c.tell_further.result (λ fits tells. tells_on (tc_told c.requires.validity c.in_ok-octets.ensures (c.in-Some.is ∙ ap (λ (l : List ℕ). Some l) octets) c.in_ok-send_out.ensures) good
+    if_ok_weaker c.tell_further.result (λ fits tells. tells_on (tc_told c.requires.validity c.in_ok-octets.ensures (c.in-Some.is ∙ ap (λ (l : List ℕ). Some l) octets) c.in_ok-send_out.ensures) c.if-not-branch.false
     (tells_where tells (λ s is has. tt))) c.tell_further.ensures

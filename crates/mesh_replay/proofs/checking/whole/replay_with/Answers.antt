@@ -1,7 +1,5 @@
 use Rattle.std.proofs.Common.{List, map, subst}
 use Rattle.mesh_atoms.specs.declared.settings.RouterSettings.{RouterSettings}
-use Rattle.mesh_replay.specs.declared.checking.case.Case.{Case}
-use Rattle.mesh_replay.specs.Checking.Cases.{IsCase}
 use Rattle.mesh_replay.specs.Checking.Opening.{AreAtOpening}
 use Rattle.mesh_replay.proofs.SceneLemmas.Beginning.{opening_sound, opening_read, some_router}
 use Rattle.mesh_replay.proofs.checking.whole.replay_with.Goals as goal
@@ -13,15 +11,13 @@ opening_net-scene-requires g c =
 
 pub check-requires-clause-sound : goal.check-requires-clause-sound
 check-requires-clause-sound g c =
-    let case : Case = record { trace = c.args.trace; scenario = c.args.scenario; ways = c.in_ok-ways.ways } in
-    let scene = c.opening_net-scene.result in
-    let ways : IsCase case = rw (← c.as_slice.ensures, ← c.as_slice-2.ensures) c.in_ok-ways.ensures in
-    opening_sound case (map g.R.RouterOfTrace.state scene.routers.items) scene.due scene.last_ticks c.opening_progress-progress.result ways c.opening_progress-progress.ensures
+    opening_sound (record { trace = c.args.trace; scenario = c.args.scenario; ways = c.in_ok-ways.ways }) (map g.R.RouterOfTrace.state c.opening_net-scene.result.routers.items) c.opening_net-scene.result.due c.opening_net-scene.result.last_ticks
+    c.opening_progress-progress.result c.opening_progress-progress.ensures
     (c.opening_net-scene.ensures c.args.scenario.now (subst (λ (rs : List RouterSettings). AreAtOpening rs (map g.R.RouterOfTrace.state c.in_ok-routers.routers.items)) c.as_slice-3.ensures c.in_ok-routers.ensures))
+    (rw (← c.as_slice.ensures, ← c.as_slice-2.ensures) c.in_ok-ways.ensures)
 
 pub check-requires-clause-read : goal.check-requires-clause-read
 check-requires-clause-read g c =
-    let case : Case = record { trace = c.args.trace; scenario = c.args.scenario; ways = c.in_ok-ways.ways } in
-    let scene = c.opening_net-scene.result in
-    opening_read case (map g.R.RouterOfTrace.state scene.routers.items) scene.due scene.last_ticks c.opening_progress-progress.result c.opening_progress-progress.ensures
+    opening_read (record { trace = c.args.trace; scenario = c.args.scenario; ways = c.in_ok-ways.ways }) (map g.R.RouterOfTrace.state c.opening_net-scene.result.routers.items) c.opening_net-scene.result.due c.opening_net-scene.result.last_ticks
+    c.opening_progress-progress.result c.opening_progress-progress.ensures
     (c.opening_net-scene.ensures c.args.scenario.now (subst (λ (rs : List RouterSettings). AreAtOpening rs (map g.R.RouterOfTrace.state c.in_ok-routers.routers.items)) c.as_slice-3.ensures c.in_ok-routers.ensures))

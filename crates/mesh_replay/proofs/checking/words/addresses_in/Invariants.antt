@@ -1,7 +1,7 @@
 use Rattle.std.proofs.Common.{◌≡◌, ◌<◌, ◌^◌, All, List, length}
 use Rattle.mesh_atoms.specs.declared.addr.Addr4.{Addr4}
 use Rattle.mesh_texts.specs.Lines.Marks.{spaced}
-use Rattle.mesh_replay.proofs.RelaysLemmas.Told.{IsLeft}
+use Rattle.mesh_replay.proofs.RelaysLemmas.Words.{IsLeft}
 use Rattle.mesh_replay.proofs.checking.words.addresses_in.Given as goal
 
 abbrev pub invariant-loop-left : goal.invariant-loop-left

@@ -1,5 +1,5 @@
 use Rattle.mesh_io.specs.declared.stop.Stop.TheVariants as stop
-use Rattle.mesh_replay.proofs.CommandLemmas.Telling.{same_stop}
+use Rattle.mesh_replay.proofs.CommandLemmas.Refusing.{same_stop}
 use Rattle.mesh_replay.proofs.command.input.replay_input.Goals as goal
 
 pub returns-in-Ok-tell-clause-answered : goal.returns-in-Ok-tell-clause-answered

@@ -1,6 +1,6 @@
 use Rattle.std.proofs.Common.{◌≡◌, length}
 use Rattle.mesh_replay.specs.Command.Marks.{IsMarkLine, word_of}
-use Rattle.mesh_replay.proofs.CommandLemmas.Cuts.{Passed}
+use Rattle.mesh_replay.proofs.CommandLemmas.Rules.{Passed}
 use Rattle.mesh_trace.specs.Reading.Readers.{lines_from, IsReaderOf}
 use Rattle.mesh_replay.proofs.command.marks.front.Given as goal
 

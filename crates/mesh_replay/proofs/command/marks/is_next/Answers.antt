@@ -1,4 +1,4 @@
-use Rattle.mesh_replay.proofs.CommandLemmas.Marks.{not_next}
+use Rattle.mesh_replay.proofs.CommandLemmas.Rules.{not_next}
 use Rattle.mesh_replay.proofs.command.marks.is_next.Goals as goal
 
 pub returns-in-None : goal.returns-in-None

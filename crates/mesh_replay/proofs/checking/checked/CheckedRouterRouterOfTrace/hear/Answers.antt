@@ -4,9 +4,6 @@ use Rattle.mesh_replay.specs.declared.checking.router.EventLines.{EventLines}
 use Rattle.mesh_replay.proofs.RouterLemmas.Following.{begun, hearing_begins, hears_so}
 use Rattle.mesh_replay.proofs.checking.checked.CheckedRouterRouterOfTrace.hear.Goals as goal
 
-pub take_frame-requires-clause-sound : goal.take_frame-requires-clause-sound
-take_frame-requires-clause-sound g c = c.requires.kept.sound.bases
-
 pub returns-clause-hears : goal.returns-clause-hears
 returns-clause-hears g c =
     let (given, sent, kept, out, takes) = c.in_ok-quiet.ensures.taken in

@@ -1,14 +1,7 @@
-use Rattle.std.proofs.Common.{ap, refl}
+use Rattle.std.proofs.Common.{refl}
 use Rattle.mesh_atoms.proofs.Options.{if_ok_weaker}
-use Rattle.mesh_bases.specs.declared.derived.Derived.{Derived}
 use Rattle.mesh_replay.proofs.RouterLemmas.Following.{begun, by_settings, expired, few_rows, tick_begins, ticks_so}
 use Rattle.mesh_replay.proofs.checking.checked.CheckedRouterRouterOfTrace.tick.Goals as goal
-
-pub expire-requires-clause-sound : goal.expire-requires-clause-sound
-expire-requires-clause-sound g c = c.requires.kept.sound.bases
-
-pub take_due_lines-requires-clause-now : goal.take_due_lines-requires-clause-now
-take_due_lines-requires-clause-now g c = rw (ap (λ (d : Derived). d.last) c.in_ok-before.ensures.others) c.requires.now
 
 pub take_due_lines-requires-clause-few : goal.take_due_lines-requires-clause-few
 take_due_lines-requires-clause-few g c =

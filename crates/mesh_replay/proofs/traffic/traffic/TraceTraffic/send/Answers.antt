@@ -1,5 +1,5 @@
 use Rattle.mesh_trace.specs.machine.Traffic.{Traffic}
-use Rattle.mesh_replay.proofs.TrafficLemmas.Flying.{all_flying}
+use Rattle.mesh_replay.proofs.TrafficLemmas.Hearing.{all_flying}
 use Rattle.mesh_replay.proofs.traffic.traffic.TraceTraffic.send.Goals as goal
 
 pub returns-clause-flying : goal.returns-clause-flying

@@ -1,6 +1,11 @@
--- A router has one HELLO on an interface at a moment.
-use Rattle.std.proofs.Common.{◌≡◌, ℕ, ◌≤◌, inl, inr, refl, sym, ◌∙◌, ap, subst, arith, Option, Some, None, Contains}
+-- A router has one HELLO on an interface at a moment, and one TC of some of its rows with a number.
+use Rattle.std.proofs.Common.{◌≡◌, ℕ, ◌≤◌, inl, inr, refl, sym, ◌∙◌, ap, subst, arith, Option, Some, None, Contains, List, Bool}
 use Rattle.mesh_atoms.specs.declared.addr.Addr4.{Addr4}
+use Rattle.mesh_atoms.specs.declared.settings.Interface.{Interface}
+use Rattle.mesh_atoms.specs.declared.settings.RouterSettings.{RouterSettings}
+use Rattle.mesh_atoms.specs.State.{HasAddressOn, State, state_of, link_at, neighbour_at, HasSymmetricWith}
+use Rattle.mesh_atoms.proofs.Lookups.{addr_equiv, has_found, has_found_on, same_addr, link_equiv, same_link}
+use Rattle.mesh_atoms.proofs.Lists.{one_part}
 use Rattle.mesh_atoms.specs.declared.addr.NetAddr.{NetAddr}
 use Rattle.mesh_atoms.specs.declared.codes.metric.Metric.{Metric}
 use Rattle.mesh_atoms.specs.declared.hello.Hello.{Hello}
@@ -19,16 +24,24 @@ use Rattle.mesh_atoms.specs.declared.tuples.Neighbour.{Neighbour}
 use Rattle.mesh_atoms.specs.Hello.{Other_lost, Other_symmetric, Link_in, Link_out, Near_in, Near_out, HasLinkTo, SaysLink, Says, IsHelloRow, IsHelloNow, IsRoundedUp, local_part, link_part, other_part}
 use Rattle.mesh_atoms.specs.Nodes.{IsBefore}
 use Rattle.mesh_atoms.specs.Sound.{SoundNeighbourhood}
-use Rattle.mesh_atoms.specs.State.{State, state_of, link_at, neighbour_at, HasSymmetricWith}
 use Rattle.mesh_atoms.specs.Words.{IsValue}
 use Rattle.mesh_atoms.specs.declared.hello.Willing.{Willing}
 use Rattle.mesh_trace.proofs.PositionsLemmas.AlikeStates.{ordered_once}
-use Rattle.mesh_replay.proofs.FramesLemmas.OneInterface.{one_interface}
 use Rattle.mesh_trace.proofs.SpellingLemmas.SameRows.{same_row}
-use Rattle.mesh_atoms.proofs.Lookups.{has_found, has_found_on, addr_equiv, same_addr, link_equiv, same_link}
 use Rattle.mesh_atoms.proofs.Values.{one_originator}
 use Rattle.mesh_wire.proofs.OneHello.{same_metrics, same_mpr, hello_from, from_rows}
 use Rattle.mesh_atoms.proofs.Options.{same_answer}
+use Rattle.mesh_atoms.specs.declared.tc.Tc.{Tc}
+use Rattle.mesh_atoms.specs.declared.tc.TcRow.{TcRow}
+use Rattle.mesh_trace.specs.machine.Sending.{IsTcOfRows}
+use Rattle.mesh_wire.proofs.OneTc.{tc_from, from_rows as from_tc_rows}
+
+-- ---- An address stands on one interface of a router.
+
+pub one_interface : (r : RouterSettings) (i j : ℕ) (a : Addr4) → HasAddressOn r i a → HasAddressOn r j a → i ≡ j
+one_interface r i j a on to = one_part addr_equiv (λ (f : Interface). f.addrs) r.interfaces i j on.0 to.0 a r.sound.distinct_addrs on.1 to.1 on.2 to.2
+
+-- ---- A router has one HELLO on an interface at a moment.
 
 -- of pairs that are one
 abbrev first_or : {A : Type 0} → A → Option (A × ℕ) → A
@@ -169,3 +182,24 @@ module _ (s : State) (i now m : ℕ) (sound : SoundNeighbourhood s.settings m s.
       let intervals : f.interval ≡ g.interval = every ∙ (ap (λ (n : ℕ). Some n) (rounded_once s.settings.times.hello t u rounded rounded') ∙ sym every') in
       let rows = ordered_once (λ (x y : HelloRow). IsBefore x.addr y.addr) row_apart f.rows g.rows h.ordered k.ordered (row_also f g h k) (row_also g f k h) in
       hello_by_parts f g originators (rounded_once s.settings.times.hold f.validity g.validity h.validity k.validity) intervals (h.willing ∙ sym k.willing) rows
+
+-- ---- A router has one TC of some of its rows with a number.
+
+-- TCs by their parts
+tc_by_parts : (a b : Tc) → a.originator ≡ b.originator → a.sequence ≡ b.sequence → a.ansn ≡ b.ansn → a.complete ≡ b.complete → a.validity ≡ b.validity → a.interval ≡ b.interval → a.rows ≡ b.rows → a ≡ b
+tc_by_parts a b o s n c v i r =
+    ap (λ (x : Addr4). tc_from x a.sequence a.ansn a.complete a.validity a.interval a.rows a.ascending) o
+    ∙ (ap (λ (x : ℕ). tc_from b.originator x a.ansn a.complete a.validity a.interval a.rows a.ascending) s
+    ∙ (ap (λ (x : ℕ). tc_from b.originator b.sequence x a.complete a.validity a.interval a.rows a.ascending) n
+    ∙ (ap (λ (x : Bool). tc_from b.originator b.sequence b.ansn x a.validity a.interval a.rows a.ascending) c
+    ∙ (ap (λ (x : ℕ). tc_from b.originator b.sequence b.ansn b.complete x a.interval a.rows a.ascending) v
+    ∙ (ap (λ (x : Option ℕ). tc_from b.originator b.sequence b.ansn b.complete b.validity x a.rows a.ascending) i
+    ∙ from_tc_rows b.originator b.sequence b.ansn b.complete b.validity b.interval a.rows b.rows a.ascending b.ascending r)))))
+
+pub tc_once : (s : State) (validity : List ℕ) (complete : Bool) (sequence : ℕ) (rows : List TcRow) (a b : Tc) → IsTcOfRows s validity complete sequence rows a → IsTcOfRows s validity complete sequence rows b → a ≡ b
+tc_once s validity complete sequence rows a b h k =
+    let (t, every, rounded) = h.interval in
+    let (u, every', rounded') = k.interval in
+    let intervals : a.interval ≡ b.interval = every ∙ (ap (λ (n : ℕ). Some n) (rounded_once s.settings.times.tc t u rounded rounded') ∙ sym every') in
+    tc_by_parts a b (one_originator s.settings a.originator b.originator h.originator k.originator) (h.sequence_is ∙ sym k.sequence_is) (h.ansn ∙ sym k.ansn) (h.complete_is ∙ sym k.complete_is)
+    (h.validity_is ∙ sym k.validity_is) intervals (h.rows_are ∙ sym k.rows_are)
