@@ -4,3 +4,4 @@ pub mod OwnRows
 pub mod Parts
 pub mod RowCounts
 pub mod Somewhere
+pub mod Whose

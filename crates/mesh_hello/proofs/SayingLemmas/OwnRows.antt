@@ -17,43 +17,25 @@ use Rattle.mesh_atoms.specs.declared.hello.OtherStatus.TheVariants.{Lost as No_m
 use Rattle.mesh_atoms.specs.declared.codes.metric.Metric.{Metric}
 use Rattle.mesh_atoms.specs.declared.settings.RouterSettings.{RouterSettings}
 use Rattle.mesh_atoms.specs.declared.tuples.Relays.{Relays}
-use Rattle.mesh_atoms.specs.Hello.{Part, Says, IsHelloNow, local_part, link_part, other_part, This_if, Other_if, Link_lost, Link_symmetric, Link_heard, Other_lost, Other_symmetric, Link_in, Link_out, Near_in, Near_out, Flooding, Routing}
+use Rattle.mesh_atoms.specs.Hello.{Part, Says, IsHelloNow, local_part, link_part, other_part, Link_in, Link_out, Near_in, Near_out, Flooding, Routing}
 use Rattle.mesh_atoms.specs.Words.{IsValue}
 use Rattle.mesh_atoms.specs.Sound.{SoundNeighbourhood}
 use Rattle.mesh_atoms.specs.State.{State, Neighbourhood, HasAddress}
 use Rattle.mesh_atoms.specs.TakesHello.{IsHeld}
 use Rattle.mesh_atoms.specs.Writable.{IsAlone}
-use Rattle.mesh_atoms.proofs.Lookups.{addr_equiv, same_addr, has_found}
-use Rattle.mesh_hello.proofs.SayingLemmas.RowCounts.{neighbour_held, link_held, sample}
+use Rattle.mesh_hello.proofs.SayingLemmas.RowCounts.{tuple_held, sample}
+use Rattle.mesh_hello.proofs.SayingLemmas.Whose.{IsLocal, whose}
 
 held_not_mine : (settings : RouterSettings) (m : ℕ) (near : Neighbourhood) → SoundNeighbourhood settings m near → (a : Addr4) → IsHeld near a → HasAddress settings a → ⊥
 held_not_mine settings m near sound a (inl (e, at)) mine = (sound.neighbour a e.0 e.1 at).not_mine mine
 held_not_mine settings m near sound a (inr (inl (o, n, until, at, in'))) mine = (sound.neighbour o n until at).none_mine a in' mine
 held_not_mine settings m near sound a (inr (inr (e, at))) mine = sound.lost_not_mine a e at mine
 
--- the part says that the address is the sender's
-abbrev IsLocal : Part → Type 0
-IsLocal This_if = Unit {0}
-IsLocal Other_if = Unit {0}
-IsLocal part = ⊥
-
 own_only : (s : State) (i now m : ℕ) → SoundNeighbourhood s.settings m s.bases.neighbourhood → (a : Addr4) → HasAddress s.settings a → (part : Part) → Says s i now a part → IsLocal part
-own_only s i now m sound a mine This_if h = tt
-own_only s i now m sound a mine Other_if h = tt
-own_only s i now m sound a mine Link_lost (link, (key, has, in', state)) = held_not_mine s.settings m s.bases.neighbourhood sound a (link_held s i m sound a key link has in') mine
-own_only s i now m sound a mine Link_symmetric (link, (key, has, in', state)) = held_not_mine s.settings m s.bases.neighbourhood sound a (link_held s i m sound a key link has in') mine
-own_only s i now m sound a mine Link_heard (link, (key, has, in', state)) = held_not_mine s.settings m s.bases.neighbourhood sound a (link_held s i m sound a key link has in') mine
-own_only s i now m sound a mine Other_lost (lost, has) =
-    let (until, at) = (has_found addr_equiv same_addr s.bases.neighbourhood.losts a lost sound.distinct_losts).0 has in
-    sound.lost_not_mine a (lost, until) at mine
-own_only s i now m sound a mine Other_symmetric ((o, n, has), none) = held_not_mine s.settings m s.bases.neighbourhood sound a (neighbour_held s m sound a o n has) mine
-own_only s i now m sound a mine (Link_in c) (link, inl (key, has, in', state), is) = held_not_mine s.settings m s.bases.neighbourhood sound a (link_held s i m sound a key link has in') mine
-own_only s i now m sound a mine (Link_in c) (link, inr (key, has, in', state), is) = held_not_mine s.settings m s.bases.neighbourhood sound a (link_held s i m sound a key link has in') mine
-own_only s i now m sound a mine (Link_out c) (link, (key, has, in', state), is) = held_not_mine s.settings m s.bases.neighbourhood sound a (link_held s i m sound a key link has in') mine
-own_only s i now m sound a mine (Near_in c) (o, n, has, is) = held_not_mine s.settings m s.bases.neighbourhood sound a (neighbour_held s m sound a o n has) mine
-own_only s i now m sound a mine (Near_out c) (o, n, has, is) = held_not_mine s.settings m s.bases.neighbourhood sound a (neighbour_held s m sound a o n has) mine
-own_only s i now m sound a mine Flooding h = held_not_mine s.settings m s.bases.neighbourhood sound a (link_held s i m sound a h.1.0 h.0 h.1.1 h.1.2) mine
-own_only s i now m sound a mine Routing (o, n, has, is) = held_not_mine s.settings m s.bases.neighbourhood sound a (neighbour_held s m sound a o n has) mine
+own_only s i now m sound a mine part says = elim (whose s i now a part says) [
+  | inl (local, own) ↦ local
+  | inr tuple ↦ absurd (held_not_mine s.settings m s.bases.neighbourhood sound a (tuple_held s i now m sound a tuple) mine)
+]
 
 -- Values
 

@@ -18,7 +18,7 @@ use Rattle.mesh_atoms.specs.declared.tuples.Link.{Link}
 use Rattle.mesh_atoms.specs.declared.tuples.LinkKey.{LinkKey}
 use Rattle.mesh_atoms.specs.declared.tuples.Neighbour.{Neighbour}
 use Rattle.mesh_atoms.specs.Base.{addr_eq}
-use Rattle.mesh_atoms.specs.Hello.{Part, Says, IsHelloNow, This_if, Other_if, Link_lost, Link_symmetric, Link_heard, Other_lost, Other_symmetric, Link_in, Link_out, Near_in, Near_out, Flooding, Routing}
+use Rattle.mesh_atoms.specs.Hello.{Part, Says, IsHelloNow}
 use Rattle.mesh_atoms.specs.Nodes.{IsBefore}
 use Rattle.mesh_atoms.specs.Words.{IsAscending, AreMoreThan}
 use Rattle.mesh_atoms.specs.Sound.{SoundNeighbourhood}
@@ -27,6 +27,7 @@ use Rattle.mesh_atoms.specs.TakesHello.{IsHeld}
 use Rattle.mesh_atoms.proofs.Lookups.{addr_equiv, same_addr, has_found, looks_up_links, looks_up_neighbours}
 use Rattle.mesh_atoms.specs.declared.tuples.Relays.{Relays}
 use Rattle.mesh_hello.proofs.Sorted.{distinct_ascending}
+use Rattle.mesh_hello.proofs.SayingLemmas.Whose.{HasTuple, Linked, Near, Gone, whose}
 use Rattle.mesh_hello.proofs.Fits.{any_contains, distinct_fits}
 use Rattle.mesh_atoms.proofs.Lists.{contains_filter as picked, contains_at, contains_flat_map}
 
@@ -108,30 +109,22 @@ neighbour_held s m sound a o n has =
     let (until, at) = (looks_up_neighbours s o n sound.distinct_neighbours).0 has.0.0 in
     inr (inl (o, n, until, at, has.1))
 
-pub link_held : (s : State) (i m : ℕ) → SoundNeighbourhood s.settings m s.bases.neighbourhood → (a : Addr4) (key : LinkKey) (link : Link) → HasLink s i key link → Contains link.addrs a → IsHeld s.bases.neighbourhood a
+link_held : (s : State) (i m : ℕ) → SoundNeighbourhood s.settings m s.bases.neighbourhood → (a : Addr4) (key : LinkKey) (link : Link) → HasLink s i key link → Contains link.addrs a → IsHeld s.bases.neighbourhood a
 link_held s i m sound a key link has in' =
     let (until, at) = (looks_up_links s i key link (sound.distinct_links i)).0 has in
     let (o, n, u, at', all) = sound.owner i key link until at in
     inr (inl (o, n, u, at', all a in'))
 
+pub tuple_held : (s : State) (i now m : ℕ) → SoundNeighbourhood s.settings m s.bases.neighbourhood → (a : Addr4) → HasTuple s i now a → IsHeld s.bases.neighbourhood a
+tuple_held s i now m sound a (Linked state link not (key, has, in', is)) = link_held s i m sound a key link has in'
+tuple_held s i now m sound a (Near o n has) = neighbour_held s m sound a o n has
+tuple_held s i now m sound a (Gone lost has) =
+    let (until, at) = (has_found addr_equiv same_addr s.bases.neighbourhood.losts a lost sound.distinct_losts).0 has in
+    inr (inr ((lost, until), at))
+
 -- the router's own, or held
 told_held : (s : State) (i now m : ℕ) → SoundNeighbourhood s.settings m s.bases.neighbourhood → (a : Addr4) (part : Part) → Says s i now a part → Contains (own_of s.settings) a ⊎ IsHeld s.bases.neighbourhood a
-told_held s i now m sound a This_if h = inl (own_has s.settings a (i, h))
-told_held s i now m sound a Other_if (j, other, h) = inl (own_has s.settings a (j, h))
-told_held s i now m sound a Link_lost (link, (key, has, in', state)) = inr (link_held s i m sound a key link has in')
-told_held s i now m sound a Link_symmetric (link, (key, has, in', state)) = inr (link_held s i m sound a key link has in')
-told_held s i now m sound a Link_heard (link, (key, has, in', state)) = inr (link_held s i m sound a key link has in')
-told_held s i now m sound a Other_lost (lost, has) =
-    let (until, at) = (has_found addr_equiv same_addr s.bases.neighbourhood.losts a lost sound.distinct_losts).0 has in
-    inr (inr (inr ((lost, until), at)))
-told_held s i now m sound a Other_symmetric ((o, n, has), none) = inr (neighbour_held s m sound a o n has)
-told_held s i now m sound a (Link_in c) (link, inl (key, has, in', state), is) = inr (link_held s i m sound a key link has in')
-told_held s i now m sound a (Link_in c) (link, inr (key, has, in', state), is) = inr (link_held s i m sound a key link has in')
-told_held s i now m sound a (Link_out c) (link, (key, has, in', state), is) = inr (link_held s i m sound a key link has in')
-told_held s i now m sound a (Near_in c) (o, n, has, is) = inr (neighbour_held s m sound a o n has)
-told_held s i now m sound a (Near_out c) (o, n, has, is) = inr (neighbour_held s m sound a o n has)
-told_held s i now m sound a Flooding h = inr (link_held s i m sound a h.1.0 h.0 h.1.1 h.1.2)
-told_held s i now m sound a Routing (o, n, has, is) = inr (neighbour_held s m sound a o n has)
+told_held s i now m sound a part says = elim (whose s i now a part says) [ inl (local, mine) ↦ inl (own_has s.settings a mine) | inr tuple ↦ inr (tuple_held s i now m sound a tuple) ]
 
 row_given : (rows : List HelloRow) (a : Addr4) → Contains (map (λ (r : HelloRow). r.addr.addr) rows) a → (r : HelloRow) × Contains rows r × (r.addr.addr ≡ a)
 row_given [] a (k, lt, is) = absurd (omega (arith, lt))

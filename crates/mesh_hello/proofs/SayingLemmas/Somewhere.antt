@@ -15,12 +15,13 @@ use Rattle.mesh_atoms.specs.declared.tuples.Link.{Link}
 use Rattle.mesh_atoms.specs.declared.tuples.Lost.{Lost}
 use Rattle.mesh_atoms.specs.declared.tuples.Neighbour.{Neighbour}
 use Rattle.mesh_atoms.specs.Base.{Base, Has}
-use Rattle.mesh_atoms.specs.Hello.{Part, This_if, Other_if, Link_lost, Link_symmetric, Link_heard, Other_lost, Other_symmetric, Link_in, Link_out, Near_in, Near_out, Flooding, Routing, Says, HasLinkTo}
+use Rattle.mesh_atoms.specs.Hello.{Part, This_if, Other_if, Link_lost, Link_symmetric, Link_heard, Other_lost, Other_symmetric, Says, HasLinkTo}
 use Rattle.mesh_atoms.specs.declared.tuples.LinkState.{LinkState}
 use Rattle.mesh_atoms.specs.declared.tuples.LinkState.TheVariants.{Pending as Is_pending, Lost as Is_lost, Symmetric as Is_symmetric, Heard as Is_heard}
 use Rattle.mesh_atoms.specs.State.{State, state_of, HasSymmetricWith, HasAddressOn}
 use Rattle.mesh_hello.specs.Saying.Said.{linked_addresses, symmetric_addresses, said_addresses}
 use Rattle.mesh_hello.proofs.SayingLemmas.Parts.{IsStatus, not_symmetric}
+use Rattle.mesh_hello.proofs.SayingLemmas.Whose.{Linked, Near, Gone, whose}
 use Rattle.mesh_atoms.proofs.Lists.{contains_head, contains_flat_map_cases, contains_flat_map, contains_at, place_of, contains_cases, contains_tail}
 use Rattle.mesh_atoms.proofs.Options.{same_some}
 
@@ -119,20 +120,12 @@ module _ (s : State) (i now : ℕ) (a : Addr4) (links : Base LinkKey Link) (at :
       Contains-append_left gone (mine ++ (linked ++ near)) a (key_gives s.bases.neighbourhood.losts a (lost, until) stands)
 
   pub told_all : (part : Part) → Says s i now a part → Contains told a
-  told_all This_if w = own_in i w
-  told_all Other_if w = own_in w.0 w.2
-  told_all Link_lost w = link_in Is_lost w.0 (not_pending refl) w.1
-  told_all Link_symmetric w = link_in Is_symmetric w.0 (not_pending refl) w.1
-  told_all Link_heard w = link_in Is_heard w.0 (not_pending refl) w.1
-  told_all Other_lost w = gone_in w.0 w.1
-  told_all Other_symmetric w = near_in w.0.0 w.0.1 w.0.2
-  told_all (Link_in m) (l, inl to, is) = link_in Is_heard l (not_pending refl) to
-  told_all (Link_in m) (l, inr to, is) = link_in Is_symmetric l (not_pending refl) to
-  told_all (Link_out m) w = link_in Is_symmetric w.0 (not_pending refl) w.1
-  told_all (Near_in m) w = near_in w.0 w.1 w.2
-  told_all (Near_out m) w = near_in w.0 w.1 w.2
-  told_all Flooding w = link_in Is_symmetric w.0 (not_pending refl) w.1
-  told_all Routing w = near_in w.0 w.1 w.2
+  told_all part w = elim (whose s i now a part w) [
+    | inl (local, (j, on)) ↦ own_in j on
+    | inr (Linked state link not to) ↦ link_in state link not to
+    | inr (Near o n has) ↦ near_in o n has
+    | inr (Gone lost has) ↦ gone_in lost has
+  ]
 
   -- Of an address of the list something is said
 
