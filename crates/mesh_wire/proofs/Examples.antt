@@ -1,26 +1,24 @@
 -- Small messages and what they read as.
 use Rattle.std.proofs.Common.{◌≡◌, ℕ, zero, suc, ◌≤◌, inl, inr, List, [], ◌∷◌, refl, sym, ap, subst, ◌∙◌, arith, lit≤, lit<}
-use Rattle.std.specs.Prelude.{Contains, Option, Some, None, slice_get, true, nat_le, nat_lt}
-use Rattle.std.proofs.lemmas.Bool.{ltb-true, and_parts}
+use Rattle.std.specs.Prelude.{Contains, Option, Some, None, slice_get}
 use Rattle.mesh_atoms.specs.declared.addr.NetAddr.{NetAddr}
 use Rattle.mesh_atoms.specs.declared.hello.HelloRow.{HelloRow}
 use Rattle.mesh_atoms.specs.declared.hello.LocalIf.TheVariants.{This}
 use Rattle.mesh_wire.specs.Hello.{HelloIs, IsReadHelloRow}
-use Rattle.mesh_wire.specs.Kinds.{local_if, link_status, link_metric, IsStatusBelow}
+use Rattle.mesh_wire.specs.Kinds.{local_if, link_status, link_metric}
 use Rattle.mesh_addr.specs.declared.records.RawAddr.{RawAddr}
 use Rattle.mesh_tlv.specs.Fields.{TlvFields, AddrTlvFields}
 use Rattle.mesh_packet.specs.Fields.{BlockFields, MessageFields}
 use Rattle.mesh_wire.specs.Parts.{IsIn, part_at, octets_of}
 use Rattle.mesh_wire.specs.Rows.{HoldsAddressAt, HoldsAddress, HasPart, HasValue}
 use Rattle.mesh_wire.specs.HelloRules.{BreaksHello, AddressWidth, HopLimit, HopCount, NoValidity, WrongInterval, WrongWilling, Undefined, TwoValues, ShortPrefix, WrongMetric}
-use Rattle.mesh_wire.specs.Rules.{FirstBroken, IsOctet, Keeps}
+use Rattle.mesh_wire.specs.Rules.{FirstBroken, Keeps}
 use Rattle.mesh_wire.specs.Examples.{own, own_net, local, own_block, lone, own_row, lone_hello, bare, near, near_net, states, two_near}
 use Rattle.mesh_wire.specs.declared.octets.OctetKind.{OctetKind}
 use Rattle.mesh_wire.specs.declared.octets.OctetKind.TheVariants.{Local}
-use Rattle.mesh_wire.specs.OctetKinds.{is_within, is_value}
-use Rattle.mesh_wire.proofs.HelloRuled.{status_of}
+use Rattle.mesh_wire.specs.OctetKinds.{type_of, is_value, IsOctetOf}
 use Rattle.mesh_wire.proofs.OctetKinds.{same_type}
-use Rattle.mesh_wire.proofs.OneHello.{sender_alone}
+use Rattle.mesh_wire.proofs.Statuses.{sender_alone}
 use Rattle.mesh_atoms.proofs.Nets.{same_net}
 use Rattle.mesh_atoms.proofs.Lists.{contains_one as only}
 
@@ -89,11 +87,8 @@ says_only net kind octets (value, h, is) =
 no_metric : (net : NetAddr) (octets : List ℕ) → HasValue lone net link_metric octets → ⊥
 no_metric net octets said = (let e : ◌≡◌ {A = ℕ} 7 2 = (says_only net link_metric octets said).0 in omega arith)
 
-defined : (kind bound : ℕ) → kind ≡ 2 → IsStatusBelow kind bound → IsOctet 0 bound (0 ∷ [])
-defined kind bound e below =
-    let (k, status) = status_of kind bound below in
-    let v : is_within 0 bound 0 ≡ true = sym (status.value 0) ∙ ap (λ (j : OctetKind). is_value j 0) (same_type k Local (sym status.same ∙ e)) in
-    (0, refl, lit≤ tt, ltb-true 0 bound (and_parts (nat_le 0 0) (nat_lt 0 bound) v).1)
+defined : (kind : OctetKind) → type_of kind ≡ 2 → IsOctetOf kind (0 ∷ [])
+defined kind e = (0, refl, ap (λ (k : OctetKind). is_value k 0) (same_type kind Local e))
 
 pub lone_keeps : Keeps (BreaksHello lone)
 lone_keeps n a (AddressWidth not_four) = not_four refl
@@ -102,12 +97,12 @@ lone_keeps n a (HopCount count is not_zero) = cc
 lone_keeps n a (NoValidity none) = none 49152 lone_is.validity
 lone_keeps n a (WrongInterval none) = none (Some 16384) lone_is.interval
 lone_keeps n a (WrongWilling none) = none 119 (inr refl)
-lone_keeps n a (Undefined net kind bound status (octets, said, wrong)) =
-    let is = says_only net kind octets said in
-    wrong (subst (IsOctet 0 bound) (sym is.1) (defined kind bound is.0 status))
-lone_keeps n a (TwoValues net kind bound status (x, y, said_x, said_y, other)) = other ((says_only net kind x said_x).1 ∙ sym (says_only net kind y said_y).1)
-lone_keeps n a (ShortPrefix net kind bound status (octets, said) short) =
-    let e : 32 ≡ net.prefix = ap (λ (m : NetAddr). m.prefix) (says_only net kind octets said).2 in
+lone_keeps n a (Undefined net kind among (octets, said, wrong)) =
+    let is = says_only net (type_of kind) octets said in
+    wrong (subst (IsOctetOf kind) (sym is.1) (defined kind is.0))
+lone_keeps n a (TwoValues net kind among (x, y, said_x, said_y, other)) = other ((says_only net (type_of kind) x said_x).1 ∙ sym (says_only net (type_of kind) y said_y).1)
+lone_keeps n a (ShortPrefix net kind among (octets, said) short) =
+    let e : 32 ≡ net.prefix = ap (λ (m : NetAddr). m.prefix) (says_only net (type_of kind) octets said).2 in
     omega arith
 lone_keeps n a (WrongMetric net (inl (octets, said, other))) = no_metric net octets said
 lone_keeps n a (WrongMetric net (inr (kind, x, y, (high, low, said, flag, code), shows_y, other))) = no_metric net (high ∷ low ∷ []) said
@@ -118,13 +113,7 @@ first_is : (n : ℕ) (a : Option NetAddr) → BreaksHello bare n a → 23 ≤ n
 first_is n a (AddressWidth not_four) = absurd (not_four refl)
 first_is n a (HopLimit limit is not_one) = cc
 first_is n a (HopCount count is not_zero) = cc
-first_is n a (NoValidity none) = lit≤ tt
-first_is n a (WrongInterval none) = lit≤ tt
-first_is n a (WrongWilling none) = lit≤ tt
-first_is n a (Undefined net kind bound status at) = lit≤ tt
-first_is n a (TwoValues net kind bound status at) = lit≤ tt
-first_is n a (ShortPrefix net kind bound status at short) = lit≤ tt
-first_is n a (WrongMetric net wrong) = lit≤ tt
+first_is n a other = lit≤ tt
 
 pub bare_broken : FirstBroken (BreaksHello bare) 23 None
 bare_broken = record {

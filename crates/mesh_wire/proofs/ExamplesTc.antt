@@ -1,6 +1,7 @@
 -- A TC whose addresses are of no known type: the first rule that is broken, and the least address.
-use Rattle.std.proofs.Common.{◌≡◌, ℕ, zero, suc, ◌≤◌, ◌⊎◌, inl, inr, List, [], ◌∷◌, false, refl, sym, subst, arith, lit≤, lit<}
+use Rattle.std.proofs.Common.{◌≡◌, ℕ, zero, suc, ◌≤◌, ◌⊎◌, inl, inr, List, [], ◌∷◌, false, refl, sym, ap, ◌∙◌, subst, arith, lit≤, lit<}
 use Rattle.std.specs.Prelude.{Option, Some, None, slice_get}
+use Rattle.std.proofs.lemmas.Bool.{false≢true}
 use Rattle.mesh_atoms.specs.declared.addr.NetAddr.{NetAddr}
 use Rattle.mesh_atoms.specs.Nodes.{IsAtMost}
 use Rattle.mesh_wire.specs.Kinds.{nbr_addr_type}
@@ -8,8 +9,10 @@ use Rattle.mesh_addr.specs.declared.records.RawAddr.{RawAddr}
 use Rattle.mesh_packet.specs.Fields.{BlockFields}
 use Rattle.mesh_wire.specs.Parts.{IsIn}
 use Rattle.mesh_wire.specs.Rows.{HoldsAddressAt, HoldsAddress, HasValue}
-use Rattle.mesh_wire.specs.Rules.{FirstBroken, IsLow, IsOctet}
-use Rattle.mesh_wire.specs.TcRules.{BreaksTc, AddressWidth, NoOriginator, NoSequence, NoValidity, WrongInterval, Content, AddrType, TwoAddrTypes, ShortPrefix, GatewayOctet, TwoGateways, Beside, WrongMetric}
+use Rattle.mesh_wire.specs.Rules.{FirstBroken, IsLow}
+use Rattle.mesh_wire.specs.declared.octets.OctetKind.TheVariants as kinds
+use Rattle.mesh_wire.specs.OctetKinds.{is_value, IsOctetOf}
+use Rattle.mesh_wire.specs.TcRules.{BreaksTc, AddressWidth, NoOriginator, NoSequence, NoValidity, WrongInterval, Content, AddrType, TwoAddrTypes, ShortPrefix}
 use Rattle.mesh_wire.specs.Examples.{own, own_net, near, unknown, pair, odd_types}
 use Rattle.mesh_wire.proofs.Examples.{says}
 use Rattle.mesh_atoms.proofs.Lists.{contains_one as only}
@@ -20,8 +23,8 @@ own_at = record { address = own; in_message = (0, lit< tt, refl); in_block = ref
 own_unknown : HasValue odd_types own_net nbr_addr_type (4 ∷ [])
 own_unknown = says odd_types pair 1 own_net unknown nbr_addr_type (4 ∷ []) own_at (0, lit< tt, refl) (lit≤ tt) (lit≤ tt) refl
 
-not_four : (octets : List ℕ) → octets ≡ 4 ∷ [] → IsOctet 1 4 octets → ⊥
-not_four octets e (octet, is, low, high) = (let same : octet ≡ 4 = cc in omega arith)
+not_four : (octets : List ℕ) → octets ≡ 4 ∷ [] → IsOctetOf kinds.AddrType octets → ⊥
+not_four octets e (octet, is, valid) = (let same : octet ≡ 4 = cc in false≢true (ap (is_value kinds.AddrType) (sym same) ∙ valid))
 
 -- ---- its addresses aren't below 10.0.0.1
 
@@ -57,13 +60,7 @@ first_is n a (NoSequence none) = cc
 first_is n a (NoValidity none) = absurd (none 49152 ((88 ∷ (2 ∷ (100 ∷ [])), refl, refl, refl), lit< tt))
 first_is n a (WrongInterval none) = absurd (none None refl)
 first_is n a (Content none) = absurd (none 7 false (record { kind = 8; ext = 1; value = Some (0 ∷ (7 ∷ [])) }, 0, 7, refl, refl, refl, refl))
-first_is n a (AddrType net wrong) = lit≤ tt
-first_is n a (TwoAddrTypes net values) = lit≤ tt
-first_is n a (ShortPrefix net has short) = lit≤ tt
-first_is n a (GatewayOctet net wrong) = lit≤ tt
-first_is n a (TwoGateways net values) = lit≤ tt
-first_is n a (Beside net has beside) = lit≤ tt
-first_is n a (WrongMetric net wrong) = lit≤ tt
+first_is n a other = lit≤ tt
 
 low : (n : ℕ) (a : Option NetAddr) → BreaksTc odd_types n a → 37 ≤ n → n ≤ 37 → IsLow (Some own_net) a
 low n a (AddrType net (octets, said, wrong)) up down = said_of net nbr_addr_type octets said

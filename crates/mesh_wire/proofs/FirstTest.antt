@@ -1,7 +1,7 @@
 -- The number of the first of several tests that is passed.
 use Rattle.std.proofs.Common.{◌≡◌, ℕ, ◌≤◌, inl, inr, refl, ◌∙◌, ap, subst, arith, Bool, true, false, List, [], ◌∷◌}
-use Rattle.std.specs.Prelude.{Contains, Option, Some, None}
-use Rattle.mesh_atoms.proofs.Lists.{contains_cases, contains_none as none_in}
+use Rattle.std.specs.Prelude.{Contains, Option, Some, None, slice_get}
+use Rattle.mesh_atoms.proofs.Lists.{contains_at, contains_cases, contains_none as none_in}
 use Rattle.mesh_atoms.proofs.Options.{some_equal}
 use Rattle.mesh_wire.specs.RowRules.{first_passed}
 
@@ -41,7 +41,7 @@ above n ((b, k) ∷ tests) (le, up) t has = elim (contains_cases (b, k) tests t 
   | inr later ↦ omega (arith, le, above k tests up t later)
 ]
 
-pub at_most : (n : ℕ) (tests : List (Bool × ℕ)) → Rise n tests → (t : Bool × ℕ) → Contains tests t → t.0 ≡ true → AtMost (first_passed tests) t.1
+at_most : (n : ℕ) (tests : List (Bool × ℕ)) → Rise n tests → (t : Bool × ℕ) → Contains tests t → t.0 ≡ true → AtMost (first_passed tests) t.1
 at_most n [] up t has e = absurd (none_in t has)
 at_most n ((true, k) ∷ tests) (le, up) t has e = elim (contains_cases (true, k) tests t has) [
   | inl f ↦ (k, refl, omega (arith, ap (λ (s : Bool × ℕ). s.1) f))
@@ -51,6 +51,9 @@ at_most n ((false, k) ∷ tests) (le, up) t has e = elim (contains_cases (false,
   | inl f ↦ absurd (let g : false ≡ true = ap (λ (s : Bool × ℕ). s.0) f ∙ e in cc)
   | inr later ↦ at_most k tests up t later e
 ]
+
+pub passed : (n : ℕ) (tests : List (Bool × ℕ)) → Rise n tests → (place : ℕ) (b : Bool) (k : ℕ) → slice_get tests place ≡ Some (b, k) → b ≡ true → AtMost (first_passed tests) k
+passed n tests up place b k e on = at_most n tests up (b, k) (contains_at tests place (b, k) e) on
 
 pub at_most_more : (o : Option ℕ) (j k : ℕ) → j ≤ k → AtMost o j → AtMost o k
 at_most_more o j k le (n, e, below) = (n, e, omega (arith, le, below))

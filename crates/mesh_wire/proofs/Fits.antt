@@ -1,6 +1,6 @@
 -- Messages of at most 1,100 lines can be encoded, and fit a datagram.
 use Rattle.std.proofs.Common.{◌≡◌, ℕ, ◌+◌, ◌*◌, ◌<◌, ◌≤◌, List, [], ◌∷◌, ◌++◌, length, take, drop, map, refl, sym, ap, subst, ◌∙◌, arith, lit≤, lit<, length-append, length-take, length-drop}
-use Rattle.std.specs.Prelude.{Contains, All, Option, Some, None, Bool, true, false}
+use Rattle.std.specs.Prelude.{Contains, All, Option, Some, None, Bool, true, false, cond}
 use Rattle.std.specs.Option.{option_map}
 use Rattle.std.specs.List.{flat_map, AllByRecursion}
 use Rattle.std.proofs.lemmas.List.{length-map}
@@ -15,13 +15,15 @@ use Rattle.mesh_packet.specs.Least.{IsPaddedOriginator, IsEncodableBlock, IsEnco
 use Rattle.mesh_tlv.specs.Items.{SpellsItems}
 use Rattle.mesh_tlv.specs.Least as tlvs
 use Rattle.mesh_tlv.specs.Least.{IsFit, octet_if, least_short, least_length, least_value, least_addr_tlv, least_tlv, least_block}
+use Rattle.mesh_wire.specs.declared.lines.AddressTlvKind.TheVariants.{Octet, LinkIn, LinkOut, NearIn, NearOut}
 use Rattle.mesh_wire.specs.declared.lines.AddressRecord.{AddressRecord}
+use Rattle.mesh_wire.specs.declared.octets.OctetKind.{OctetKind}
 use Rattle.mesh_wire.specs.Drafts.{whole, saying, heading_of, FitsAlone}
-use Rattle.mesh_wire.specs.Lines.{columns}
-use Rattle.mesh_wire.specs.Runs.{raw_of, IsBlock, AreBlocks}
+use Rattle.mesh_wire.specs.Lines.{columns, metric_columns}
+use Rattle.mesh_wire.specs.Runs.{raw_of, has_part, IsBlock, AreBlocks}
 use Rattle.mesh_wire.proofs.Laid.{runs_of_all, all_short, octets_in}
 use Rattle.mesh_wire.proofs.RunLaws.{head_long, length_short}
-use Rattle.mesh_atoms.proofs.Lists.{contains_head as at_head, contains_tail as in_tail}
+use Rattle.mesh_atoms.proofs.Lists.{contains_head as at_head, contains_tail as in_tail, contains_map_cases}
 
 -- ---- what can be encoded
 
@@ -126,6 +128,22 @@ addrs_short lines text some h =
 -- the parts of a line take at most 49 octets
 abbrev pub HasFewParts : AddressRecord → Type 0
 HasFewParts line = octets_in columns (line ∷ []) ≤ 49
+
+bit_most : (b : Bool) → cond b 1 0 ≤ 1
+bit_most true = omega arith
+bit_most false = omega arith
+
+-- a value of one octet takes five
+pub narrow_most : (ks : List OctetKind) (l : AddressRecord) → octets_in (map Octet ks) (l ∷ []) ≤ 5 * length ks
+narrow_most [] l = omega arith
+narrow_most (k ∷ ks) l = omega (arith, bit_most (has_part (Octet k) l), narrow_most ks l)
+
+-- a metric takes six
+pub metric_most : (l : AddressRecord) → octets_in metric_columns (l ∷ []) ≤ 24
+metric_most l = omega (arith, bit_most (has_part LinkIn l), bit_most (has_part LinkOut l), bit_most (has_part NearIn l), bit_most (has_part NearOut l))
+
+pub lines_few : {Row : Type 0} (line_of : Row → AddressRecord) (rows : List Row) → ((row : Row) → HasFewParts (line_of row)) → (line : AddressRecord) → Contains (map line_of rows) line → HasFewParts line
+lines_few line_of rows few line on = let (row, there, is) = contains_map_cases line_of rows line on in subst HasFewParts is (few row)
 
 parts_few : (lines : List AddressRecord) → ((line : AddressRecord) → Contains lines line → HasFewParts line) → octets_in columns lines ≤ 49 * length lines
 parts_few [] few = omega arith

@@ -5,7 +5,7 @@ use Rattle.mesh_atoms.specs.declared.addr.NetAddr.{NetAddr}
 use Rattle.mesh_packet.specs.Fields.{MessageFields}
 use Rattle.mesh_wire.specs.Hello.{HasWilling}
 use Rattle.mesh_wire.specs.HelloHeading.{IsOther}
-use Rattle.mesh_wire.specs.HelloRules.{BreaksHello, AddressWidth, HopLimit, HopCount, NoValidity, WrongInterval, WrongWilling, Undefined, TwoValues, ShortPrefix, WrongMetric}
+use Rattle.mesh_wire.specs.HelloRules.{BreaksHello, AddressWidth, HopLimit, HopCount, NoValidity, WrongInterval, WrongWilling}
 use Rattle.mesh_wire.specs.Times.{ValidityIs, IntervalIs}
 use Rattle.mesh_wire.proofs.InOrder.{NoneBelow, one_further}
 
@@ -26,22 +26,11 @@ wrong m k a (HopCount count is other) = (count, is, other)
 wrong m k a (NoValidity none) = none
 wrong m k a (WrongInterval none) = none
 wrong m k a (WrongWilling none) = none
-wrong m k a (Undefined net kind bound status at) = tt
-wrong m k a (TwoValues net kind bound status at) = tt
-wrong m k a (ShortPrefix net kind bound status at short) = tt
-wrong m k a (WrongMetric net at) = tt
+wrong m k a other = tt
 
 pub first_number : (m : MessageFields) → NoneBelow (BreaksHello m) 20
 first_number m k a (AddressWidth h) = omega arith
-first_number m k a (HopLimit limit is other) = omega arith
-first_number m k a (HopCount count is other) = omega arith
-first_number m k a (NoValidity none) = omega arith
-first_number m k a (WrongInterval none) = omega arith
-first_number m k a (WrongWilling none) = omega arith
-first_number m k a (Undefined net kind bound status at) = omega arith
-first_number m k a (TwoValues net kind bound status at) = omega arith
-first_number m k a (ShortPrefix net kind bound status at short) = omega arith
-first_number m k a (WrongMetric net at) = omega arith
+first_number m k a other = omega arith
 
 module _ (m : MessageFields) where
   pub width_kept : m.width ≡ 4 → (a : Option NetAddr) → BreaksHello m 20 a → ⊥

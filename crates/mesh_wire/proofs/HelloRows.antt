@@ -1,34 +1,32 @@
 -- Rows that are made of what is kept are the rows of the HELLO.
-use Rattle.std.proofs.Common.{◌≡◌, ℕ, zero, suc, ◌<◌, inl, inr, refl, sym, ap, subst, arith, Bool, true, false, List, [], ◌∷◌, map, Contains}
-use Rattle.std.specs.Prelude.{◌↔◌, Option, Some, None, IsTrue, nat_le, nat_lt}
+use Rattle.std.proofs.Common.{◌≡◌, ℕ, inl, inr, refl, sym, subst, Bool, false, List, [], ◌∷◌, map, Contains}
+use Rattle.std.specs.Prelude.{◌↔◌, Option, Some, None, IsTrue}
 use Rattle.std.specs.Option.{option_map}
-use Rattle.std.proofs.lemmas.Bool.{ltb-true, and_parts as both}
 use Rattle.mesh_atoms.specs.declared.addr.NetAddr.{NetAddr}
 use Rattle.mesh_atoms.specs.declared.codes.metric.Metric.{Metric}
 use Rattle.mesh_atoms.specs.declared.hello.LocalIf.{LocalIf}
 use Rattle.mesh_atoms.specs.declared.hello.HelloRow.{HelloRow}
-use Rattle.mesh_atoms.proofs.Lists.{contains_at}
 use Rattle.mesh_packet.specs.Fields.{MessageFields}
 use Rattle.mesh_wire.specs.declared.collect.AddressParts.{AddressParts}
 use Rattle.mesh_wire.specs.declared.singles.Single.{Single}
 use Rattle.mesh_wire.specs.declared.singles.Single.TheVariants.{Absent, Value, Conflict}
 use Rattle.mesh_wire.specs.declared.octets.OctetKind.{OctetKind}
-use Rattle.mesh_wire.specs.declared.octets.OctetKind.TheVariants.{Local, Link, Other, Mpr}
+use Rattle.mesh_wire.specs.declared.octets.OctetKind.TheVariants.{Local, Mpr}
 use Rattle.mesh_wire.specs.declared.octets.ByKind.{ByKind}
 use Rattle.mesh_wire.specs.declared.octets.Octets.{Octets}
 use Rattle.mesh_wire.specs.declared.parts.MetricParts.{MetricParts}
-use Rattle.mesh_wire.specs.Hello.{local_value, link_value, other_value, IsReadHelloRow}
-use Rattle.mesh_wire.specs.HelloRows.{local_from, link_from, other_from, row_with, hello_row}
+use Rattle.mesh_wire.specs.Hello.{local_value, IsReadHelloRow}
+use Rattle.mesh_wire.specs.HelloRows.{local_from, row_with, hello_row}
 use Rattle.mesh_wire.specs.KeptParts.{octet_in, metric_at}
 use Rattle.mesh_wire.specs.Kinds.{local_if, mpr, link_metric}
-use Rattle.mesh_wire.specs.Metrics.{MetricKind, Link_in, Link_out, Near_in, Near_out, ShowsMetric, MetricIs}
-use Rattle.mesh_wire.specs.OctetKinds.{statuses, type_of, is_within, is_value, at}
+use Rattle.mesh_wire.specs.Metrics.{MetricKind, Link_in, metric_of, ShowsMetric, MetricIs}
+use Rattle.mesh_wire.specs.OctetKinds.{statuses, type_of, at}
 use Rattle.mesh_wire.specs.Rows.{HasValue, OctetIs, SaysFlag, AreRows}
 use Rattle.mesh_wire.specs.Singles.{is_conflict, value_from}
 use Rattle.mesh_wire.proofs.HelloRuled.{Sound}
 use Rattle.mesh_wire.proofs.Kept.{AreTold, octet_back, read_or, kept_value, metrics_told}
 use Rattle.mesh_wire.proofs.Made.{rows_made}
-use Rattle.mesh_wire.proofs.OneHello.{sender_alone}
+use Rattle.mesh_wire.proofs.Statuses.{IsKept, local_among, local_made, made, sender_alone}
 use Rattle.mesh_wire.proofs.Slots.{OneIs, Reads, SomeIs, IsFlag, OctetsAre, MetricsAre, RowIs}
 
 -- ---- one octet
@@ -42,39 +40,15 @@ octet_of m net kind Conflict h right e = absurd (cc)
 pub octet_is : (m : MessageFields) (net : NetAddr) (kind : OctetKind) (o : Octets) → OctetsAre kind (HasValue m net (type_of kind)) o → o.wrong ≡ false → is_conflict o.one ≡ false → OctetIs m net (type_of kind) (value_from o.one)
 octet_is m net kind o h wrong one = octet_of m net kind o.one h.one (λ x s. elim (read_or kind (HasValue m net (type_of kind)) o h x s) [ inl w ↦ absurd (cc) | inr there ↦ there ]) one
 
-back_again : {X : Type 0} (value : X → ℕ) (from : ℕ → X) (o : Option ℕ) → ((n : ℕ) → o ≡ Some n → value (from n) ≡ n) → option_map value (option_map from o) ≡ o
-back_again value from None back = refl
-back_again value from (Some n) back = ap Some (back n refl)
-
--- a value of the type is below its bound
-below_of : (low bound n : ℕ) → is_within low bound n ≡ true → n < bound
-below_of low bound n e = ltb-true n bound (both (nat_le low n) (nat_lt n bound) e).1
-
-local_back : (n : ℕ) → is_value Local n ≡ true → local_value (local_from n) ≡ n
-local_back zero h = refl
-local_back (suc zero) h = refl
-local_back (suc (suc n)) h = absurd (omega (arith, below_of 0 2 (suc (suc n)) h))
-
-link_back : (n : ℕ) → is_value Link n ≡ true → link_value (link_from n) ≡ n
-link_back zero h = refl
-link_back (suc zero) h = refl
-link_back (suc (suc zero)) h = refl
-link_back (suc (suc (suc n))) h = absurd (omega (arith, below_of 0 3 (suc (suc (suc n))) h))
-
-other_back : (n : ℕ) → is_value Other n ≡ true → other_value (other_from n) ≡ n
-other_back zero h = refl
-other_back (suc zero) h = refl
-other_back (suc (suc n)) h = absurd (omega (arith, below_of 0 2 (suc (suc n)) h))
-
 -- ---- metrics
 
-metric_of : (m : MessageFields) (net : NetAddr) (kind : MetricKind) (one : Single Metric) → OneIs (ShowsMetric m net kind) one → is_conflict one ≡ false → MetricIs m net kind (value_from one)
-metric_of m net kind Absent h e = h
-metric_of m net kind (Value n) h e = h.0
-metric_of m net kind Conflict h e = absurd (cc)
+kept_metric : (m : MessageFields) (net : NetAddr) (kind : MetricKind) (one : Single Metric) → OneIs (ShowsMetric m net kind) one → is_conflict one ≡ false → MetricIs m net kind (value_from one)
+kept_metric m net kind Absent h e = h
+kept_metric m net kind (Value n) h e = h.0
+kept_metric m net kind Conflict h e = absurd (cc)
 
 pub metric_is : (m : MessageFields) (net : NetAddr) (parts : MetricParts) → MetricsAre (HasValue m net link_metric) parts → (kind : MetricKind) → is_conflict (metric_at kind parts) ≡ false → MetricIs m net kind (value_from (metric_at kind parts))
-metric_is m net parts h kind e = metric_of m net kind (metric_at kind parts) (metrics_told m net parts h kind) e
+metric_is m net parts h kind e = kept_metric m net kind (metric_at kind parts) (metrics_told m net parts h kind) e
 
 -- ---- flags
 
@@ -86,6 +60,11 @@ flag_is m net type flag b h = (
 
 -- ---- one row
 
+-- the row has the metrics that are kept
+metric_made : (t : AddressParts) (kind : MetricKind) → value_from (metric_at kind t.parts.metrics) ≡ metric_of kind (row_with t None).metrics
+metric_made t Link_in = refl
+metric_made t kind = refl
+
 module _ (m : MessageFields) (t : AddressParts) (kept : RowIs (HasValue m t.net) t.parts) (sound : Sound t) where
   abbrev octets : ByKind Octets
   octets = t.parts.octets
@@ -93,26 +72,16 @@ module _ (m : MessageFields) (t : AddressParts) (kept : RowIs (HasValue m t.net)
   status : (kind : OctetKind) → Contains statuses kind → OctetIs m t.net (type_of kind) (value_from (at kind octets).one)
   status kind among = octet_is m t.net kind (at kind octets) (kept.octets kind) (sound.defined kind among) (sound.one kind among)
 
-  -- the number of a value that is made of the octet that is kept
-  status_of : {X : Type 0} (value : X → ℕ) (from : ℕ → X) (kind : OctetKind) → Contains statuses kind → ((n : ℕ) → is_value kind n ≡ true → value (from n) ≡ n) →
-      OctetIs m t.net (type_of kind) (option_map value (option_map from (value_from (at kind octets).one)))
-  status_of value from kind among back =
-      subst (OctetIs m t.net (type_of kind)) (sym (back_again value from (value_from (at kind octets).one) (λ n e. back n (kept_value kind (HasValue m t.net (type_of kind)) (at kind octets) (kept.octets kind) n e)))) (status kind among)
-
-  metric : (kind : MetricKind) → MetricIs m t.net kind (value_from (metric_at kind t.parts.metrics))
-  metric kind = metric_is m t.net t.parts.metrics kept.metrics kind (sound.metric kind)
+  kept_status : (kind : OctetKind) → IsKept t kind
+  kept_status kind = kept_value kind (HasValue m t.net (type_of kind)) (at kind octets) (kept.octets kind)
 
   row_by : (local : Option LocalIf) → option_map local_from (value_from octets.local.one) ≡ local → OctetIs m t.net local_if (option_map local_value local) → IsReadHelloRow m (row_with t local)
   row_by (Some x) e said = record { local = said; of_other = λ none. cc; of_sender = λ some. sender_alone t.net (Some x) }
   row_by None e said = record {
     local = said;
     of_other = λ none. record {
-      link = status_of link_value link_from Link (contains_at statuses 1 Link refl) link_back;
-      other = status_of other_value other_from Other (contains_at statuses 2 Other refl) other_back;
-      link_in = metric Link_in;
-      link_out = metric Link_out;
-      near_in = metric Near_in;
-      near_out = metric Near_out;
+      status = λ kind among. subst (OctetIs m t.net (type_of kind)) (sym (made t e kind among (kept_status kind))) (status kind among);
+      metric = λ kind. subst (MetricIs m t.net kind) (metric_made t kind) (metric_is m t.net t.parts.metrics kept.metrics kind (sound.metric kind));
       flooding = flag_is m t.net mpr 1 octets.mpr.first (kept.octets Mpr).first;
       routing = flag_is m t.net mpr 2 octets.mpr.second (kept.octets Mpr).second;
     };
@@ -120,7 +89,7 @@ module _ (m : MessageFields) (t : AddressParts) (kept : RowIs (HasValue m t.net)
   }
 
   pub row_is : IsReadHelloRow m (hello_row t)
-  row_is = row_by (option_map local_from (value_from octets.local.one)) refl (status_of local_value local_from Local (contains_at statuses 0 Local refl) local_back)
+  row_is = row_by (option_map local_from (value_from octets.local.one)) refl (subst (OctetIs m t.net local_if) (sym (local_made t (kept_status Local))) (status Local local_among))
 
 -- ---- all rows
 

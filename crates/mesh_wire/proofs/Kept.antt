@@ -1,7 +1,6 @@
 -- What is kept of the addresses of a message.
 use Rattle.std.proofs.Common.{◌≡◌, ℕ, ◌⊎◌, inl, inr, refl, sym, ◌∙◌, ap, subst, Bool, true, false, cond, List, [], ◌∷◌, Contains}
-use Rattle.std.specs.Prelude.{Option, Some, None, ◌≢◌, nat_le, nat_lt}
-use Rattle.std.proofs.lemmas.Bool.{ltb-true, leb-true, lt-ltb, le-leb, and_from as and_both, and_parts as both}
+use Rattle.std.specs.Prelude.{Option, Some, None, ◌≢◌}
 use Rattle.mesh_atoms.specs.declared.addr.NetAddr.{NetAddr}
 use Rattle.mesh_atoms.specs.declared.codes.metric.Metric.{Metric}
 use Rattle.mesh_atoms.specs.Reading.{has}
@@ -19,9 +18,8 @@ use Rattle.mesh_wire.specs.Entries.{of_blocks, collected}
 use Rattle.mesh_wire.specs.KeptParts.{octet_in, shown_in, metric_at}
 use Rattle.mesh_wire.specs.Kinds.{link_metric}
 use Rattle.mesh_wire.specs.Metrics.{MetricKind, flag_of, metric_in, ShowsMetric}
-use Rattle.mesh_wire.specs.OctetKinds.{is_within, is_value}
+use Rattle.mesh_wire.specs.OctetKinds.{is_value, IsOctetOf}
 use Rattle.mesh_wire.specs.Rows.{HoldsAddress, HasValue, AreRows}
-use Rattle.mesh_wire.specs.Rules.{IsOctet}
 use Rattle.mesh_wire.specs.Singles.{is_conflict, is_said, value_from}
 use Rattle.mesh_wire.proofs.Collected.{AnyOf, At, StandsOf, SaysOf, collected_is}
 use Rattle.mesh_wire.proofs.Entries.{says_of, of_says, has_of, of_has}
@@ -95,21 +93,16 @@ octet_back kind (a ∷ []) n e = by (is_value kind a) refl e
     by true v f = let same = some_equal a n f in (ap (λ (i : ℕ). i ∷ []) same, subst (λ (i : ℕ). is_value kind i ≡ true) same v)
     by false v f = cc
 
--- whether a value has an octet in the range
-pub undefined_of : (kind : OctetKind) (low bound : ℕ) → ((n : ℕ) → is_value kind n ≡ is_within low bound n) → (x : List ℕ) → octet_in kind x ≡ None → IsOctet low bound x → ⊥
-undefined_of kind low bound is x e (n, f, up, down) =
-    let v : is_value kind n ≡ true = is n ∙ and_both (nat_le low n) (nat_lt n bound) (le-leb low n up) (lt-ltb n bound down) in
-    none_not (ap (octet_in kind) (sym f) ∙ e) (ap (λ (b : Bool). cond b (Some n) None) v)
+-- a value of the type is one whose octet is read
+pub no_value : (kind : OctetKind) (x : List ℕ) → octet_in kind x ≡ None → IsOctetOf kind x → ⊥
+no_value kind x e (n, f, v) = none_not (ap (octet_in kind) (sym f) ∙ e) (ap (λ (b : Bool). cond b (Some n) None) v)
 
-pub of_undefined : (kind : OctetKind) (low bound : ℕ) → ((n : ℕ) → is_value kind n ≡ is_within low bound n) → (x : List ℕ) → (IsOctet low bound x → ⊥) → octet_in kind x ≡ None
-of_undefined kind low bound is x bad = by (octet_in kind x) refl
+pub none_read : (kind : OctetKind) (x : List ℕ) → (IsOctetOf kind x → ⊥) → octet_in kind x ≡ None
+none_read kind x bad = by (octet_in kind x) refl
   where
     by : (o : Option ℕ) → octet_in kind x ≡ o → octet_in kind x ≡ None
     by None e = e
-    by (Some n) e =
-        let (f, v) = octet_back kind x n e in
-        let p = both (nat_le low n) (nat_lt n bound) (sym (is n) ∙ v) in
-        absurd (bad (n, f, leb-true low n p.0, ltb-true n bound p.1))
+    by (Some n) e = let (f, v) = octet_back kind x n e in absurd (bad (n, f, v))
 
 module _ (kind : OctetKind) (S : List ℕ → Type 0) (o : Octets) (h : OctetsAre kind S o) where
   -- a value is wrong, or its octet is read

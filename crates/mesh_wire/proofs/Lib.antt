@@ -7,7 +7,6 @@ pub mod Behind  -- replay
 pub mod Collecting  -- replay
 pub mod EachDistance  -- probe
 pub mod Hops  -- machine, probe, replay
-pub mod Laid  -- machine
 pub mod OneHello  -- replay, report
 pub mod OneTc  -- replay, report
 pub mod RowLines  -- replay
@@ -36,6 +35,7 @@ mod HelloRuled
 mod HelloWritten
 mod InOrder
 mod Kept
+mod Laid
 mod LeastAlone
 mod LinesSay
 mod Made
@@ -46,11 +46,13 @@ mod Ruled
 mod RunLaws
 mod Slots
 mod Spellings
+mod Statuses
 mod TcHeading
 mod TcRead
 mod TcRows
 mod TcRuled
 mod TcWhole
 mod TcWritten
+mod Tests
 mod Texts
 mod Values

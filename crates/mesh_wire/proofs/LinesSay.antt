@@ -3,7 +3,6 @@ use Rattle.std.proofs.Common.{◌≡◌, ℕ, ◌+◌, ◌/◌, ◌%◌, ◌<◌
 use Rattle.std.specs.Prelude.{◌↔◌, ◌==◌, Contains, Option, Some, None, Bool, true, false, IsTrue, if◌then◌else◌}
 use Rattle.std.specs.Option.{option_map}
 use Rattle.std.proofs.lemmas.Bool.{eq-eqb, eqb-true}
-use Rattle.mesh_atoms.specs.declared.hello.Metrics.{Metrics}
 use Rattle.mesh_atoms.specs.declared.codes.metric.Metric.{Metric}
 use Rattle.mesh_atoms.specs.Reading.{has}
 use Rattle.mesh_atoms.proofs.Rows.{same_metric}
@@ -14,9 +13,9 @@ use Rattle.mesh_wire.specs.declared.lines.AddressTlvKind.TheVariants.{Octet, Lin
 use Rattle.mesh_wire.specs.declared.lines.AddressRecord.{AddressRecord}
 use Rattle.mesh_wire.specs.declared.octets.OctetKind.{OctetKind}
 use Rattle.mesh_wire.specs.Kinds.{link_metric}
-use Rattle.mesh_wire.specs.Lines.{kind_of, narrow, flagged, value_of, flags_number}
-use Rattle.mesh_wire.specs.Metrics.{MetricKind, Link_in, Link_out, Near_in, Near_out, flag_of, metric_in, ShowsMetric, MetricIs}
-use Rattle.mesh_wire.specs.OctetKinds.{type_of, at}
+use Rattle.mesh_wire.specs.Lines.{kind_of, narrow, flagged, value_of}
+use Rattle.mesh_wire.specs.Metrics.{MetricKind, Link_in, Link_out, Near_in, Near_out, flag_of, metric_in, metric_of, ShowsMetric, MetricIs}
+use Rattle.mesh_wire.specs.OctetKinds.{type_of, at, flags_number}
 use Rattle.mesh_wire.specs.Rows.{HasValue, OctetIs, SaysFlag}
 use Rattle.mesh_wire.specs.Runs.{AreBlocks}
 use Rattle.mesh_wire.proofs.Laid.{said, says}
@@ -42,12 +41,6 @@ column_of Link_in = LinkIn
 column_of Link_out = LinkOut
 column_of Near_in = NearIn
 column_of Near_out = NearOut
-
-abbrev pub metric_of : MetricKind → Metrics → Option Metric
-metric_of Link_in m = m.link_in
-metric_of Link_out m = m.link_out
-metric_of Near_in m = m.near_in
-metric_of Near_out m = m.near_out
 
 pub column_kind : (k : MetricKind) → kind_of (column_of k) ≡ link_metric
 column_kind Link_in = refl

@@ -9,7 +9,7 @@ use Rattle.mesh_atoms.proofs.Lists.{contains_at}
 use Rattle.mesh_atoms.proofs.Options.{same_some}
 
 -- the place of the first of that number
-place_of : ℕ → List OctetKind → ℕ
+unfoldable pub place_of : ℕ → List OctetKind → ℕ
 place_of n [] = 0
 place_of n (k ∷ ks) = if n == type_of k then 0 else 1 + place_of n ks
 

@@ -1,16 +1,11 @@
 -- A message that keeps the rules of a HELLO reads as one HELLO.
 use Rattle.std.proofs.Common.{◌≡◌, ℕ, ◌/◌, ◌%◌, inl, inr, List, Bool, refl, sym, ap, subst, ◌∙◌}
-use Rattle.std.specs.Prelude.{AllPairs, Option, Some, None, IsSome}
+use Rattle.std.specs.Prelude.{◌↔◌, AllPairs, Contains, Option, Some, None, IsSome, IsTrue}
 use Rattle.mesh_atoms.specs.declared.addr.Addr4.{Addr4}
 use Rattle.mesh_atoms.specs.declared.addr.NetAddr.{NetAddr}
 use Rattle.mesh_atoms.specs.Nodes.{IsBefore}
 use Rattle.mesh_atoms.specs.Ascends.{ascends_prop}
 use Rattle.mesh_atoms.specs.declared.hello.LocalIf.{LocalIf}
-use Rattle.mesh_atoms.specs.declared.hello.LocalIf.TheVariants.{This}
-use Rattle.mesh_atoms.specs.declared.hello.LinkStatus.{LinkStatus}
-use Rattle.mesh_atoms.specs.declared.hello.LinkStatus.TheVariants as link
-use Rattle.mesh_atoms.specs.declared.hello.OtherStatus.{OtherStatus}
-use Rattle.mesh_atoms.specs.declared.hello.OtherStatus.TheVariants as other
 use Rattle.mesh_atoms.specs.declared.hello.Metrics.{Metrics}
 use Rattle.mesh_atoms.specs.declared.hello.Mpr.{Mpr}
 use Rattle.mesh_atoms.specs.declared.hello.Willing.{Willing}
@@ -20,29 +15,19 @@ use Rattle.mesh_atoms.specs.declared.codes.metric.Metric.{Metric}
 use Rattle.mesh_atoms.specs.Writable.{IsAlone}
 use Rattle.mesh_atoms.proofs.Equal.{same_willing}
 use Rattle.mesh_atoms.proofs.Options.{same_answer}
-use Rattle.mesh_wire.specs.Hello.{local_value, link_value, other_value, HasWilling, WillingIs, TellsOther, IsReadHelloRow, HelloIs}
-use Rattle.mesh_wire.specs.HelloRows.{local_from, link_from, other_from, sender_row}
+use Rattle.mesh_wire.specs.Hello.{row_octet, HasWilling, WillingIs, TellsOther, IsReadHelloRow, HelloIs}
+use Rattle.mesh_wire.specs.HelloRows.{sender_row}
 use Rattle.mesh_wire.specs.HelloRules.{BreaksHello, TwoValues, WrongMetric}
-use Rattle.mesh_wire.specs.Kinds.{local_if, link_status, other_neighb, IsStatusBelow}
+use Rattle.mesh_wire.specs.Kinds.{local_if, mpr}
+use Rattle.mesh_wire.specs.declared.octets.OctetKind.{OctetKind}
+use Rattle.mesh_wire.specs.declared.octets.OctetKind.TheVariants.{Local}
 use Rattle.mesh_packet.specs.Fields.{MessageFields}
-use Rattle.mesh_wire.specs.Metrics.{Link_in, Link_out, Near_in, Near_out, HasTwoMetrics}
-use Rattle.mesh_wire.specs.Rows.{HasTwoValues}
+use Rattle.mesh_wire.specs.Metrics.{MetricKind, Link_in, Link_out, Near_in, Near_out, metric_of, MetricIs, HasTwoMetrics}
+use Rattle.mesh_wire.specs.OctetKinds.{statuses, type_of}
+use Rattle.mesh_wire.specs.Rows.{OctetIs, SaysFlag}
 use Rattle.mesh_wire.specs.Rules.{Keeps}
-use Rattle.mesh_wire.proofs.Single.{one_time, one_interval, one_originator, one_octet, one_metric, told_by, one_rows}
-
--- ---- enumerations by their values
-
-local_again : (x : LocalIf) → local_from (local_value x) ≡ x
-local_again This = refl
-local_again x = refl
-
-link_again : (x : LinkStatus) → link_from (link_value x) ≡ x
-link_again link.Lost = refl
-link_again x = refl
-
-other_again : (x : OtherStatus) → other_from (other_value x) ≡ x
-other_again other.Lost = refl
-other_again x = refl
+use Rattle.mesh_wire.proofs.Single.{one_time, one_interval, one_originator, one_octet, one_metric, one_rows}
+use Rattle.mesh_wire.proofs.Statuses.{local_among, same_local, same_row, alone_row}
 
 -- ---- rows
 
@@ -62,70 +47,37 @@ mpr_of a b = record { flooding = a; routing = b }
 pub same_mpr : (m n : Mpr) → m.flooding ≡ n.flooding → m.routing ≡ n.routing → m ≡ n
 same_mpr m n a b = ap (λ (x : Bool). mpr_of x m.routing) a ∙ ap (λ (x : Bool). mpr_of n.flooding x) b
 
--- what rows of one address have in common
-record Alike (r s : HelloRow) : Type 0 where
-  link : r.link ≡ s.link
-  other : r.other ≡ s.other
-  metrics : r.metrics ≡ s.metrics
-  mpr : r.mpr ≡ s.mpr
-
-abbrev row_of : NetAddr → Option LocalIf → Option LinkStatus → Option OtherStatus → Metrics → Mpr → HelloRow
-row_of a l k o m p = record { addr = a; local = l; link = k; other = o; metrics = m; mpr = p }
-
-same_row : (r s : HelloRow) → r.addr ≡ s.addr → r.local ≡ s.local → Alike r s → r ≡ s
-same_row r s a l alike =
-    ap (λ (x : NetAddr). row_of x r.local r.link r.other r.metrics r.mpr) a
-    ∙ ap (λ (x : Option LocalIf). row_of s.addr x r.link r.other r.metrics r.mpr) l
-    ∙ ap (λ (x : Option LinkStatus). row_of s.addr s.local x r.other r.metrics r.mpr) alike.link
-    ∙ ap (λ (x : Option OtherStatus). row_of s.addr s.local s.link x r.metrics r.mpr) alike.other
-    ∙ ap (λ (x : Metrics). row_of s.addr s.local s.link s.other x r.mpr) alike.metrics
-    ∙ ap (λ (x : Mpr). row_of s.addr s.local s.link s.other s.metrics x) alike.mpr
-
--- the row at another address
-abbrev moved : NetAddr → HelloRow → HelloRow
-moved net r = record r { addr = net }
-
--- a row of the sender's, of which nothing else is said
-pub sender_alone : (addr : NetAddr) (local : Option LocalIf) → IsAlone (sender_row addr local)
-sender_alone addr local = record { link = refl; other = refl; metrics = refl; mpr = refl }
-
-pub alone_row : (r : HelloRow) → IsAlone r → r ≡ sender_row r.addr r.local
-alone_row r h = same_row r (sender_row r.addr r.local) refl refl (record { link = h.link; other = h.other; metrics = h.metrics; mpr = h.mpr })
-
 -- ---- what rows of one address say
 
 module _ (message : MessageFields) (keeps : Keeps (BreaksHello message)) where
-  not_two : (net : NetAddr) (kind bound : ℕ) → IsStatusBelow kind bound → HasTwoValues message net kind → ⊥
-  not_two net kind bound status values = keeps 27 (Some net) (TwoValues net kind bound status values)
-
   not_two_metrics : (net : NetAddr) → HasTwoMetrics message net → ⊥
   not_two_metrics net metrics = keeps 29 (Some net) (WrongMetric net (inr metrics))
 
-  others_alike : (r s : HelloRow) → TellsOther message r → TellsOther message (moved r.addr s) → Alike r s
-  others_alike r s h g = record {
-    link = told_by link_value link_from link_again r.link s.link (one_octet message r.addr link_status _ _ (not_two r.addr link_status 3 (inr (inl (refl, refl)))) h.link g.link);
-    other = told_by other_value other_from other_again r.other s.other (one_octet message r.addr other_neighb _ _ (not_two r.addr other_neighb 2 (inr (inr (refl, refl)))) h.other g.other);
-    metrics = same_metrics r.metrics s.metrics
-        (one_metric message r.addr Link_in _ _ (not_two_metrics r.addr) h.link_in g.link_in)
-        (one_metric message r.addr Link_out _ _ (not_two_metrics r.addr) h.link_out g.link_out)
-        (one_metric message r.addr Near_in _ _ (not_two_metrics r.addr) h.near_in g.near_in)
-        (one_metric message r.addr Near_out _ _ (not_two_metrics r.addr) h.near_out g.near_out);
-    mpr = same_mpr r.mpr s.mpr (same_answer r.mpr.flooding s.mpr.flooding h.flooding g.flooding) (same_answer r.mpr.routing s.mpr.routing h.routing g.routing);
-  }
+  one_status : (net : NetAddr) (kind : OctetKind) → Contains statuses kind → (a b : Option ℕ) → OctetIs message net (type_of kind) a → OctetIs message net (type_of kind) b → a ≡ b
+  one_status net kind among a b = one_octet message net (type_of kind) a b (λ two. keeps 27 (Some net) (TwoValues net kind among two))
 
-  senders_alike : (r s : HelloRow) → IsAlone r → IsAlone (moved r.addr s) → Alike r s
-  senders_alike r s h g = record { link = h.link ∙ sym g.link; other = h.other ∙ sym g.other; metrics = h.metrics ∙ sym g.metrics; mpr = h.mpr ∙ sym g.mpr }
+  others_alike : (r s : HelloRow) → r.addr ≡ s.addr → TellsOther message r → TellsOther message s → r ≡ s
+  others_alike r s a h g =
+      let metric : (kind : MetricKind) → metric_of kind r.metrics ≡ metric_of kind s.metrics =
+      λ kind. one_metric message r.addr kind _ _ (not_two_metrics r.addr) (h.metric kind) (subst (λ (net : NetAddr). MetricIs message net kind (metric_of kind s.metrics)) (sym a) (g.metric kind)) in
+      let flag : (n : ℕ) (b : Bool) → IsTrue b ↔ SaysFlag message s.addr mpr n → IsTrue b ↔ SaysFlag message r.addr mpr n = λ n b said. subst (λ (net : NetAddr). IsTrue b ↔ SaysFlag message net mpr n) (sym a) said in
+      same_row r s a
+      (λ kind among. one_status r.addr kind among (row_octet r kind) (row_octet s kind) (h.status kind among) (subst (λ (net : NetAddr). OctetIs message net (type_of kind) (row_octet s kind)) (sym a) (g.status kind among)))
+      (same_metrics r.metrics s.metrics (metric Link_in) (metric Link_out) (metric Near_in) (metric Near_out))
+      (same_mpr r.mpr s.mpr (same_answer r.mpr.flooding s.mpr.flooding h.flooding (flag 1 s.mpr.flooding g.flooding)) (same_answer r.mpr.routing s.mpr.routing h.routing (flag 2 s.mpr.routing g.routing)))
 
-  alike : (r s : HelloRow) (q : Option LocalIf) → r.local ≡ q → s.local ≡ q → IsReadHelloRow message r → IsReadHelloRow message (moved r.addr s) → Alike r s
-  alike r s None e f h g = others_alike r s (h.of_other e) (g.of_other f)
-  alike r s (Some x) e f h g = senders_alike r s (h.of_sender (subst IsSome (sym e) refl)) (g.of_sender (subst IsSome (sym f) refl))
+  senders_alike : (r s : HelloRow) → r.addr ≡ s.addr → r.local ≡ s.local → IsAlone r → IsAlone s → r ≡ s
+  senders_alike r s a l h g = alone_row r h ∙ ap (λ (x : NetAddr). sender_row x r.local) a ∙ ap (sender_row s.addr) l ∙ sym (alone_row s g)
+
+  alike : (r s : HelloRow) (q : Option LocalIf) → r.addr ≡ s.addr → r.local ≡ q → s.local ≡ q → IsReadHelloRow message r → IsReadHelloRow message s → r ≡ s
+  alike r s None a e f h g = others_alike r s a (h.of_other e) (g.of_other f)
+  alike r s (Some x) a e f h g = senders_alike r s a (e ∙ sym f) (h.of_sender (subst IsSome (sym e) refl)) (g.of_sender (subst IsSome (sym f) refl))
 
   -- a row is told by its address
   told : (r s : HelloRow) → r.addr ≡ s.addr → IsReadHelloRow message r → IsReadHelloRow message s → r ≡ s
   told r s a h g =
-      let here : IsReadHelloRow message (moved r.addr s) = subst (λ (net : NetAddr). IsReadHelloRow message (moved net s)) (sym a) g in
-      let local : r.local ≡ s.local = told_by local_value local_from local_again r.local s.local (one_octet message r.addr local_if _ _ (not_two r.addr local_if 2 (inl (refl, refl))) h.local here.local) in
-      same_row r s a local (alike r s s.local local refl h here)
+      let there : OctetIs message r.addr local_if (row_octet s Local) = subst (λ (net : NetAddr). OctetIs message net local_if (row_octet s Local)) (sym a) g.local in
+      alike r s s.local a (same_local r s (one_status r.addr Local local_among (row_octet r Local) (row_octet s Local) h.local there)) refl h g
 
 -- ---- the whole
 

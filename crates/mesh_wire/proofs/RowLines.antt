@@ -1,7 +1,6 @@
 -- The lines of rows in ascending order: one for each address.
-use Rattle.std.proofs.Common.{◌≡◌, ℕ, ◌<◌, inl, inr, List, [], ◌∷◌, map, refl, sym, ap, ◌∙◌}
-use Rattle.std.specs.Prelude.{Contains, AllPairs, Option, Some, None, IsSome}
-use Rattle.std.specs.Option.{option_map}
+use Rattle.std.proofs.Common.{◌≡◌, ℕ, inl, inr, List, [], ◌∷◌, map, sym, ap, ◌∙◌}
+use Rattle.std.specs.Prelude.{Contains, AllPairs}
 use Rattle.mesh_atoms.specs.declared.addr.NetAddr.{NetAddr}
 use Rattle.mesh_atoms.specs.Nodes.{IsBefore}
 use Rattle.mesh_packet.specs.Fields.{MessageFields, PacketFields}
@@ -12,7 +11,7 @@ use Rattle.mesh_wire.specs.declared.lines.AddressRecord.{AddressRecord}
 use Rattle.mesh_wire.specs.Writes.{IsSoleMessage, alone}
 use Rattle.mesh_atoms.proofs.Lists.{contains_map_cases as unmapped, contains_cases, contains_none as none_in, all_pairs_tail, all_pairs_head}
 use Rattle.mesh_atoms.proofs.Values.{not_before_itself}
-use Rattle.mesh_atoms.proofs.Options.{some_equal, same_ok}
+use Rattle.mesh_atoms.proofs.Options.{same_ok}
 
 module _ {Row : Type 0} (addr_of : Row → NetAddr) where
   -- an ascending list has one row of an address
@@ -37,11 +36,6 @@ one_line addr_of f rows of up a b has_a has_b e =
     let (s, among_s, is_s) = unmapped f rows b has_b in
     let same : r ≡ s = one_row addr_of rows up r s among_r among_s (sym (of r) ∙ ap (λ (l : AddressRecord). l.net) is_r ∙ e ∙ sym (ap (λ (l : AddressRecord). l.net) is_s) ∙ of s) in
     sym is_r ∙ ap f same ∙ is_s
-
--- an octet that is said is that of a value
-pub of_value : {X : Type 0} (f : X → ℕ) (bound : ℕ) → ((x : X) → f x < bound) → (o : Option X) (octets : List ℕ) → option_map (λ (n : ℕ). n ∷ []) (option_map f o) ≡ Some octets → (n : ℕ) × (octets ≡ n ∷ []) × (n < bound) × IsSome o
-of_value f bound below None octets e = cc
-of_value f bound below (Some x) octets e = (f x, sym (some_equal (f x ∷ []) octets e), below x, refl)
 
 -- what the octets of a message alone spell has that message alone
 pub alone_again : (m : MessageFields) (bytes : List ℕ) → IsSoleMessage m bytes → (packet : PacketFields) (spans : List Span) → Spells packet spans bytes → packet.messages ≡ m ∷ []

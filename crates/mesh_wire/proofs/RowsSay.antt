@@ -11,14 +11,14 @@ use Rattle.mesh_wire.specs.declared.lines.AddressTlvKind.{AddressTlvKind}
 use Rattle.mesh_wire.specs.declared.lines.AddressRecord.{AddressRecord}
 use Rattle.mesh_wire.specs.declared.octets.OctetKind.{OctetKind}
 use Rattle.mesh_wire.specs.Kinds.{link_metric}
-use Rattle.mesh_wire.specs.Lines.{kind_of, value_of, flags_number}
-use Rattle.mesh_wire.specs.Metrics.{MetricKind, ShowsMetric, MetricIs, HasWrongMetric}
-use Rattle.mesh_wire.specs.OctetKinds.{type_of, at}
+use Rattle.mesh_wire.specs.Lines.{kind_of, value_of}
+use Rattle.mesh_wire.specs.Metrics.{MetricKind, metric_of, ShowsMetric, MetricIs, HasWrongMetric}
+use Rattle.mesh_wire.specs.OctetKinds.{type_of, at, flags_number}
 use Rattle.mesh_wire.specs.Parts.{octets_of}
-use Rattle.mesh_wire.specs.Rows.{HoldsAddress, HasPart, HasValue, HasTwoValues, OctetIs, SaysFlag}
+use Rattle.mesh_wire.specs.Rows.{HoldsAddress, HasPart, HasValue, HasTwoValues, OctetIs, SaysFlag, AreRows}
 use Rattle.mesh_wire.specs.Runs.{AreBlocks}
 use Rattle.mesh_wire.proofs.Laid.{said, stands, standing_line}
-use Rattle.mesh_wire.proofs.LinesSay.{says_only, octet_is, flags_are, metric_of, metric_is, two_octets, shown}
+use Rattle.mesh_wire.proofs.LinesSay.{says_only, octet_is, flags_are, metric_is, two_octets, shown}
 use Rattle.mesh_wire.proofs.RowLines.{one_line}
 use Rattle.mesh_atoms.proofs.Lists.{contains_map as mapped, contains_map_cases as unmapped}
 use Rattle.mesh_atoms.proofs.Options.{same_some}
@@ -30,14 +30,18 @@ module _ {Row : Type 0} (line_of : Row → AddressRecord) (rows : List Row) (m :
   among : (row : Row) → Contains rows row → Contains (map line_of rows) (line_of row)
   among row there = mapped line_of rows row there
 
-  pub row_stands : (row : Row) → Contains rows row → HoldsAddress m (line_of row).net
+  row_stands : (row : Row) → Contains rows row → HoldsAddress m (line_of row).net
   row_stands row there = stands m (map line_of rows) are (line_of row) (among row there)
 
-  pub row_at : (net : NetAddr) → HoldsAddress m net → (row : Row) × Contains rows row × ((line_of row).net ≡ net)
+  row_at : (net : NetAddr) → HoldsAddress m net → (row : Row) × Contains rows row × ((line_of row).net ≡ net)
   row_at net at =
       let (line, on, of) = standing_line m (map line_of rows) are net at in
       let (row, there, is) = unmapped line_of rows line on in
       (row, there, ap (λ (l : AddressRecord). l.net) is ∙ of)
+
+  -- rows that are true are those of the message
+  pub rows_said : (IsRow : Row → Type 0) → ((row : Row) → Contains rows row → IsRow row) → AreRows m (λ (row : Row). (line_of row).net) IsRow rows
+  rows_said IsRow is = record { ascending = up; each = λ row there. (row_stands row there, is row there); all = row_at }
 
   -- what is said of an address is a part of a row
   pub part_there : (net : NetAddr) (part : TlvFields) → HasPart m net part → (row : Row) × (c : AddressTlvKind) × Contains rows row × ((line_of row).net ≡ net) × (part.kind ≡ kind_of c) × (part.ext ≡ 0) × (value_of c (line_of row) ≡ Some (octets_of part.value))

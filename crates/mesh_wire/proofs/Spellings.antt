@@ -16,11 +16,11 @@ use Rattle.mesh_tlv.specs.Grammar.{SpellsTlvBlock, SpellsAddrTlvBlock}
 use Rattle.mesh_wire.specs.Examples.{own, own_net, local, own_block, near, near_net, lone, lone_hello}
 use Rattle.mesh_wire.specs.HelloRules.{BreaksHello, Undefined}
 use Rattle.mesh_wire.specs.declared.octets.OctetKind.{OctetKind}
-use Rattle.mesh_wire.specs.declared.octets.OctetKind.TheVariants.{Local}
+use Rattle.mesh_wire.specs.declared.octets.OctetKind.TheVariants.{Local, Link, Mpr}
 use Rattle.mesh_wire.specs.Kinds.{local_if, link_status, link_metric, mpr}
 use Rattle.mesh_wire.specs.Metrics.{MetricKind, Link_in, Link_out, Near_in, Near_out, flag_of}
-use Rattle.mesh_wire.specs.OctetKinds.{type_of}
-use Rattle.mesh_wire.specs.Rules.{IsOctet, Keeps}
+use Rattle.mesh_wire.specs.OctetKinds.{statuses, type_of, is_value, IsOctetOf}
+use Rattle.mesh_wire.specs.Rules.{Keeps}
 use Rattle.mesh_wire.specs.Rows.{HasPart, HasValue, HoldsAddressAt}
 use Rattle.mesh_wire.specs.Spellings.{wordy_tlvs, wordy_local, short_block, long_block, message_with, wordy, too_wordy, IsForNone, IsSentForNone, unknown_tlv, beside, two, with_near, status, own_two, status_of_sender}
 use Rattle.mesh_wire.specs.Writes.{HasBriefBlocks, IsSoleMessage, HasFlag, IsReadOfHello, IsReadOfOther, IsReadOfHelloAddress, WritesHello, alone}
@@ -29,7 +29,7 @@ use Rattle.mesh_wire.proofs.Behind.{behind_head, behind_tlvs}
 use Rattle.mesh_wire.proofs.HelloWritten.{read_kind}
 use Rattle.mesh_wire.proofs.OctetKinds.{not_metric}
 use Rattle.mesh_wire.proofs.RowLines.{alone_again}
-use Rattle.mesh_atoms.proofs.Lists.{heads_equal, tails_equal}
+use Rattle.mesh_atoms.proofs.Lists.{contains_at, heads_equal, tails_equal}
 
 -- ---- how it is spelled
 
@@ -320,7 +320,7 @@ beside_said kind octets = says (with_near kind octets) (two kind octets) 1 near_
 
 -- a reading that looks at it is of one octet, or of a metric
 beside_read : (kind : ℕ) (octets : List ℕ) (hello : Hello) (bytes : List ℕ) (spans : List Span) → Spells (alone (with_near kind octets)) spans bytes → WritesHello hello bytes →
-    ((k : OctetKind) × (kind ≡ type_of k) × (kind ≡ mpr → IsOctet 1 4 octets)) ⊎ ((kind ≡ link_metric) × ((metric : MetricKind) × HasFlag metric octets))
+    ((k : OctetKind) × (kind ≡ type_of k) × (kind ≡ mpr → IsOctetOf Mpr octets)) ⊎ ((kind ≡ link_metric) × ((metric : MetricKind) × HasFlag metric octets))
 beside_read kind octets hello bytes spans spelled w =
     let (value, part, same) = beside_said kind octets in
     elim (part_read (with_near kind octets) hello bytes spans spelled w near_net _ part).kind [
@@ -340,7 +340,7 @@ unknown_part_never hello bytes spans spelled w = elim (beside_read 200 [] hello 
 
 pub relay_never : IsSentForNone (with_near 8 (4 ∷ []))
 relay_never hello bytes spans spelled w = elim (beside_read 8 (4 ∷ []) hello bytes spans spelled w) [
-  | inl (k, e, is) ↦ (let (octet, same, low, high) = is refl in absurd (omega (arith, heads_equal 4 octet [] [] same, high)))
+  | inl (k, e, is) ↦ (let (octet, same, valid) = is refl in absurd (false≢true (ap (is_value Mpr) (heads_equal 4 octet [] [] same) ∙ valid)))
   | inr h ↦ absurd (omega (arith, h.0))
 ]
 
@@ -364,7 +364,7 @@ pub status_never : IsSentForNone (with_near 3 (7 ∷ []))
 status_never hello bytes spans spelled w =
     let m = with_near 3 (7 ∷ []) in
     let keeps : Keeps (BreaksHello m) = subst (λ (n : MessageFields). Keeps (BreaksHello n)) (sym (same_message m hello bytes spans spelled w)) w.keeps in
-    keeps _ _ (Undefined near_net link_status 3 (inr (inl (refl, refl))) (7 ∷ [], beside_said 3 (7 ∷ []), λ octet. (let e = heads_equal 7 octet.0 [] [] octet.1 in let high = octet.3 in omega (arith, e, high))))
+    keeps _ _ (Undefined near_net Link (contains_at statuses 1 Link refl) (7 ∷ [], beside_said 3 (7 ∷ []), λ (octet, same, valid). false≢true (ap (is_value Link) (heads_equal 7 octet [] [] same) ∙ valid)))
 
 -- ---- what is said of the sender's own address
 

@@ -13,7 +13,7 @@ use Rattle.mesh_wire.specs.Hello.{OriginatorIs}
 use Rattle.mesh_wire.specs.Parts.{octets_of}
 use Rattle.mesh_wire.specs.Tc.{ContentIs}
 use Rattle.mesh_wire.specs.TcHeading.{contents_in}
-use Rattle.mesh_wire.specs.TcRules.{BreaksTc, AddressWidth, NoOriginator, NoSequence, NoValidity, WrongInterval, Content, AddrType, TwoAddrTypes, ShortPrefix, GatewayOctet, TwoGateways, Beside, WrongMetric}
+use Rattle.mesh_wire.specs.TcRules.{BreaksTc, AddressWidth, NoOriginator, NoSequence, NoValidity, WrongInterval, Content}
 use Rattle.mesh_wire.specs.Times.{distance_of, ValidityIs, IntervalIs}
 use Rattle.mesh_wire.proofs.InOrder.{NoneBelow, one_further}
 
@@ -33,28 +33,11 @@ wrong m k a (NoSequence none) = inr none
 wrong m k a (NoValidity none) = none
 wrong m k a (WrongInterval none) = none
 wrong m k a (Content none) = none
-wrong m k a (AddrType net bad) = tt
-wrong m k a (TwoAddrTypes net two) = tt
-wrong m k a (ShortPrefix net h short) = tt
-wrong m k a (GatewayOctet net bad) = tt
-wrong m k a (TwoGateways net two) = tt
-wrong m k a (Beside net h g) = tt
-wrong m k a (WrongMetric net bad) = tt
+wrong m k a other = tt
 
 pub first_number : (m : MessageFields) → NoneBelow (BreaksTc m) 32
 first_number m k a (AddressWidth h) = omega arith
-first_number m k a (NoOriginator none) = omega arith
-first_number m k a (NoSequence none) = omega arith
-first_number m k a (NoValidity none) = omega arith
-first_number m k a (WrongInterval none) = omega arith
-first_number m k a (Content none) = omega arith
-first_number m k a (AddrType net bad) = omega arith
-first_number m k a (TwoAddrTypes net two) = omega arith
-first_number m k a (ShortPrefix net h short) = omega arith
-first_number m k a (GatewayOctet net bad) = omega arith
-first_number m k a (TwoGateways net two) = omega arith
-first_number m k a (Beside net h g) = omega arith
-first_number m k a (WrongMetric net bad) = omega arith
+first_number m k a other = omega arith
 
 module _ (m : MessageFields) where
   pub width_kept : m.width ≡ 4 → (a : Option NetAddr) → BreaksTc m 32 a → ⊥

@@ -17,33 +17,31 @@ use Rattle.mesh_packet.specs.Least.{IsEncodableMessage, LeastForm}
 use Rattle.mesh_tlv.specs.Fields.{TlvFields}
 use Rattle.mesh_wire.specs.declared.lines.AddressTlvKind.{AddressTlvKind}
 use Rattle.mesh_wire.specs.declared.lines.AddressTlvKind.TheVariants.{Octet, NearOut}
-use Rattle.mesh_wire.specs.declared.lines.AddressRecord.{AddressRecord}
 use Rattle.mesh_wire.specs.declared.octets.OctetKind.TheVariants.{AddrType, Gateway}
 use Rattle.mesh_wire.specs.Drafts.{HasTcValues, heading_of, IsTcMessage, FitsAlone}
 use Rattle.mesh_wire.specs.Kinds.{validity_time, nbr_addr_type, gateway, link_metric, cont_seq_num}
-use Rattle.mesh_wire.specs.Lines.{kind_of, value_of, flags_number, tc_line}
+use Rattle.mesh_wire.specs.Lines.{kind_of, value_of, tc_line}
+use Rattle.mesh_wire.specs.OctetKinds.{tc_kinds, flags_number, IsOctetOf}
 use Rattle.mesh_wire.specs.Metrics.{Near_out}
 use Rattle.mesh_wire.specs.Parts.{octets_of, values_of}
-use Rattle.mesh_wire.specs.Rows.{HasPart, HasValue, AreRows}
+use Rattle.mesh_wire.specs.Rows.{HasPart, HasValue}
 use Rattle.mesh_wire.specs.Rules.{Keeps}
-use Rattle.mesh_wire.specs.Runs.{has_part}
 use Rattle.mesh_wire.specs.Tc.{IsReadTcRow, TcIs}
 use Rattle.mesh_wire.specs.TcRules.{BreaksTc, AddressWidth, NoOriginator, NoSequence, NoValidity, WrongInterval, Content, AddrType as AddrTypeRule, TwoAddrTypes, ShortPrefix, GatewayOctet, TwoGateways, Beside, WrongMetric}
 use Rattle.mesh_wire.specs.Times.{distance_of, ValidityIs}
 use Rattle.mesh_wire.specs.Writes.{IsSoleMessage, HasFlag, IsReadOfTcAddress, WritesTc, WritesLeastTc, alone, ReadsBackTc}
-use Rattle.mesh_wire.proofs.Fits.{message_fits, HasFewParts, fits_alone}
+use Rattle.mesh_wire.proofs.Fits.{message_fits, HasFewParts, narrow_most, metric_most, lines_few, fits_alone}
 use Rattle.mesh_wire.proofs.Headings.{validity_told, interval_is, interval_told, content_is, read_of_tc}
-use Rattle.mesh_wire.proofs.HelloWritten.{bit_most, originator_is, flags_octet, metric_flagged}
+use Rattle.mesh_wire.proofs.HelloWritten.{originator_is, flags_octet, metric_flagged}
 use Rattle.mesh_wire.proofs.LinesSay.{metric_value}
 use Rattle.mesh_wire.proofs.OneTc.{one_tc}
 use Rattle.mesh_wire.proofs.RowLines.{alone_again}
 use Rattle.mesh_wire.proofs.Further.{further}
-use Rattle.mesh_wire.proofs.RowsSay.{row_stands, row_at, part_there, said_of, row_of, not_two, right_metric, octet_said, flags_said, metric_said}
-use Rattle.mesh_atoms.proofs.Lists.{contains_map_cases as unmapped}
+use Rattle.mesh_wire.proofs.RowsSay.{rows_said, part_there, said_of, row_of, not_two, right_metric, octet_said, flags_said, metric_said}
 use Rattle.mesh_atoms.proofs.Options.{none_not}
 
 few_of : (row : TcRow) → HasFewParts (tc_line row)
-few_of row = let l = tc_line row in omega (arith, bit_most (has_part (Octet AddrType) l), bit_most (has_part (Octet Gateway) l), bit_most (has_part NearOut l))
+few_of row = let l = tc_line row in omega (arith, narrow_most tc_kinds l, metric_most l)
 
 -- a flag is set where a type is said
 set_of : (a b : Bool) (octets : List ℕ) → option_map (λ (n : ℕ). n ∷ []) (flags_number a b) ≡ Some octets → IsTrue a ⊎ IsTrue b
@@ -52,9 +50,9 @@ set_of true b octets e = inl refl
 set_of false true octets e = inr refl
 
 -- the one octet of a distance
-distance_octet : (o : Option ℕ) (octets : List ℕ) → option_map (λ (n : ℕ). n ∷ []) o ≡ Some octets → length octets ≡ 1
+distance_octet : (o : Option ℕ) (octets : List ℕ) → option_map (λ (n : ℕ). n ∷ []) o ≡ Some octets → IsOctetOf Gateway octets
 distance_octet None octets e = cc
-distance_octet (Some n) octets e = let f : octets ≡ n ∷ [] = cc in ap length f
+distance_octet (Some n) octets e = (n, cc, refl)
 
 part_of : (row : TcRow) (kind : ℕ) (octets : List ℕ) (c : AddressTlvKind) → kind ≡ kind_of c → value_of c (tc_line row) ≡ Some octets → (kind ≡ nbr_addr_type) ⊎ ((kind ≡ gateway) ⊎ ((kind ≡ link_metric) × HasFlag Near_out octets))
 part_of row kind octets (Octet AddrType) e v = inl e
@@ -73,13 +71,6 @@ module _ (tc : Tc) (hop_limit : ℕ) (validity values : List ℕ) (m : MessageFi
         gateway_is = octet_said tc_line tc.rows m h.blocks up row there Gateway;
         metric = metric_said tc_line tc.rows m h.blocks up row there Near_out;
       }
-
-  rows_are : AreRows m (λ (row : TcRow). row.dest) (IsReadTcRow m) tc.rows
-  rows_are = record {
-    ascending = up;
-    each = λ row there. (row_stands tc_line tc.rows m h.blocks up row there, row_is row there);
-    all = λ net at. row_at tc_line tc.rows m h.blocks up net at;
-  }
 
   three : take 3 values ≡ has.0 ∷ (tc.ansn / 256 ∷ (tc.ansn % 256 ∷ []))
   three = let (i, is_i, is) = has in ap (take 3) is
@@ -103,7 +94,7 @@ module _ (tc : Tc) (hop_limit : ℕ) (validity values : List ℕ) (m : MessageFi
     content = content_is validity has.0 (is_some tc.interval) m tc.ansn tc.complete heading;
     validity = validity_read;
     interval = interval_is validity has.0 (tc.ansn / 256 ∷ (tc.ansn % 256 ∷ [])) (cond tc.complete 0 1) m cont_seq_num (inr refl) (distance_of m.count) tc.interval heading has.1;
-    rows = rows_are;
+    rows = rows_said tc_line tc.rows m h.blocks up (IsReadTcRow m) row_is;
   }
 
   -- ---- rules
@@ -150,11 +141,8 @@ module _ (tc : Tc) (hop_limit : ℕ) (validity values : List ℕ) (m : MessageFi
       let (row, c, there, here, k, ext, value) = part_there tc_line tc.rows m h.blocks up net part p in
       record { kind = part_of row part.kind (octets_of part.value) c k value; ext = ext }
 
-  few : (line : AddressRecord) → Contains (map tc_line tc.rows) line → HasFewParts line
-  few line on = let (row, there, is) = unmapped tc_line tc.rows line on in subst HasFewParts is (few_of row)
-
   pub fits : length tc.rows ≤ 1100 → length validity ≤ 17 → FitsAlone m
-  fits most short = fits_alone m (map tc_line tc.rows) validity (take 3 values) (is_some tc.interval) cont_seq_num (cond tc.complete 0 1) h.width short (omega (arith, length-take 3 values)) h.tlvs h.blocks (omega (arith, most, length-map tc.rows tc_line)) few
+  fits most short = fits_alone m (map tc_line tc.rows) validity (take 3 values) (is_some tc.interval) cont_seq_num (cond tc.complete 0 1) h.width short (omega (arith, length-take 3 values)) h.tlvs h.blocks (omega (arith, most, length-map tc.rows tc_line)) (lines_few tc_line tc.rows few_of)
 
   pub encodable : IsEncodableMessage m
   encodable = message_fits m (map tc_line tc.rows) (Some tc.originator) h.width h.originator h.blocks

@@ -1,5 +1,5 @@
 -- The HELLO that a message reads as (RFC 6130, section 10; RFC 7181, section 15).
-use Rattle.std.specs.Prelude.{◌≡◌, ℕ, ◌/◌, ◌%◌, ◌⊎◌, ◌↔◌, [], ◌∷◌, Option, Some, None, IsTrue, IsSome}
+use Rattle.std.specs.Prelude.{◌≡◌, ℕ, ◌/◌, ◌%◌, ◌⊎◌, ◌↔◌, [], ◌∷◌, Contains, Option, Some, None, IsTrue, IsSome}
 use Rattle.std.specs.Option.{option_map}
 use Rattle.mesh_atoms.specs.declared.addr.Addr4.{Addr4}
 use Rattle.mesh_atoms.specs.declared.hello.LocalIf.{LocalIf}
@@ -13,11 +13,14 @@ use Rattle.mesh_atoms.specs.declared.hello.HelloRow.{HelloRow}
 use Rattle.mesh_atoms.specs.declared.hello.Hello.{Hello}
 use Rattle.mesh_atoms.specs.Writable.{IsAlone}
 use Rattle.mesh_atoms.specs.Octets.{address_in}
-use Rattle.mesh_wire.specs.Kinds.{mpr_willing, local_if, link_status, other_neighb, mpr}
+use Rattle.mesh_wire.specs.Kinds.{mpr_willing, local_if, mpr}
+use Rattle.mesh_wire.specs.declared.octets.OctetKind.{OctetKind}
+use Rattle.mesh_wire.specs.declared.octets.OctetKind.TheVariants as kinds
 use Rattle.mesh_addr.specs.declared.records.RawAddr.{RawAddr}
 use Rattle.mesh_packet.specs.Fields.{MessageFields}
 use Rattle.mesh_wire.specs.Parts.{values_of}
-use Rattle.mesh_wire.specs.Metrics.{MetricIs, Link_in, Link_out, Near_in, Near_out}
+use Rattle.mesh_wire.specs.Metrics.{MetricKind, MetricIs, metric_of}
+use Rattle.mesh_wire.specs.OctetKinds.{statuses, type_of, flags_number}
 use Rattle.mesh_wire.specs.Rows.{OctetIs, SaysFlag, AreRows}
 use Rattle.mesh_wire.specs.Times.{ValidityIs, IntervalIs}
 
@@ -37,6 +40,14 @@ abbrev pub other_value : OtherStatus → ℕ
 other_value other.Lost = 0
 other_value other.Symmetric = 1
 
+-- what a row says of its address by a type whose values are one octet
+abbrev pub row_octet : HelloRow → OctetKind → Option ℕ
+row_octet row kinds.Local = option_map local_value row.local
+row_octet row kinds.Link = option_map link_value row.link
+row_octet row kinds.Other = option_map other_value row.other
+row_octet row kinds.Mpr = flags_number row.mpr.flooding row.mpr.routing
+row_octet row kind = None
+
 -- the originator is that of the header, if it has one
 abbrev pub OriginatorIs : Option RawAddr → Option Addr4 → Type 0
 OriginatorIs None None = Unit {0}
@@ -55,12 +66,8 @@ WillingIs message willing = (octet : ℕ) × HasWilling message octet × (willin
 
 -- all that the message says of an address that isn't the sender's
 pub record TellsOther (message : MessageFields) (row : HelloRow) : Type 0 where
-  pub link : OctetIs message row.addr link_status (option_map link_value row.link)
-  pub other : OctetIs message row.addr other_neighb (option_map other_value row.other)
-  pub link_in : MetricIs message row.addr Link_in row.metrics.link_in
-  pub link_out : MetricIs message row.addr Link_out row.metrics.link_out
-  pub near_in : MetricIs message row.addr Near_in row.metrics.near_in
-  pub near_out : MetricIs message row.addr Near_out row.metrics.near_out
+  pub status : (kind : OctetKind) → Contains statuses kind → OctetIs message row.addr (type_of kind) (row_octet row kind)
+  pub metric : (kind : MetricKind) → MetricIs message row.addr kind (metric_of kind row.metrics)
   pub flooding : IsTrue row.mpr.flooding ↔ SaysFlag message row.addr mpr 1
   pub routing : IsTrue row.mpr.routing ↔ SaysFlag message row.addr mpr 2
 

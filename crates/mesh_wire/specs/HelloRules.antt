@@ -1,11 +1,12 @@
 -- The rules that a HELLO keeps, by number.
-use Rattle.std.specs.Prelude.{◌≡◌, ℕ, ◌<◌, ◌≢◌, Option, Some, None}
+use Rattle.std.specs.Prelude.{◌≡◌, ℕ, ◌<◌, ◌≢◌, Contains, Option, Some, None}
 use Rattle.mesh_atoms.specs.declared.addr.NetAddr.{NetAddr}
 use Rattle.mesh_atoms.specs.declared.hello_rule.TheConstants as rule
 use Rattle.mesh_wire.specs.Hello.{HasWilling}
-use Rattle.mesh_wire.specs.Kinds.{IsStatusBelow}
 use Rattle.mesh_packet.specs.Fields.{MessageFields}
+use Rattle.mesh_wire.specs.declared.octets.OctetKind.{OctetKind}
 use Rattle.mesh_wire.specs.Metrics.{HasWrongMetric}
+use Rattle.mesh_wire.specs.OctetKinds.{statuses, type_of}
 use Rattle.mesh_wire.specs.Rows.{HasType, HasTwoValues}
 use Rattle.mesh_wire.specs.Rules.{HasUndefined}
 use Rattle.mesh_wire.specs.Times.{ValidityIs, IntervalIs}
@@ -23,11 +24,10 @@ pub data BreaksHello (message : MessageFields) : ℕ → Option NetAddr → Type
   -- one MPR_WILLING at most, of one octet
   WrongWilling : ((octet : ℕ) → HasWilling message octet → ⊥) → BreaksHello message rule.WILLING None
   -- LOCAL_IF, LINK_STATUS and OTHER_NEIGHB have a defined value, one on each address, on whole addresses
-  Undefined : (net : NetAddr) (kind bound : ℕ) → IsStatusBelow kind bound → HasUndefined message net kind 0 bound →
-      BreaksHello message rule.UNDEFINED (Some net)
-  TwoValues : (net : NetAddr) (kind bound : ℕ) → IsStatusBelow kind bound → HasTwoValues message net kind →
+  Undefined : (net : NetAddr) (kind : OctetKind) → Contains statuses kind → HasUndefined message net kind → BreaksHello message rule.UNDEFINED (Some net)
+  TwoValues : (net : NetAddr) (kind : OctetKind) → Contains statuses kind → HasTwoValues message net (type_of kind) →
       BreaksHello message rule.TWO_VALUES (Some net)
-  ShortPrefix : (net : NetAddr) (kind bound : ℕ) → IsStatusBelow kind bound → HasType message net kind → net.prefix < 32 →
+  ShortPrefix : (net : NetAddr) (kind : OctetKind) → Contains statuses kind → HasType message net (type_of kind) → net.prefix < 32 →
       BreaksHello message rule.PREFIX (Some net)
   -- metrics of two octets, with one code of each kind on an address
   WrongMetric : (net : NetAddr) → HasWrongMetric message net → BreaksHello message rule.METRIC (Some net)

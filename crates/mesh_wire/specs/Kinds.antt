@@ -1,5 +1,5 @@
 -- Types of TLVs by their numbers (RFC 5497, section 7; RFC 6130, section 10; RFC 7181, section 13.3).
-use Rattle.std.specs.Prelude.{◌≡◌, ℕ, ◌⊎◌}
+use Rattle.std.specs.Prelude.{ℕ}
 use Rattle.mesh_atoms.specs.declared.tlv_type.TheConstants.{INTERVAL_TIME, VALIDITY_TIME, MPR_WILLING, CONT_SEQ_NUM, LOCAL_IF, LINK_STATUS, OTHER_NEIGHB, LINK_METRIC, MPR, NBR_ADDR_TYPE, GATEWAY}
 
 -- ---- types of message TLVs
@@ -49,8 +49,3 @@ nbr_addr_type = NBR_ADDR_TYPE
 -- the distance of an attached network
 abbrev pub gateway : ℕ
 gateway = GATEWAY
-
--- a type whose value is one octet, below a number: LOCAL_IF, LINK_STATUS or OTHER_NEIGHB (RFC 6130, section 10)
-abbrev pub IsStatusBelow : ℕ → ℕ → Type 0
-IsStatusBelow kind bound =
-    ((kind ≡ local_if) × (bound ≡ 2)) ⊎ (((kind ≡ link_status) × (bound ≡ 3)) ⊎ ((kind ≡ other_neighb) × (bound ≡ 2)))

@@ -1,16 +1,16 @@
 -- What is written of each address, by what its TLVs may say.
-use Rattle.std.specs.Prelude.{ℕ, ◌+◌, ◌/◌, ◌%◌, List, [], ◌∷◌, ◌++◌, map, Option, Some, None, Bool, true, false, if◌then◌else◌, unwrap_or}
+use Rattle.std.specs.Prelude.{ℕ, ◌+◌, ◌/◌, ◌%◌, List, [], ◌∷◌, ◌++◌, map, Option, None, Bool, true, false, if◌then◌else◌, unwrap_or}
 use Rattle.std.specs.Option.{option_map}
 use Rattle.std.specs.List.{flat_map}
 use Rattle.mesh_atoms.specs.declared.hello.HelloRow.{HelloRow}
 use Rattle.mesh_atoms.specs.declared.codes.metric.Metric.{Metric}
 use Rattle.mesh_atoms.specs.declared.tc.TcRow.{TcRow}
-use Rattle.mesh_wire.specs.Hello.{local_value, link_value, other_value}
+use Rattle.mesh_wire.specs.Hello.{row_octet}
 use Rattle.mesh_wire.specs.Kinds.{link_metric}
 use Rattle.mesh_wire.specs.declared.lines.AddressTlvKind.{AddressTlvKind}
 use Rattle.mesh_wire.specs.declared.lines.AddressTlvKind.TheVariants.{Octet, LinkIn, LinkOut, NearIn, NearOut}
 use Rattle.mesh_wire.specs.declared.lines.AddressRecord.{AddressRecord}
-use Rattle.mesh_wire.specs.OctetKinds.{kinds, type_of, at}
+use Rattle.mesh_wire.specs.OctetKinds.{kinds, type_of, at, by_kind, flags_number}
 
 -- the type of TLV
 abbrev pub kind_of : AddressTlvKind → ℕ
@@ -54,25 +54,11 @@ octets_of c pair = pair.0 ∷ (if is_wide c then pair.1 ∷ [] else [])
 abbrev pub value_of : AddressTlvKind → AddressRecord → Option (List ℕ)
 value_of c l = option_map (octets_of c) (octet_pair c l)
 
--- two flags, 1 and 2, in one octet; none where neither is set
-abbrev pub flags_number : Bool → Bool → Option ℕ
-flags_number false false = None
-flags_number true false = Some 1
-flags_number false true = Some 2
-flags_number true true = Some 3
-
 -- what is written of a row of a HELLO
 abbrev pub hello_line : HelloRow → AddressRecord
 hello_line r = record {
   net = r.addr;
-  octets = record {
-    local = option_map local_value r.local;
-    link = option_map link_value r.link;
-    other = option_map other_value r.other;
-    mpr = flags_number r.mpr.flooding r.mpr.routing;
-    addr_type = None;
-    gateway = None;
-  };
+  octets = by_kind (row_octet r);
   metrics = r.metrics;
 }
 
@@ -80,7 +66,7 @@ hello_line r = record {
 abbrev pub tc_line : TcRow → AddressRecord
 tc_line r = record {
   net = r.dest;
-  octets = record { local = None; link = None; other = None; mpr = None; addr_type = flags_number r.origin r.routable; gateway = r.gateway };
+  octets = record (by_kind (λ kind. None)) { addr_type = flags_number r.origin r.routable; gateway = r.gateway };
   metrics = record { link_in = None; link_out = None; near_in = None; near_out = r.metric };
 }
 

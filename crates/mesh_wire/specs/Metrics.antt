@@ -4,6 +4,7 @@ use Rattle.std.proofs.lemmas.Nat.{mod_below}
 use Rattle.std.specs.Prelude.{◌≡◌, ℕ, ◌+◌, ◌*◌, ◌%◌, ◌⊎◌, ◌≢◌, List, [], ◌∷◌, Option, Some, None, true}
 use Rattle.mesh_atoms.specs.declared.addr.NetAddr.{NetAddr}
 use Rattle.mesh_atoms.specs.declared.codes.metric.Metric.{Metric}
+use Rattle.mesh_atoms.specs.declared.hello.Metrics.{Metrics}
 use Rattle.mesh_atoms.specs.Reading.{has}
 use Rattle.mesh_wire.specs.Kinds.{link_metric}
 use Rattle.mesh_packet.specs.Fields.{MessageFields}
@@ -30,6 +31,13 @@ flag_of Near_out = 16
 -- the metric whose code is the lower 12 bits of two octets
 abbrev pub metric_in : ℕ → ℕ → Metric
 metric_in high low = record { code = (256 * high + low) % 4096; in_range = mod_below (256 * high + low) 4096 (lit< tt) }
+
+-- the metric of that kind
+abbrev pub metric_of : MetricKind → Metrics → Option Metric
+metric_of Link_in m = m.link_in
+metric_of Link_out m = m.link_out
+metric_of Near_in m = m.near_in
+metric_of Near_out m = m.near_out
 
 -- a LINK_METRIC shows that metric of the address: of two octets, four flags for its kinds and 12 bits
 abbrev pub ShowsMetric : MessageFields → NetAddr → MetricKind → Metric → Type 0

@@ -1,26 +1,34 @@
 -- The types of address TLV whose values are one octet (RFC 6130, section 10; RFC 7181, section 13.3).
-use Rattle.std.specs.Prelude.{ℕ, List, [], ◌∷◌, Bool, true, ◌&&◌, nat_le, nat_lt}
-use Rattle.mesh_wire.specs.Kinds.{local_if, link_status, other_neighb, mpr, nbr_addr_type, gateway}
+use Rattle.std.specs.Prelude.{◌≡◌, ℕ, List, [], ◌∷◌, ◌++◌, Option, Some, None, Bool, true, false, IsTrue, ◌&&◌, nat_le, nat_lt}
+use Rattle.mesh_atoms.specs.declared.tlv_type.TheConstants.{LOCAL_IF, LINK_STATUS, OTHER_NEIGHB, MPR, NBR_ADDR_TYPE, GATEWAY}
 use Rattle.mesh_wire.specs.declared.octets.OctetKind.{OctetKind}
 use Rattle.mesh_wire.specs.declared.octets.OctetKind.TheVariants.{Local, Link, Other, Mpr, AddrType, Gateway}
 use Rattle.mesh_wire.specs.declared.octets.ByKind.{ByKind}
-
--- all of them, in the order in which they are written
-abbrev pub kinds : List OctetKind
-kinds = Local ∷ (Link ∷ (Other ∷ (Mpr ∷ (AddrType ∷ (Gateway ∷ [])))))
 
 -- those of which a HELLO has one defined value on an address, which is a whole one
 abbrev pub statuses : List OctetKind
 statuses = Local ∷ (Link ∷ (Other ∷ []))
 
+-- those of a HELLO
+abbrev pub hello_kinds : List OctetKind
+hello_kinds = statuses ++ Mpr ∷ []
+
+-- those of a TC
+abbrev pub tc_kinds : List OctetKind
+tc_kinds = AddrType ∷ (Gateway ∷ [])
+
+-- all of them, in the order in which they are written
+abbrev pub kinds : List OctetKind
+kinds = hello_kinds ++ tc_kinds
+
 -- the type by its number
 abbrev pub type_of : OctetKind → ℕ
-type_of Local = local_if
-type_of Link = link_status
-type_of Other = other_neighb
-type_of Mpr = mpr
-type_of AddrType = nbr_addr_type
-type_of Gateway = gateway
+type_of Local = LOCAL_IF
+type_of Link = LINK_STATUS
+type_of Other = OTHER_NEIGHB
+type_of Mpr = MPR
+type_of AddrType = NBR_ADDR_TYPE
+type_of Gateway = GATEWAY
 
 -- whether an octet is in a range
 abbrev pub is_within : ℕ → ℕ → ℕ → Bool
@@ -34,6 +42,17 @@ is_value Other n = is_within 0 2 n
 is_value Mpr n = is_within 1 4 n
 is_value AddrType n = is_within 1 4 n
 is_value Gateway n = true
+
+-- one octet, which is a value of the type
+abbrev pub IsOctetOf : OctetKind → List ℕ → Type 0
+IsOctetOf kind octets = (octet : ℕ) × (octets ≡ octet ∷ []) × IsTrue (is_value kind octet)
+
+-- two flags, 1 and 2, in one octet; none where neither is set
+abbrev pub flags_number : Bool → Bool → Option ℕ
+flags_number false false = None
+flags_number true false = Some 1
+flags_number false true = Some 2
+flags_number true true = Some 3
 
 -- what there is for the type
 abbrev pub at : {T : Type 0} → OctetKind → ByKind T → T

@@ -1,17 +1,15 @@
 -- What rules on values say, and the first rule that is broken.
-use Rattle.std.specs.Prelude.{◌≡◌, ℕ, ◌<◌, ◌≤◌, List, [], ◌∷◌, Option, Some, None}
+use Rattle.std.specs.Prelude.{ℕ, ◌≤◌, List, Option, Some, None}
 use Rattle.mesh_atoms.specs.declared.addr.NetAddr.{NetAddr}
 use Rattle.mesh_atoms.specs.Nodes.{IsAtMost}
 use Rattle.mesh_packet.specs.Fields.{MessageFields}
+use Rattle.mesh_wire.specs.declared.octets.OctetKind.{OctetKind}
+use Rattle.mesh_wire.specs.OctetKinds.{type_of, IsOctetOf}
 use Rattle.mesh_wire.specs.Rows.{HasValue}
 
--- one octet, in a range
-abbrev pub IsOctet : ℕ → ℕ → List ℕ → Type 0
-IsOctet low bound octets = (octet : ℕ) × (octets ≡ octet ∷ []) × (low ≤ octet) × (octet < bound)
-
--- the type has a value on the address that isn't one octet in the range
-abbrev pub HasUndefined : MessageFields → NetAddr → ℕ → ℕ → ℕ → Type 0
-HasUndefined message net kind low bound = (octets : List ℕ) × HasValue message net kind octets × (IsOctet low bound octets → ⊥)
+-- the type has a value on the address that isn't one octet of its range
+abbrev pub HasUndefined : MessageFields → NetAddr → OctetKind → Type 0
+HasUndefined message net kind = (octets : List ℕ) × HasValue message net (type_of kind) octets × (IsOctetOf kind octets → ⊥)
 
 -- no rule is broken
 abbrev pub Keeps : (ℕ → Option NetAddr → Type 0) → Type 0

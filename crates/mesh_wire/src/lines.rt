@@ -2,7 +2,8 @@
 ghost use Rattle.std.specs.Prelude.{◌≡◌, ◌≤◌, IfOk, map};
 ghost use Rattle.std.specs.Option.{option_map};
 ghost use Rattle.mesh_wire.specs.Hello.{local_value, link_value, other_value};
-ghost use Rattle.mesh_wire.specs.Lines.{kind_of, is_wide, width_of, narrow, flagged, octet_pair, flags_number, hello_line, tc_line};
+ghost use Rattle.mesh_wire.specs.Lines.{kind_of, is_wide, width_of, narrow, flagged, octet_pair, hello_line, tc_line};
+ghost use Rattle.mesh_wire.specs.OctetKinds.{flags_number};
 
 use crate::octets::{ByKind, OctetKind};
 use mesh_atoms::tlv_type::LINK_METRIC;

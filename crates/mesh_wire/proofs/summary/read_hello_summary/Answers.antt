@@ -1,6 +1,5 @@
-use Rattle.std.proofs.Common.{ℕ, ap}
+use Rattle.std.proofs.Common.{refl}
 use Rattle.mesh_atoms.specs.declared.hello.Hello.{Hello}
-use Rattle.mesh_wire.specs.declared.summary.HelloSummary.{HelloSummary}
 use Rattle.mesh_wire.proofs.summary.read_hello_summary.Goals as goal
 
 pub returns-clause-reads : goal.returns-clause-reads
@@ -15,13 +14,6 @@ returns-clause-reads c =
       willing = c.willing_of.result;
       rows = rows;
       ascending = are.ascending;
-    } in
-    let sum : ℕ → HelloSummary = λ n. record {
-      originator = hello.originator;
-      validity = hello.validity;
-      interval = hello.interval;
-      willing = hello.willing;
-      row_count = n;
     } in (
       hello,
       record {
@@ -31,5 +23,5 @@ returns-clause-reads c =
         willing = (heading.willing, h.willing, c.willing_of.ensures.flooding, c.willing_of.ensures.routing);
         rows = are;
       },
-      ap sum count,
+      rw count refl,
     )

@@ -1,6 +1,5 @@
-use Rattle.std.proofs.Common.{ℕ, ap}
+use Rattle.std.proofs.Common.{refl}
 use Rattle.mesh_atoms.specs.declared.tc.Tc.{Tc}
-use Rattle.mesh_wire.specs.declared.summary.TcSummary.{TcSummary}
 use Rattle.mesh_wire.proofs.summary.read_tc_summary.Goals as goal
 
 pub returns-clause-reads : goal.returns-clause-reads
@@ -17,17 +16,8 @@ returns-clause-reads c =
       interval = heading.interval;
       rows = rows;
       ascending = are.ascending;
-    } in
-    let sum : ℕ → TcSummary = λ n. record {
-      originator = tc.originator;
-      sequence = tc.sequence;
-      ansn = tc.ansn;
-      complete = tc.complete;
-      validity = tc.validity;
-      interval = tc.interval;
-      row_count = n;
     } in (
       tc,
       record { originator = h.originator; sequence = h.sequence; content = h.content; validity = h.validity; interval = h.interval; rows = are },
-      ap sum count,
+      rw count refl,
     )
