@@ -22,7 +22,7 @@ use Rattle.mesh_atoms.specs.declared.tuples.TwoHopKey.{TwoHopKey}
 use Rattle.mesh_atoms.specs.declared.tuples.RouterTuple.{RouterTuple}
 use Rattle.mesh_atoms.specs.declared.tuples.AddressTuple.{AddressTuple}
 use Rattle.mesh_atoms.specs.declared.tuples.NetworkTuple.{NetworkTuple}
-use Rattle.mesh_atoms.specs.Base.{Has}
+use Rattle.mesh_atoms.specs.Base.{Base, Has}
 use Rattle.mesh_atoms.specs.Codes.Codes.{metric_value}
 use Rattle.mesh_atoms.specs.Hello.{Says, Flooding, Routing}
 use Rattle.mesh_atoms.specs.Radio.{Joins, Adjacent, IsMetric}
@@ -35,7 +35,7 @@ use Rattle.mesh_paths.proofs.Admitted.{joins_back}
 use Rattle.mesh_paths.proofs.Scenarios.{sound_scenario}
 use Rattle.mesh_atoms.specs.declared.gap.GapKey.TheVariants.{Link, Neighbour, TwoHop, Router, Address, Network}
 use Rattle.mesh_settled.specs.Gaps.Fields.{Field, AllSame, link_fields, neighbour_fields, two_hop_fields, topology_fields, router_fields, address_fields, network_fields, known_cost}
-use Rattle.mesh_settled.specs.Gaps.Gaps.{Look, look, AreSame, HasNoGap}
+use Rattle.mesh_settled.specs.Gaps.Gaps.{Look, look, IsHeldTopic, IsPresentTopic, AreSame, HasNoGap}
 use Rattle.mesh_settled.specs.Gaps.Joints.{all_addresses}
 use Rattle.mesh_settled.specs.Gaps.Network.{IsNetwork}
 use Rattle.mesh_settled.specs.Gaps.Law.{NoGapIsSettled}
@@ -328,18 +328,12 @@ module _ (s : Scenario) (graph : RadioGraph) (states : List State) (now x : ℕ)
     -- Topology
 
     -- of a key, the router holds tuples, and the TCs of the routers joined with it say some
-    module _ {V : Type 0} (fields : V → List Field) (one : (t u : V) → AllSame (fields t) (fields u) → u ≡ t) (Holds : V → Type 0) (By : State → V → Type 0) where
-      abbrev Held : List Field → Type 0
-      Held fs = (t : V) × Holds t × (fs ≡ fields t)
+    module _ {K V : Type 0} (base : Base K V) (by : State → K → V → Type 0) (fields : V → List Field) (one : (t u : V) → AllSame (fields t) (fields u) → u ≡ t) (key : K) where
+      said : {E : Type 0} → ((fs : List Field) → IsHeldTopic base fields key fs → E ⊎ ((gs : List Field) × IsPresentTopic l by fields key gs × AllSame fs gs)) → (t : V) → Has base key t → E ⊎ ((w : ℕ) × (q : State) × IsPeer s states x w q × by q key t)
+      said all t has = elim (all (fields t) (t, has, refl)) [ inl e ↦ inl e | inr g ↦ let w = g.1 in inr (w.0, w.1, w.3, told fields one (by w.1 key) t w.2 g.0 w.4 w.5 g.2) ]
 
-      abbrev Present : List Field → Type 0
-      Present gs = (w : ℕ) × (q : State) × (t : V) × IsPeer s states x w q × By q t × (gs ≡ fields t)
-
-      said : {E : Type 0} → ((fs : List Field) → Held fs → E ⊎ ((gs : List Field) × Present gs × AllSame fs gs)) → (t : V) → Holds t → E ⊎ ((w : ℕ) × (q : State) × IsPeer s states x w q × By q t)
-      said all t has = elim (all (fields t) (t, has, refl)) [ inl e ↦ inl e | inr g ↦ let w = g.1 in inr (w.0, w.1, w.3, told fields one (By w.1) t w.2 g.0 w.4 w.5 g.2) ]
-
-      held : ((gs : List Field) → Present gs → (fs : List Field) × Held fs × AllSame gs fs) → (w : ℕ) (q : State) (t : V) → IsPeer s states x w q → By q t → Holds t
-      held all w q t peer by = let g = all (fields t) (w, q, t, peer, by, refl) in told fields one Holds t g.1.0 g.0 g.1.1 g.1.2 g.2
+      held : ((gs : List Field) → IsPresentTopic l by fields key gs → (fs : List Field) × IsHeldTopic base fields key fs × AllSame gs fs) → (w : ℕ) (q : State) (t : V) → IsPeer s states x w q → by q key t → Has base key t
+      held all w q t peer given = let g = all (fields t) (w, q, t, peer, given, refl) in told fields one (Has base key) t g.1.0 g.0 g.1.1 g.1.2 g.2
 
     settled_of : IsSettledAt s states now x p
     settled_of = record {
@@ -349,12 +343,12 @@ module _ (s : Scenario) (graph : RadioGraph) (states : List State) (now x : ℕ)
       neighbour_to = neighbour_to;
       two_hop_from = two_hop_from;
       two_hop_to = two_hop_to;
-      router_from = λ key. said router_fields router_is (Has p.bases.topology.routers key) (λ q. IsRouterBy q key) (same (Router key.from key.to)).held;
-      router_to = λ w q key. held router_fields router_is (Has p.bases.topology.routers key) (λ r. IsRouterBy r key) (same (Router key.from key.to)).present w q;
-      address_from = λ key. said address_fields address_is (Has p.bases.topology.addresses key) (λ q. IsAddressBy q key) (same (Address key.from key.addr)).held;
-      address_to = λ w q key. held address_fields address_is (Has p.bases.topology.addresses key) (λ r. IsAddressBy r key) (same (Address key.from key.addr)).present w q;
-      network_from = λ key. said network_fields network_is (Has p.bases.topology.networks key) (λ q. IsNetworkBy q key) (same (Network key.from key.net)).held;
-      network_to = λ w q key. held network_fields network_is (Has p.bases.topology.networks key) (λ r. IsNetworkBy r key) (same (Network key.from key.net)).present w q;
+      router_from = λ key. said p.bases.topology.routers IsRouterBy router_fields router_is key (same (Router key.from key.to)).held;
+      router_to = λ w q key. held p.bases.topology.routers IsRouterBy router_fields router_is key (same (Router key.from key.to)).present w q;
+      address_from = λ key. said p.bases.topology.addresses IsAddressBy address_fields address_is key (same (Address key.from key.addr)).held;
+      address_to = λ w q key. held p.bases.topology.addresses IsAddressBy address_fields address_is key (same (Address key.from key.addr)).present w q;
+      network_from = λ key. said p.bases.topology.networks IsNetworkBy network_fields network_is key (same (Network key.from key.net)).held;
+      network_to = λ w q key. held p.bases.topology.networks IsNetworkBy network_fields network_is key (same (Network key.from key.net)).present w q;
     }
 
   no_gap : IsSettledAt s states now x p → HasNoGap l

@@ -15,6 +15,7 @@ use Rattle.mesh_atoms.specs.Settled.{At, IsPeer, IsStray}
 use Rattle.mesh_atoms.specs.Sound.{Sound}
 use Rattle.mesh_atoms.specs.State.{State, IsOriginator}
 use Rattle.mesh_atoms.proofs.Lookups.{has_found, router_equiv, same_router, address_equiv, same_address, network_equiv, same_network}
+use Rattle.mesh_topo.specs.TcSets.Tuples.{router_says, address_says, network_says}
 use Rattle.mesh_paths.proofs.Scenarios.{sound_scenario}
 use Rattle.mesh_paths.proofs.SettledNeighbours.{originator_address}
 use Rattle.mesh_settled.specs.declared.gaps.found.Found.{Found}
@@ -27,7 +28,7 @@ use Rattle.mesh_settled.specs.Gaps.Found.{IsSide, IsLeastGap, lesser}
 use Rattle.mesh_settled.specs.Gaps.Gaps.{Look, look, IsHeldTuple, IsPresentTuple, IsExcepted, AreSame}
 use Rattle.mesh_settled.specs.Gaps.Network.{IsNetwork}
 use Rattle.mesh_settled.specs.Gaps.Peers.{IsPeerOriginator, IsValueOf}
-use Rattle.mesh_settled.specs.Gaps.Topics.{of_router, of_address, of_network, claim_fields, key_at, ends_at, IsClaimBy, IsPresentClaim, IsHeldAt, IsTupleHeld, IsToRows, IsByRows, IsByAllRows, IsTopicKey}
+use Rattle.mesh_settled.specs.Gaps.Topics.{claim, claim_fields, key_at, ends_at, IsClaimBy, IsPresentClaim, IsHeldAt, IsTupleHeld, IsToRows, IsByRows, IsByAllRows, IsTopicKey}
 use Rattle.mesh_settled.proofs.GapsLemmas.JointLemmas.{same_state}
 use Rattle.mesh_settled.proofs.GapsLemmas.Leasts.{least_as, least_all, least_lesser}
 use Rattle.mesh_settled.proofs.GapsLemmas.PeerLemmas.{within}
@@ -40,14 +41,14 @@ use Rattle.mesh_atoms.proofs.Values.{one_originator}
 -- What is held
 
 module _ (l : Look) (sound : Sound l.p) (from : Addr4) (net : NetAddr) where
-  pub held_router : IsSide (IsHeldTuple l (key_at Routers from net)) (option_map claim_fields (option_map (λ e. of_router e.0) (find router_eq l.p.bases.topology.routers (record { from = from; to = net.addr }))))
-  held_router = let key : RouterKey = record { from = from; to = net.addr } in held_in of_router claim_fields (Has l.p.bases.topology.routers key) _ (λ t. has_found router_equiv same_router l.p.bases.topology.routers key t sound.topology.routers.distinct)
+  pub held_router : IsSide (IsHeldTuple l (key_at Routers from net)) (option_map claim_fields (option_map (λ e. claim e.0.ansn (router_says e.0)) (find router_eq l.p.bases.topology.routers (record { from = from; to = net.addr }))))
+  held_router = let key : RouterKey = record { from = from; to = net.addr } in held_in (λ t. claim t.ansn (router_says t)) claim_fields (Has l.p.bases.topology.routers key) _ (λ t. has_found router_equiv same_router l.p.bases.topology.routers key t sound.topology.routers.distinct)
 
-  pub held_address : IsSide (IsHeldTuple l (key_at Addresses from net)) (option_map claim_fields (option_map (λ e. of_address e.0) (find address_eq l.p.bases.topology.addresses (record { from = from; addr = net.addr }))))
-  held_address = let key : AddressKey = record { from = from; addr = net.addr } in held_in of_address claim_fields (Has l.p.bases.topology.addresses key) _ (λ t. has_found address_equiv same_address l.p.bases.topology.addresses key t sound.topology.addresses.distinct)
+  pub held_address : IsSide (IsHeldTuple l (key_at Addresses from net)) (option_map claim_fields (option_map (λ e. claim e.0.ansn (address_says e.0)) (find address_eq l.p.bases.topology.addresses (record { from = from; addr = net.addr }))))
+  held_address = let key : AddressKey = record { from = from; addr = net.addr } in held_in (λ t. claim t.ansn (address_says t)) claim_fields (Has l.p.bases.topology.addresses key) _ (λ t. has_found address_equiv same_address l.p.bases.topology.addresses key t sound.topology.addresses.distinct)
 
-  pub held_network : IsSide (IsHeldTuple l (key_at Networks from net)) (option_map claim_fields (option_map (λ e. of_network e.0) (find network_eq l.p.bases.topology.networks (record { from = from; net = net }))))
-  held_network = let key : NetworkKey = record { from = from; net = net } in held_in of_network claim_fields (Has l.p.bases.topology.networks key) _ (λ t. has_found network_equiv same_network l.p.bases.topology.networks key t sound.topology.networks.distinct)
+  pub held_network : IsSide (IsHeldTuple l (key_at Networks from net)) (option_map claim_fields (option_map (λ e. claim e.0.ansn (network_says e.0)) (find network_eq l.p.bases.topology.networks (record { from = from; net = net }))))
+  held_network = let key : NetworkKey = record { from = from; net = net } in held_in (λ t. claim t.ansn (network_says t)) claim_fields (Has l.p.bases.topology.networks key) _ (λ t. has_found network_equiv same_network l.p.bases.topology.networks key t sound.topology.networks.distinct)
 
 -- What is given
 
@@ -90,9 +91,9 @@ module _ (s : Scenario) (graph : RadioGraph) (states : List State) (now x : ℕ)
 
 module _ (l : Look) (from : Addr4) (net : NetAddr) where
   gives_claim : (topic : TopologyKind) (gs : List Field) → IsPresentTuple l (key_at topic from net) gs → IsPresentClaim l topic from net gs
-  gives_claim Routers gs (w, q, u, peer, by, same) = (w, q, of_router u, peer, (u, by, refl), same)
-  gives_claim Addresses gs (w, q, u, peer, by, same) = (w, q, of_address u, peer, (u, by, refl), same)
-  gives_claim Networks gs (w, q, u, peer, by, same) = (w, q, of_network u, peer, (u, by, refl), same)
+  gives_claim Routers gs (w, q, u, peer, by, same) = (w, q, claim u.ansn (router_says u), peer, (u, by, refl), same)
+  gives_claim Addresses gs (w, q, u, peer, by, same) = (w, q, claim u.ansn (address_says u), peer, (u, by, refl), same)
+  gives_claim Networks gs (w, q, u, peer, by, same) = (w, q, claim u.ansn (network_says u), peer, (u, by, refl), same)
 
   claim_gives : (topic : TopologyKind) (gs : List Field) → IsPresentClaim l topic from net gs → IsPresentTuple l (key_at topic from net) gs
   claim_gives Routers gs (w, q, t, peer, (u, by, is), same) = (w, q, u, peer, by, same ∙ ap claim_fields is)

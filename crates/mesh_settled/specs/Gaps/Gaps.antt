@@ -6,15 +6,9 @@ use Rattle.mesh_atoms.specs.declared.tuples.Neighbour.{Neighbour as NeighbourTup
 use Rattle.mesh_atoms.specs.declared.tuples.TwoHop.{TwoHop as TwoHopTuple}
 use Rattle.mesh_atoms.specs.declared.tuples.LinkKey.{LinkKey}
 use Rattle.mesh_atoms.specs.declared.tuples.TwoHopKey.{TwoHopKey}
-use Rattle.mesh_atoms.specs.declared.tuples.RouterKey.{RouterKey}
-use Rattle.mesh_atoms.specs.declared.tuples.AddressKey.{AddressKey}
-use Rattle.mesh_atoms.specs.declared.tuples.NetworkKey.{NetworkKey}
-use Rattle.mesh_atoms.specs.declared.tuples.RouterTuple.{RouterTuple}
-use Rattle.mesh_atoms.specs.declared.tuples.AddressTuple.{AddressTuple}
-use Rattle.mesh_atoms.specs.declared.tuples.NetworkTuple.{NetworkTuple}
 use Rattle.mesh_atoms.specs.declared.addr.Addr4.{Addr4}
 use Rattle.mesh_atoms.specs.declared.settings.Scenario.{Scenario}
-use Rattle.mesh_atoms.specs.Base.{Has}
+use Rattle.mesh_atoms.specs.Base.{Base, Has}
 use Rattle.mesh_atoms.specs.Radio.{Joins, IsMetric}
 use Rattle.mesh_atoms.specs.declared.tuples.LinkState.TheVariants.{Symmetric as Is_symmetric}
 use Rattle.mesh_atoms.specs.State.{State, state_of, HasLink, HasTwoHop, HasSymmetric}
@@ -72,50 +66,32 @@ IsPresentTwoHop l i key fs =
     (y j : ℕ) × (q : State) × (there back : Metric) × (t : TwoHopTuple) × At l.states y q × Joins l.s l.x i y j there back
     × IsTwoHopBy l.p q j l.now key t × (fs ≡ two_hop_fields t)
 
--- of a router topology tuple that the router holds
-abbrev pub IsHeldRouter : State → RouterKey → List Field → Type 0
-IsHeldRouter p key fs = (t : RouterTuple) × Has p.bases.topology.routers key t × (fs ≡ router_fields t)
+-- of a topology tuple that the router holds, of any kind: one of the base with that key
+abbrev pub IsHeldTopic : {K V : Type 0} → Base K V → (V → List Field) → K → List Field → Type 0
+IsHeldTopic {K} {V} base fields key fs = (t : V) × Has base key t × (fs ≡ fields t)
 
 -- of one that the TC of another router gives which is joined with it
-abbrev pub IsPresentRouter : Look → RouterKey → List Field → Type 0
-IsPresentRouter l key fs =
-    (w : ℕ) × (q : State) × (t : RouterTuple) × IsPeer l.s l.states l.x w q × IsRouterBy q key t × (fs ≡ router_fields t)
-
--- the same of a routable address topology tuple
-abbrev pub IsHeldAddress : State → AddressKey → List Field → Type 0
-IsHeldAddress p key fs = (t : AddressTuple) × Has p.bases.topology.addresses key t × (fs ≡ address_fields t)
-
--- of one that the TC of another router gives which is joined with it
-abbrev pub IsPresentAddress : Look → AddressKey → List Field → Type 0
-IsPresentAddress l key fs =
-    (w : ℕ) × (q : State) × (t : AddressTuple) × IsPeer l.s l.states l.x w q × IsAddressBy q key t × (fs ≡ address_fields t)
-
--- and of an attached network tuple
-abbrev pub IsHeldNetwork : State → NetworkKey → List Field → Type 0
-IsHeldNetwork p key fs = (t : NetworkTuple) × Has p.bases.topology.networks key t × (fs ≡ network_fields t)
-
--- of one that the TC of another router gives which is joined with it
-abbrev pub IsPresentNetwork : Look → NetworkKey → List Field → Type 0
-IsPresentNetwork l key fs =
-    (w : ℕ) × (q : State) × (t : NetworkTuple) × IsPeer l.s l.states l.x w q × IsNetworkBy q key t × (fs ≡ network_fields t)
+abbrev pub IsPresentTopic : {K V : Type 0} → Look → (State → K → V → Type 0) → (V → List Field) → K → List Field → Type 0
+IsPresentTopic {K} {V} l by fields key fs =
+    (w : ℕ) × (q : State) × (t : V) × IsPeer l.s l.states l.x w q × by q key t × (fs ≡ fields t)
 
 -- the router holds a tuple of the key, with these fields
 abbrev pub IsHeldTuple : Look → GapKey → List Field → Type 0
 IsHeldTuple l (Link i key) fs = IsHeldLink l.p l.now i key fs
 IsHeldTuple l (Neighbour o) fs = IsHeldNeighbour l.p o fs
 IsHeldTuple l (TwoHop i key) fs = IsHeldTwoHop l.p i key fs
-IsHeldTuple l (Router from to) fs = IsHeldRouter l.p (record { from = from; to = to }) fs
-IsHeldTuple l (Address from a) fs = IsHeldAddress l.p (record { from = from; addr = a }) fs
-IsHeldTuple l (Network from net) fs = IsHeldNetwork l.p (record { from = from; net = net }) fs
+IsHeldTuple l (Router from to) fs = IsHeldTopic l.p.bases.topology.routers router_fields (record { from = from; to = to }) fs
+IsHeldTuple l (Address from a) fs = IsHeldTopic l.p.bases.topology.addresses address_fields (record { from = from; addr = a }) fs
+IsHeldTuple l (Network from net) fs = IsHeldTopic l.p.bases.topology.networks network_fields (record { from = from; net = net }) fs
 
 -- the HELLOs of its neighbours, or the TCs of the routers joined with it, say that there is one at present, with these fields
 abbrev pub IsPresentTuple : Look → GapKey → List Field → Type 0
 IsPresentTuple l (Link i key) fs = IsPresentLink l i key fs
 IsPresentTuple l (Neighbour o) fs = IsPresentNeighbour l o fs
 IsPresentTuple l (TwoHop i key) fs = IsPresentTwoHop l i key fs
-IsPresentTuple l (Router from to) fs = IsPresentRouter l (record { from = from; to = to }) fs
-IsPresentTuple l (Address from a) fs = IsPresentAddress l (record { from = from; addr = a }) fs
-IsPresentTuple l (Network from net) fs = IsPresentNetwork l (record { from = from; net = net }) fs
+IsPresentTuple l (Router from to) fs = IsPresentTopic l IsRouterBy router_fields (record { from = from; to = to }) fs
+IsPresentTuple l (Address from a) fs = IsPresentTopic l IsAddressBy address_fields (record { from = from; addr = a }) fs
+IsPresentTuple l (Network from net) fs = IsPresentTopic l IsNetworkBy network_fields (record { from = from; net = net }) fs
 
 -- the key isn't looked at: a topology tuple's from a stray router
 abbrev pub IsExcepted : Look → GapKey → Type 0

@@ -15,6 +15,7 @@ use Rattle.mesh_atoms.specs.declared.gap.GapKey.TheVariants.{Router as Of_router
 use Rattle.mesh_settled.specs.declared.gaps.topics.TopologyKind.{TopologyKind}
 use Rattle.mesh_settled.specs.declared.gaps.topics.TopologyKind.TheVariants.{Routers, Addresses, Networks}
 use Rattle.mesh_settled.specs.declared.gaps.topics.Claim.{Claim}
+use Rattle.mesh_topo.specs.TcSets.Tuples.{router_says, address_says, network_says}
 use Rattle.mesh_settled.specs.Gaps.Fields.{Field, topology_fields}
 use Rattle.mesh_settled.specs.Gaps.Gaps.{Look}
 
@@ -23,18 +24,6 @@ use Rattle.mesh_settled.specs.Gaps.Gaps.{Look}
 -- the number, and the distance, which a network alone has, with the metric
 abbrev pub claim : ℕ → Option ℕ × Metric → Claim
 claim ansn says = record { ansn = ansn; metric = says.1; distance = says.0 }
-
--- of a router topology tuple
-abbrev pub of_router : RouterTuple → Claim
-of_router t = claim t.ansn (None, t.metric)
-
--- of a routable address topology tuple
-abbrev pub of_address : AddressTuple → Claim
-of_address t = claim t.ansn (None, t.metric)
-
--- of an attached network tuple
-abbrev pub of_network : NetworkTuple → Claim
-of_network t = claim t.ansn (Some t.distance, t.metric)
 
 -- its fields, which are those of the tuple
 abbrev pub claim_fields : Claim → List Field
@@ -52,10 +41,10 @@ key_at Networks from net = Of_network from net
 
 -- the TC of a router in state q says it
 abbrev pub IsClaimBy : State → TopologyKind → Addr4 → NetAddr → Claim → Type 0
-IsClaimBy q Routers from net t = (u : RouterTuple) × IsRouterBy q (record { from = from; to = net.addr }) u × (t ≡ of_router u)
+IsClaimBy q Routers from net t = (u : RouterTuple) × IsRouterBy q (record { from = from; to = net.addr }) u × (t ≡ claim u.ansn (router_says u))
 IsClaimBy q Addresses from net t =
-    (u : AddressTuple) × IsAddressBy q (record { from = from; addr = net.addr }) u × (t ≡ of_address u)
-IsClaimBy q Networks from net t = (u : NetworkTuple) × IsNetworkBy q (record { from = from; net = net }) u × (t ≡ of_network u)
+    (u : AddressTuple) × IsAddressBy q (record { from = from; addr = net.addr }) u × (t ≡ claim u.ansn (address_says u))
+IsClaimBy q Networks from net t = (u : NetworkTuple) × IsNetworkBy q (record { from = from; net = net }) u × (t ≡ claim u.ansn (network_says u))
 
 -- the TC of another router which is joined with it says one, with these fields
 abbrev pub IsPresentClaim : Look → TopologyKind → Addr4 → NetAddr → List Field → Type 0

@@ -76,18 +76,14 @@ fn is_row_of(topic: TopologyKind, net: NetAddr, row: &TcRow) -> bool
 fn claim_if(topic: TopologyKind, net: NetAddr, ansn: u16, row: &TcRow) -> Option<Claim>
     ensures { result ≡ claim_if topic net ansn row.now }
 {
-    if is_row_of(topic, net, row) {
-        match row.metric {
-            Some(metric) => Some(Claim {
-                ansn,
-                metric,
-                distance: row.gateway,
-            }),
-            None => None,
-        }
-    } else {
-        None
+    if !is_row_of(topic, net, row) {
+        return None;
     }
+    Some(Claim {
+        ansn,
+        metric: row.metric?,
+        distance: row.gateway,
+    })
 }
 
 // What the first of the rows says that is of that destination.
@@ -136,17 +132,13 @@ fn given_claim<R: RouterView>(
 fn found_claim<K: Ord, T: TopologyTuple<K>>(found: Option<(&T, u64)>) -> Option<Claim>
     ensures { result ≡ option_map (λ e. claim (T.number e.0) (T.says e.0)) (value_of found.entry) }
 {
-    match found {
-        Some((tuple, _)) => {
-            let (distance, metric) = tuple.distance_and_metric();
-            Some(Claim {
-                ansn: tuple.number_of(),
-                metric,
-                distance,
-            })
-        }
-        None => None,
-    }
+    let (tuple, _) = found?;
+    let (distance, metric) = tuple.distance_and_metric();
+    Some(Claim {
+        ansn: tuple.number_of(),
+        metric,
+        distance,
+    })
 }
 
 // What the router's own tuple says.
@@ -181,10 +173,7 @@ fn held_claim<R: RouterView>(
 fn number(distance: Option<u8>) -> Option<u64>
     ensures { result ≡ distance }
 {
-    match distance {
-        Some(distance) => Some(u64::from(distance)),
-        None => None,
-    }
+    Some(u64::from(distance?))
 }
 
 // Where the two tuples differ.
@@ -249,10 +238,8 @@ fn held_count<R: RouterView>(router: &R, topic: TopologyKind) -> usize
 fn found_ends<K: Ord, T: TopologyTuple<K>>(found: Option<(&K, &T, u64)>) -> Option<(Addr4, NetAddr)>
     ensures { result ≡ option_map (λ e. (T.origin e.0, T.dest e.0)) (entry_of found.entry) }
 {
-    match found {
-        Some((key, _, _)) => Some((T::origin_of(key), T::dest_of(key))),
-        None => None,
-    }
+    let (key, _, _) = found?;
+    Some((T::origin_of(key), T::dest_of(key)))
 }
 
 // The originator and the destination of the tuple at that place that the router holds.
