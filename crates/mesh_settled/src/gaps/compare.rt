@@ -1,5 +1,5 @@
 //! Where two tuples of a key differ.
-ghost use Rattle.std.specs.Prelude.{◌≡◌, ℕ, ◌+◌, ◌↔◌, List, [], ◌∷◌, Contains, IsTrue, is_some, Some, Bool};
+ghost use Rattle.std.specs.Prelude.{◌≡◌, ◌+◌, List, ◌∷◌, Contains, Some};
 ghost use Rattle.mesh_atoms.specs.declared.addr.Addr4.{Addr4};
 ghost use Rattle.mesh_settled.specs.Gaps.Fields.{Field, Addresses, Number, flag_field, known_cost};
 ghost use Rattle.mesh_settled.specs.Gaps.Found.{IsFieldTest, IsTestFrom, IsLeastMissing, lower, least_of, compared};

@@ -1,5 +1,5 @@
 //! Gaps among the links of a router (RFC 6130, section 7.1).
-ghost use Rattle.std.specs.Prelude.{◌≡◌, ◌↔◌, ◌⊎◌, ◌<◌, ℕ, List, Some, IsTrue, Contains, map};
+ghost use Rattle.std.specs.Prelude.{◌≡◌, ◌↔◌, ◌<◌, List, Some, IsTrue, Contains, map};
 ghost use Rattle.mesh_atoms.specs.declared.addr.Addr4.{Addr4};
 ghost use Rattle.mesh_atoms.specs.Hello.{Says, Flooding};
 ghost use Rattle.mesh_atoms.specs.Words.{IsValue};

@@ -4,7 +4,7 @@ ghost use Rattle.mesh_atoms.specs.declared.addr.Addr4.{Addr4};
 ghost use Rattle.mesh_atoms.specs.Hello.{Says, Routing};
 ghost use Rattle.mesh_atoms.specs.Settled.{At};
 ghost use Rattle.mesh_atoms.specs.Sound.{Sound};
-ghost use Rattle.mesh_atoms.specs.State.{HasAddress, IsOriginator};
+ghost use Rattle.mesh_atoms.specs.State.{HasAddress};
 ghost use Rattle.mesh_machine.specs.expire.Table.{value_of};
 ghost use Rattle.mesh_atoms.specs.declared.gap.GapKey.TheVariants.{Neighbour as Of_neighbour};
 ghost use Rattle.mesh_settled.specs.Gaps.Fields.{Field, neighbour_fields};

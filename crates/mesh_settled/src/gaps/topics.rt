@@ -1,5 +1,5 @@
 //! Gaps among the topology tuples of a router, of any kind (RFC 7181, section 10).
-ghost use Rattle.std.specs.Prelude.{◌≡◌, ℕ, List, IsTrue, Some, length, option_map, nat_eq, ◌&&◌};
+ghost use Rattle.std.specs.Prelude.{◌≡◌, List, Some, length, option_map, nat_eq, ◌&&◌};
 ghost use Rattle.mesh_atoms.specs.declared.addr.Addr4.{Addr4};
 ghost use Rattle.mesh_atoms.specs.Words.{IsValue};
 ghost use Rattle.mesh_atoms.specs.Sound.{Sound};
