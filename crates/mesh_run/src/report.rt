@@ -8,7 +8,8 @@ use crate::turns::Ended;
 use mesh_atoms::Bytes;
 use mesh_core::RouterView;
 use mesh_io::{Sink, Stop, write_all};
-use mesh_texts::{Piece, put_line, put_section};
+use mesh_texts::Piece::Number;
+use mesh_texts::{put_line, put_section};
 use std::alloc::{AllocError, Global};
 
 // Puts when a run ended and what was counted. An allocation failure leaves a part of it behind what was there.
@@ -19,16 +20,11 @@ fn put_run_line(out: &mut Bytes, end: u64, ended: &Ended) -> Result<(), AllocErr
     put_line(
         out,
         &[
-            Piece::Text(b"run end "),
-            Piece::Number(end),
-            Piece::Text(b" turns "),
-            Piece::Number(u64::from(ended.turns)),
-            Piece::Text(b" heard "),
-            Piece::Number(ended.tally.heard),
-            Piece::Text(b" sent "),
-            Piece::Number(ended.tally.sent),
-            Piece::Text(b" air faults "),
-            Piece::Number(ended.tally.faults),
+            (b"run end ", Number(end)),
+            (b" turns ", Number(u64::from(ended.turns))),
+            (b" heard ", Number(ended.tally.heard)),
+            (b" sent ", Number(ended.tally.sent)),
+            (b" air faults ", Number(ended.tally.faults)),
         ],
     )
 }

@@ -9,4 +9,4 @@ pub use crate::lines::lines::{
     put_routing_line, relays_of,
 };
 pub use crate::lines::names::{face_name, faces_of};
-pub use crate::lines::pieces::{Piece, put_all, put_line};
+pub use crate::lines::pieces::{Piece, put_all, put_labelled, put_line};

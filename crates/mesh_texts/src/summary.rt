@@ -1,17 +1,19 @@
 //! What is told of a network at the end of its run, put behind other octets.
-ghost use Rattle.std.specs.Prelude.{◌≡◌, ◌++◌, ◌∷◌, [], codes, length, map, is_some, OnOk, Option};
+ghost use Rattle.std.specs.Prelude.{◌≡◌, ◌++◌, ◌∷◌, [], codes, map, OnOk};
 ghost use Rattle.std.specs.List.{All};
 ghost use Rattle.mesh_atoms.specs.Sound.{Sound};
 ghost use Rattle.mesh_settled.specs.machine.packet.Least.{Wrote};
 ghost use Rattle.mesh_settled.specs.machine.tlv.Least.{Grows};
 ghost use Rattle.mesh_settled.specs.machine.Names.{router_name};
-ghost use Rattle.mesh_texts.specs.Lines.Marks.{joined, line_of, dotted, choice_text, faces_of};
+ghost use Rattle.mesh_texts.specs.Lines.Marks.{joined, dotted, faces_of};
 ghost use Rattle.mesh_texts.specs.Lines.Pieces.{piece_text};
 ghost use Rattle.mesh_texts.specs.Sections.Section.{AreSections};
 ghost use Rattle.mesh_texts.specs.Network.{counts_line, key_text, gap_line, settled_text, IsSummary};
 
-use crate::{Piece, face_name, faces_of, put_all, put_line, put_section};
-use mesh_atoms::{Addr4, Bytes, Counts, Gap, GapKey, Interface, LinkKey, Scenario, TwoHopKey};
+use crate::Piece::{self, Address, Choice, Network, Number, Text};
+use crate::lines::put_labelled;
+use crate::{face_name, faces_of, put_all, put_line, put_section};
+use mesh_atoms::{Addr4, Bytes, Counts, Gap, GapKey, Interface, Scenario};
 use mesh_settled::{RouterView, router_name};
 use std::alloc::AllocError;
 
@@ -30,18 +32,12 @@ pub fn put_counts_line(
     put_line(
         out,
         &[
-            Piece::Text(b"emulate routers "),
-            Piece::Number(routers as u64),
-            Piece::Text(b" arcs "),
-            Piece::Number(arcs as u64),
-            Piece::Text(b" end "),
-            Piece::Number(scenario.end),
-            Piece::Text(b" sent "),
-            Piece::Number(counts.sent),
-            Piece::Text(b" delivered "),
-            Piece::Number(counts.delivered),
-            Piece::Text(b" lost "),
-            Piece::Number(counts.lost),
+            (b"emulate routers ", Number(routers as u64)),
+            (b" arcs ", Number(arcs as u64)),
+            (b" end ", Number(scenario.end)),
+            (b" sent ", Number(counts.sent)),
+            (b" delivered ", Number(counts.delivered)),
+            (b" lost ", Number(counts.lost)),
         ],
     )
 }
@@ -58,41 +54,6 @@ fn put_sections<R: RouterView>(out: &mut Bytes, routers: &[R]) -> Result<(), All
     Ok(())
 }
 
-// Puts the key of a gap at a link of the interface of that name.
-fn put_link_key(out: &mut Bytes, face: &[u8], key: LinkKey) -> Result<(), AllocError>
-    ensures ok { OnOk result (out.new ≡ out.old ++ joined (codes "link " ∷ face.now ∷ codes " " ∷ dotted key.addr ∷ [])) }
-    ensures kept { Grows out.old out.new }
-{
-    put_all(
-        out,
-        &[
-            Piece::Text(b"link "),
-            Piece::Text(face),
-            Piece::Text(b" "),
-            Piece::Address(key.addr),
-        ],
-    )
-}
-
-// Puts the key of a gap at a 2-hop tuple of the interface of that name.
-fn put_two_hop_key(out: &mut Bytes, face: &[u8], key: TwoHopKey) -> Result<(), AllocError>
-    ensures ok { OnOk result (out.new ≡ out.old
-        ++ joined (codes "twohop " ∷ face.now ∷ codes " " ∷ dotted key.link.addr ∷ codes " " ∷ dotted key.addr ∷ [])) }
-    ensures kept { Grows out.old out.new }
-{
-    put_all(
-        out,
-        &[
-            Piece::Text(b"twohop "),
-            Piece::Text(face),
-            Piece::Text(b" "),
-            Piece::Address(key.link.addr),
-            Piece::Text(b" "),
-            Piece::Address(key.addr),
-        ],
-    )
-}
-
 // Puts the key of a gap of topology, from an originator to an address or a network.
 fn put_topology_key<'a>(
     out: &mut Bytes,
@@ -103,15 +64,7 @@ fn put_topology_key<'a>(
     ensures ok { OnOk result (out.new ≡ out.old ++ joined (kind.now ∷ dotted from ∷ codes " " ∷ piece_text to.entry ∷ [])) }
     ensures kept { Grows out.old out.new }
 {
-    put_all(
-        out,
-        &[
-            Piece::Text(kind),
-            Piece::Address(from),
-            Piece::Text(b" "),
-            to,
-        ],
-    )
+    put_all(out, &[Text(kind), Address(from), Text(b" "), to])
 }
 
 // Puts the kind of a key and its parts, where the router has these interfaces.
@@ -121,20 +74,26 @@ fn put_key(out: &mut Bytes, faces: &[Interface], key: GapKey) -> Result<(), Allo
     ensures kept { Grows out.old out.new }
 {
     match key {
-        GapKey::Link { iface, key } => put_link_key(out, face_name(faces, iface), key),
-        GapKey::Neighbour(originator) => put_all(
-            out,
-            &[Piece::Text(b"neighbour "), Piece::Address(originator)],
-        ),
-        GapKey::TwoHop { iface, key } => put_two_hop_key(out, face_name(faces, iface), key),
+        GapKey::Link { iface, key } => {
+            let face = face_name(faces, iface);
+            put_labelled(out, b"link ", Text(face))?;
+            put_labelled(out, b" ", Address(key.addr))
+        }
+        GapKey::Neighbour(originator) => put_labelled(out, b"neighbour ", Address(originator)),
+        GapKey::TwoHop { iface, key } => {
+            let face = face_name(faces, iface);
+            put_labelled(out, b"twohop ", Text(face))?;
+            put_labelled(out, b" ", Address(key.link.addr))?;
+            put_labelled(out, b" ", Address(key.addr))
+        }
         GapKey::Router { from, to } => {
-            put_topology_key(out, b"topology router ", from, Piece::Address(to))
+            put_topology_key(out, b"topology router ", from, Address(to))
         }
         GapKey::Address { from, addr } => {
-            put_topology_key(out, b"topology address ", from, Piece::Address(addr))
+            put_topology_key(out, b"topology address ", from, Address(addr))
         }
         GapKey::Network { from, net } => {
-            put_topology_key(out, b"topology network ", from, Piece::Network(net))
+            put_topology_key(out, b"topology network ", from, Network(net))
         }
     }
 }
@@ -144,27 +103,7 @@ fn put_gap_head(out: &mut Bytes, router: &[u8]) -> Result<(), AllocError>
     ensures ok { OnOk result (out.new ≡ out.old ++ joined (codes "gap " ∷ router.now ∷ codes " " ∷ [])) }
     ensures kept { Grows out.old out.new }
 {
-    put_all(
-        out,
-        &[Piece::Text(b"gap "), Piece::Text(router), Piece::Text(b" ")],
-    )
-}
-
-// Puts which sides have a tuple of a gap's key.
-fn put_gap_end(out: &mut Bytes, held: bool, present: bool) -> Result<(), AllocError>
-    ensures ok { OnOk result (out.new ≡ out.old
-        ++ line_of (codes " held " ∷ choice_text held ∷ codes " present " ∷ choice_text present ∷ [])) }
-    ensures kept { Grows out.old out.new }
-{
-    put_line(
-        out,
-        &[
-            Piece::Text(b" held "),
-            Piece::Choice(held),
-            Piece::Text(b" present "),
-            Piece::Choice(present),
-        ],
-    )
+    put_all(out, &[Text(b"gap "), Text(router), Text(b" ")])
 }
 
 // Puts a gap.
@@ -176,7 +115,11 @@ fn put_gap_line(out: &mut Bytes, scenario: &Scenario, gap: Gap) -> Result<(), Al
     let routers = scenario.routers.as_slice();
     put_gap_head(out, router_name(routers, gap.router))?;
     put_key(out, faces_of(routers, gap.router), gap.key)?;
-    put_gap_end(out, gap.held.is_some(), gap.present.is_some())
+    let (held, present) = (gap.held.is_some(), gap.present.is_some());
+    put_line(
+        out,
+        &[(b" held ", Choice(held)), (b" present ", Choice(present))],
+    )
 }
 
 // Puts that a network isn't settled, and its gap.
@@ -184,7 +127,7 @@ fn put_unsettled(out: &mut Bytes, scenario: &Scenario, gap: Gap) -> Result<(), A
     ensures ok { OnOk result (out.new ≡ out.old ++ (codes "settled no\n" ++ gap_line scenario.now gap)) }
     ensures kept { Grows out.old out.new }
 {
-    put_line(out, &[Piece::Text(b"settled no")])?;
+    put_line(out, &[(b"settled ", Text(b"no"))])?;
     put_gap_line(out, scenario, gap)
 }
 
@@ -195,7 +138,7 @@ pub fn put_settled(out: &mut Bytes, scenario: &Scenario, gap: Option<Gap>) -> Re
     ensures kept { Grows out.old out.new }
 {
     match gap {
-        None => put_line(out, &[Piece::Text(b"settled yes")]),
+        None => put_line(out, &[(b"settled ", Text(b"yes"))]),
         Some(gap) => put_unsettled(out, scenario, gap),
     }
 }

@@ -4,10 +4,13 @@ ghost use Rattle.std.specs.List.{flat_map, enumerate_from};
 ghost use Rattle.mesh_settled.specs.machine.packet.Least.{Wrote};
 ghost use Rattle.mesh_settled.specs.machine.tlv.Least.{Grows};
 ghost use Rattle.mesh_settled.specs.machine.Names.{router_name};
-ghost use Rattle.mesh_texts.specs.Lines.Marks.{line_of, face_name, relays_text, faces_of};
-ghost use Rattle.mesh_texts.specs.Trace.{tick_line, heard_line, event_line, flooding_relays_line, routing_relays_line, relays_lines, sent_line, loss_line, arc_line, lost_line, sent_lines, event_text, IsFrameTaken, IsEventText};
+ghost use Rattle.mesh_texts.specs.Lines.Marks.{face_name, faces_of};
+ghost use Rattle.mesh_texts.specs.Trace.{tick_line, heard_line, event_line, flooding_relays_line, routing_relays_line, relays_lines, sent_line, arc_line, lost_line, sent_lines, event_text, IsFrameTaken, IsEventText};
 
-use crate::lines::{Piece, face_name, faces_of, put_line, relays_of};
+use crate::lines::Piece::{Address, Hex, Number, Text};
+use crate::lines::{
+    face_name, faces_of, put_flooding_line, put_labelled, put_line, put_routing_line,
+};
 use mesh_atoms::{
     Addr4, Bytes, Emission, Interface, NetEvent, RadioArc, RouterSettings, Scenario, Seq,
 };
@@ -20,15 +23,7 @@ pub fn put_tick_line(out: &mut Bytes, moment: u64, router: &[u8]) -> Result<(), 
     ensures ok { OnOk result (out.new ≡ out.old ++ tick_line moment router.now) }
     ensures kept { Grows out.old out.new }
 {
-    put_line(
-        out,
-        &[
-            Piece::Text(b"tick "),
-            Piece::Number(moment),
-            Piece::Text(b" "),
-            Piece::Text(router),
-        ],
-    )
+    put_line(out, &[(b"tick ", Number(moment)), (b" ", Text(router))])
 }
 
 /// Puts the line of a frame that is heard from a sender on the interface of that name.
@@ -47,16 +42,11 @@ pub fn put_heard_line<'a>(
     put_line(
         out,
         &[
-            Piece::Text(b"heard "),
-            Piece::Number(moment),
-            Piece::Text(b" "),
-            Piece::Text(router),
-            Piece::Text(b" "),
-            Piece::Text(face),
-            Piece::Text(b" "),
-            Piece::Address(sender),
-            Piece::Text(b" "),
-            Piece::Hex(frame),
+            (b"heard ", Number(moment)),
+            (b" ", Text(router)),
+            (b" ", Text(face)),
+            (b" ", Address(sender)),
+            (b" ", Hex(frame)),
         ],
     )
 }
@@ -88,7 +78,7 @@ fn put_event_line(
 }
 
 /// Puts the line of the flooding relays of an interface, by its number among the lists of all interfaces.
-#[tactic(auto, unfolding(crate::specs::Trace::flooding_relays_line))]
+#[tactic(auto, unfolding(crate::specs::Trace::flooding_relays_line, crate::specs::Lines::Lines::flooding_line))]
 pub fn put_flooding_relays_line<'a>(
     out: &mut Bytes,
     router: &'a [u8],
@@ -99,22 +89,12 @@ pub fn put_flooding_relays_line<'a>(
     ensures ok { OnOk result (out.new ≡ out.old ++ flooding_relays_line router.now relays.now (iface, face.now)) }
     ensures kept { Grows out.old out.new }
 {
-    let name = face.name.as_slice();
-    let relays = relays_of(relays, iface);
-    put_line(
-        out,
-        &[
-            Piece::Text(b"relays "),
-            Piece::Text(router),
-            Piece::Text(b" flooding "),
-            Piece::Text(name),
-            Piece::Relays(relays),
-        ],
-    )
+    put_labelled(out, b"relays ", Text(router))?;
+    put_flooding_line(out, relays, iface, face)
 }
 
 /// Puts the line of the routing relays.
-#[tactic(auto, unfolding(crate::specs::Trace::routing_relays_line))]
+#[tactic(auto, unfolding(crate::specs::Trace::routing_relays_line, crate::specs::Lines::Lines::routing_line))]
 pub fn put_routing_relays_line<'a>(
     out: &mut Bytes,
     router: &'a [u8],
@@ -123,15 +103,8 @@ pub fn put_routing_relays_line<'a>(
     ensures ok { OnOk result (out.new ≡ out.old ++ routing_relays_line router.now relays.now) }
     ensures kept { Grows out.old out.new }
 {
-    put_line(
-        out,
-        &[
-            Piece::Text(b"relays "),
-            Piece::Text(router),
-            Piece::Text(b" routing"),
-            Piece::Relays(relays),
-        ],
-    )
+    put_labelled(out, b"relays ", Text(router))?;
+    put_routing_line(out, relays)
 }
 
 // Puts the flooding relays of all interfaces.
@@ -184,48 +157,16 @@ pub fn put_sent_line<'a>(
     put_line(
         out,
         &[
-            Piece::Text(b"sent "),
-            Piece::Number(moment),
-            Piece::Text(b" "),
-            Piece::Text(router),
-            Piece::Text(b" "),
-            Piece::Text(face),
-            Piece::Text(b" "),
-            Piece::Hex(frame),
-        ],
-    )
-}
-
-#[tactic(auto, unfolding(crate::specs::Trace::loss_line))]
-fn put_loss_line<'a>(
-    out: &mut Bytes,
-    moment: u64,
-    from: &'a [u8],
-    from_face: &'a [u8],
-    to: &'a [u8],
-    to_face: &'a [u8],
-) -> Result<(), AllocError>
-    ensures ok { OnOk result (out.new ≡ out.old ++ loss_line moment from.now from_face.now to.now to_face.now) }
-    ensures kept { Grows out.old out.new }
-{
-    put_line(
-        out,
-        &[
-            Piece::Text(b"lost "),
-            Piece::Number(moment),
-            Piece::Text(b" "),
-            Piece::Text(from),
-            Piece::Text(b"."),
-            Piece::Text(from_face),
-            Piece::Text(b" "),
-            Piece::Text(to),
-            Piece::Text(b"."),
-            Piece::Text(to_face),
+            (b"sent ", Number(moment)),
+            (b" ", Text(router)),
+            (b" ", Text(face)),
+            (b" ", Hex(frame)),
         ],
     )
 }
 
 // Puts that a frame was lost on an arc between these routers.
+#[tactic(auto, unfolding(crate::specs::Trace::loss_line))]
 fn put_arc_line(
     out: &mut Bytes,
     routers: &[RouterSettings],
@@ -235,15 +176,19 @@ fn put_arc_line(
     ensures ok { OnOk result (out.new ≡ out.old ++ arc_line routers.now moment (Some arc)) }
     ensures kept { Grows out.old out.new }
 {
-    let from = face_name(faces_of(routers, arc.from), arc.from_iface);
-    let to = face_name(faces_of(routers, arc.to), arc.to_iface);
-    put_loss_line(
+    let from = router_name(routers, arc.from);
+    let from_face = face_name(faces_of(routers, arc.from), arc.from_iface);
+    let to = router_name(routers, arc.to);
+    let to_face = face_name(faces_of(routers, arc.to), arc.to_iface);
+    put_line(
         out,
-        moment,
-        router_name(routers, arc.from),
-        from,
-        router_name(routers, arc.to),
-        to,
+        &[
+            (b"lost ", Number(moment)),
+            (b" ", Text(from)),
+            (b".", Text(from_face)),
+            (b" ", Text(to)),
+            (b".", Text(to_face)),
+        ],
     )
 }
 
@@ -280,27 +225,6 @@ fn put_lost_lines(
     Ok(())
 }
 
-// Puts that a router with these settings sent a frame.
-fn put_sending(
-    out: &mut Bytes,
-    moment: u64,
-    router: &RouterSettings,
-    sent: &Emission,
-) -> Result<(), AllocError>
-    ensures ok { OnOk result (out.new ≡ out.old
-        ++ sent_line moment router.now.name (face_name router.now.interfaces sent.now.iface) sent.now.frame) }
-    ensures kept { Grows out.old out.new }
-{
-    let face = face_name(router.interfaces.as_slice(), sent.iface);
-    put_sent_line(
-        out,
-        moment,
-        router.name.as_slice(),
-        face,
-        sent.frame.as_slice(),
-    )
-}
-
 // Puts a frame that was sent, and on which arcs it was lost.
 #[tactic(auto, unfolding(crate::specs::Trace::sent_lines))]
 fn put_sent_lines(
@@ -313,7 +237,14 @@ fn put_sent_lines(
     ensures ok { OnOk result (out.new ≡ out.old ++ sent_lines scenario.now moment router.now sent.now) }
     ensures kept { Grows out.old out.new }
 {
-    put_sending(out, moment, router, sent)?;
+    let face = face_name(router.interfaces.as_slice(), sent.iface);
+    put_sent_line(
+        out,
+        moment,
+        router.name.as_slice(),
+        face,
+        sent.frame.as_slice(),
+    )?;
     put_lost_lines(out, scenario, moment, sent.lost.as_slice())
 }
 
@@ -334,20 +265,6 @@ fn put_all_sent(
     Ok(())
 }
 
-// Puts what a router sent at an event.
-fn put_sent_at(
-    out: &mut Bytes,
-    scenario: &Scenario,
-    event: &NetEvent,
-    router: &RouterSettings,
-) -> Result<(), AllocError>
-    ensures ok { OnOk result (out.new ≡ out.old
-        ++ flat_map (sent_lines scenario.now event.now.moment router.now) event.now.sent) }
-    ensures kept { Grows out.old out.new }
-{
-    put_all_sent(out, scenario, event.moment, router, event.sent.as_slice())
-}
-
 // Puts what happened to a router, its relays, and what it sent.
 #[tactic(auto, unfolding(crate::specs::Trace::event_text))]
 fn put_happening<R: RouterView>(
@@ -362,7 +279,7 @@ fn put_happening<R: RouterView>(
     let settings = router.settings();
     put_event_line(out, event, settings)?;
     put_relays_lines(out, router)?;
-    put_sent_at(out, scenario, event, settings)
+    put_all_sent(out, scenario, event.moment, settings, event.sent.as_slice())
 }
 
 /// Puts the lines of an event of an emulated network, after which its router is so: what happened to it, the relays that it then

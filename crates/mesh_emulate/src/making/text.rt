@@ -10,7 +10,8 @@ use crate::making::routes::{greatest_of, route_count};
 use mesh_atoms::{Bytes, Scenario};
 use mesh_radio::{Counts, RouterView};
 use mesh_settled::Gap;
-use mesh_texts::{Piece, put_counts_line, put_line, put_settled};
+use mesh_texts::Piece::{Number, Text};
+use mesh_texts::{put_counts_line, put_line, put_settled};
 use std::alloc::AllocError;
 
 fn kind_text(kind: Kind) -> &'static [u8]
@@ -33,14 +34,10 @@ fn put_made_line(out: &mut Bytes, kind: Kind, scenario: &Scenario) -> Result<(),
     put_line(
         out,
         &[
-            Piece::Text(b"made "),
-            Piece::Text(kind_text(kind)),
-            Piece::Text(b" routers "),
-            Piece::Number(routers as u64),
-            Piece::Text(b" arcs "),
-            Piece::Number(arcs as u64),
-            Piece::Text(b" seed "),
-            Piece::Number(scenario.seed),
+            (b"made ", Text(kind_text(kind))),
+            (b" routers ", Number(routers as u64)),
+            (b" arcs ", Number(arcs as u64)),
+            (b" seed ", Number(scenario.seed)),
         ],
     )
 }
@@ -51,17 +48,12 @@ fn put_routes_line(out: &mut Bytes, count: u64, greatest: Option<u64>) -> Result
     ensures { OnOk result (out.new ≡ out.old ++ routes_line count greatest) }
 {
     let greatest = match greatest {
-        Some(metric) => Piece::Number(metric),
-        None => Piece::Text(b"none"),
+        Some(metric) => Number(metric),
+        None => Text(b"none"),
     };
     put_line(
         out,
-        &[
-            Piece::Text(b"routes "),
-            Piece::Number(count),
-            Piece::Text(b" greatest "),
-            greatest,
-        ],
+        &[(b"routes ", Number(count)), (b" greatest ", greatest)],
     )
 }
 

@@ -1,13 +1,13 @@
 //! The lines of a router's section, put behind other octets.
-ghost use Rattle.std.specs.Prelude.{◌≡◌, ◌++◌, ◌∷◌, codes, length, map, decimal, slice_index_or, OnOk, [], Some};
-ghost use Rattle.std.specs.List.{flat_map, enumerate_from, sum};
+ghost use Rattle.std.specs.Prelude.{◌≡◌, ◌++◌, slice_index_or, OnOk, [], Some};
 ghost use Rattle.mesh_atoms.specs.State.{state_of};
 ghost use Rattle.mesh_settled.specs.machine.tlv.Least.{Grows};
-ghost use Rattle.mesh_texts.specs.Lines.Marks.{line_of, dotted, metric_text, choice_text, status_text, nearness_text, relays_text, face_name};
+ghost use Rattle.mesh_texts.specs.Lines.Marks.{status_text, nearness_text, face_name};
 ghost use Rattle.mesh_texts.specs.Lines.Lines.{router_line, link_line, neighbour_line, flooding_line, routing_line, row_line, route_line};
 
 use crate::lines::names::face_name;
-use crate::lines::pieces::{Piece, put_line};
+use crate::lines::pieces::Piece::{Address, Choice, Cost, Network, Node, Number, Relays, Text};
+use crate::lines::pieces::put_line;
 use mesh_atoms::{Addr4, Bytes, Interface, Link, LinkKey, LinkState, Neighbour, Route, Seq};
 use std::alloc::AllocError;
 
@@ -19,12 +19,7 @@ pub fn put_router_line(out: &mut Bytes, name: &[u8], originator: Addr4) -> Resul
 {
     put_line(
         out,
-        &[
-            Piece::Text(b"router "),
-            Piece::Text(name),
-            Piece::Text(b" "),
-            Piece::Address(originator),
-        ],
+        &[(b"router ", Text(name)), (b" ", Address(originator))],
     )
 }
 
@@ -57,18 +52,12 @@ pub fn put_link_line(
     put_line(
         out,
         &[
-            Piece::Text(b" link "),
-            Piece::Text(face),
-            Piece::Text(b" "),
-            Piece::Address(key.addr),
-            Piece::Text(b" "),
-            Piece::Text(status),
-            Piece::Text(b" in "),
-            Piece::Cost(Some(link.link_in)),
-            Piece::Text(b" out "),
-            Piece::Cost(link.link_out),
-            Piece::Text(b" selector "),
-            Piece::Choice(link.selector),
+            (b" link ", Text(face)),
+            (b" ", Address(key.addr)),
+            (b" ", Text(status)),
+            (b" in ", Cost(Some(link.link_in))),
+            (b" out ", Cost(link.link_out)),
+            (b" selector ", Choice(link.selector)),
         ],
     )
 }
@@ -95,20 +84,13 @@ pub fn put_neighbour_line(
     put_line(
         out,
         &[
-            Piece::Text(b" neighbour "),
-            Piece::Address(originator),
-            Piece::Text(b" "),
-            Piece::Text(nearness),
-            Piece::Text(b" in "),
-            Piece::Cost(neighbour.metric_in),
-            Piece::Text(b" out "),
-            Piece::Cost(neighbour.metric_out),
-            Piece::Text(b" flooding "),
-            Piece::Number(u64::from(neighbour.willing.flooding)),
-            Piece::Text(b" routing "),
-            Piece::Number(u64::from(neighbour.willing.routing)),
-            Piece::Text(b" selector "),
-            Piece::Choice(neighbour.selector),
+            (b" neighbour ", Address(originator)),
+            (b" ", Text(nearness)),
+            (b" in ", Cost(neighbour.metric_in)),
+            (b" out ", Cost(neighbour.metric_out)),
+            (b" flooding ", Number(u64::from(neighbour.willing.flooding))),
+            (b" routing ", Number(u64::from(neighbour.willing.routing))),
+            (b" selector ", Choice(neighbour.selector)),
         ],
     )
 }
@@ -136,14 +118,7 @@ pub fn put_flooding_line<'a>(
 {
     let name = face.name.as_slice();
     let relays = relays_of(relays, iface);
-    put_line(
-        out,
-        &[
-            Piece::Text(b" flooding "),
-            Piece::Text(name),
-            Piece::Relays(relays),
-        ],
-    )
+    put_line(out, &[(b" flooding ", Text(name)), (b"", Relays(relays))])
 }
 
 /// Puts the routing relays.
@@ -152,7 +127,7 @@ pub fn put_routing_line(out: &mut Bytes, relays: &[Addr4]) -> Result<(), AllocEr
     ensures ok { OnOk result (out.new ≡ out.old ++ routing_line relays.now) }
     ensures kept { Grows out.old out.new }
 {
-    put_line(out, &[Piece::Text(b" routing"), Piece::Relays(relays)])
+    put_line(out, &[(b" routing", Relays(relays))])
 }
 
 /// Puts a route of a router that has these interfaces.
@@ -165,16 +140,11 @@ pub fn put_route_line(out: &mut Bytes, row: Route, faces: &[Interface]) -> Resul
     put_line(
         out,
         &[
-            Piece::Text(b" route "),
-            Piece::Network(row.dest),
-            Piece::Text(b" metric "),
-            Piece::Number(row.metric),
-            Piece::Text(b" next "),
-            Piece::Address(row.next),
-            Piece::Text(b" on "),
-            Piece::Text(face),
-            Piece::Text(b" parent "),
-            Piece::Node(row.parent),
+            (b" route ", Network(row.dest)),
+            (b" metric ", Number(row.metric)),
+            (b" next ", Address(row.next)),
+            (b" on ", Text(face)),
+            (b" parent ", Node(row.parent)),
         ],
     )
 }

@@ -1,10 +1,10 @@
 //! The pieces that lines are put together from, put behind other octets.
-ghost use Rattle.std.specs.Prelude.{◌≡◌, ◌++◌, ◌≤◌, length, map, take, decimal, codes, OnOk};
+ghost use Rattle.std.specs.Prelude.{◌≡◌, ◌++◌, ◌≤◌, length, map, decimal, codes, OnOk};
 ghost use Rattle.std.specs.List.{flat_map};
 ghost use Rattle.hex.specs.Hex.{encode_lower};
 ghost use Rattle.mesh_settled.specs.machine.tlv.Least.{Grows};
 ghost use Rattle.mesh_texts.specs.Lines.Marks.{line_of, dotted, slashed, node_text, metric_text, choice_text, relays_text};
-ghost use Rattle.mesh_texts.specs.Lines.Pieces.{piece_text};
+ghost use Rattle.mesh_texts.specs.Lines.Pieces.{piece_text, labelled_text};
 
 use mesh_atoms::{Addr4, Bytes, Metric, NetAddr, put_decimal};
 use std::alloc::AllocError;
@@ -213,11 +213,22 @@ pub fn put_all(out: &mut Bytes, pieces: &[Piece]) -> Result<(), AllocError>
     Ok(())
 }
 
-/// Puts a line of these pieces. An allocation failure leaves a part of it behind what was there.
-pub fn put_line(out: &mut Bytes, pieces: &[Piece]) -> Result<(), AllocError>
-    ensures ok { OnOk result (out.new ≡ out.old ++ line_of (map piece_text pieces.now)) }
+/// Puts a piece behind its label. An allocation failure leaves a part of them behind what was there.
+pub fn put_labelled(out: &mut Bytes, label: &[u8], piece: Piece) -> Result<(), AllocError>
+    ensures ok { OnOk result (out.new ≡ out.old ++ (label.now ++ piece_text piece.entry)) }
     ensures kept { Grows out.old out.new }
 {
-    put_all(out, pieces)?;
+    put(out, label)?;
+    put_piece(out, piece)
+}
+
+/// Puts a line of these pieces, each behind its label. An allocation failure leaves a part of it behind what was there.
+pub fn put_line(out: &mut Bytes, pieces: &[(&[u8], Piece)]) -> Result<(), AllocError>
+    ensures ok { OnOk result (out.new ≡ out.old ++ line_of (map labelled_text pieces.now)) }
+    ensures kept { Grows out.old out.new }
+{
+    for piece in pieces {
+        put_labelled(out, piece.0, piece.1)?;
+    }
     put(out, b"\n")
 }
