@@ -3,6 +3,7 @@ use Rattle.std.proofs.Common.{◌≡◌, ℕ, ◌+◌, ◌/◌, ◌%◌, ◌≤�
 use Rattle.std.specs.Prelude.{slice_range, drop, Contains, AllPairs, Option, Some, None, IsSome, Bool, true, false}
 use Rattle.std.specs.Option.{option_map, is_some}
 use Rattle.std.proofs.lemmas.List.{length-map}
+use Rattle.std.proofs.lemmas.List.Elements.{Contains-append_cases}
 use Rattle.mesh_atoms.specs.declared.addr.Addr4.{Addr4}
 use Rattle.mesh_atoms.specs.declared.addr.NetAddr.{NetAddr}
 use Rattle.mesh_atoms.specs.declared.hello.LocalIf.{LocalIf}
@@ -20,7 +21,7 @@ use Rattle.mesh_tlv.specs.Fields.{TlvFields}
 use Rattle.mesh_wire.specs.declared.lines.AddressTlvKind.{AddressTlvKind}
 use Rattle.mesh_wire.specs.declared.lines.AddressTlvKind.TheVariants.{Octet, LinkIn, LinkOut, NearIn, NearOut}
 use Rattle.mesh_wire.specs.declared.octets.OctetKind.{OctetKind}
-use Rattle.mesh_wire.specs.declared.octets.OctetKind.TheVariants.{Local, Link, Other, Mpr}
+use Rattle.mesh_wire.specs.declared.octets.OctetKind.TheVariants.{Local, Mpr}
 use Rattle.mesh_wire.specs.Drafts.{octet_of, whole, HasHelloValues, heading_of, IsHelloMessage, FitsAlone}
 use Rattle.mesh_wire.specs.Hello.{local_value, row_octet, OriginatorIs, TellsOther, IsReadHelloRow, HelloIs}
 use Rattle.mesh_wire.specs.HelloRows.{sender_row}
@@ -40,8 +41,9 @@ use Rattle.mesh_wire.proofs.LinesSay.{octet_value, metric_octets, has_flag, metr
 use Rattle.mesh_wire.proofs.OctetKinds.{at_by_kind}
 use Rattle.mesh_wire.proofs.OneHello.{one_hello}
 use Rattle.mesh_wire.proofs.RowLines.{alone_again}
-use Rattle.mesh_wire.proofs.Statuses.{defined, alone_row}
+use Rattle.mesh_wire.proofs.Statuses.{apart, row_kind, defined, alone_row}
 use Rattle.mesh_wire.proofs.RowsSay.{rows_said, part_there, said_of, row_of, not_two, right_metric, octet_said, flags_said, metric_said}
+use Rattle.mesh_atoms.proofs.Lists.{contains_one}
 use Rattle.mesh_atoms.proofs.Options.{none_not, some_equal}
 
 -- ---- fewest parts
@@ -72,7 +74,7 @@ metric_flagged k None octets e = cc
 metric_flagged k (Some x) octets e = (flag_of k + x.code / 256, x.code % 256, cc, has_flag k x)
 
 metric_read : (row : HelloRow) (k : MetricKind) (kind : ℕ) (octets : List ℕ) → kind ≡ link_metric → value_of (column_of k) (hello_line row) ≡ Some octets → IsReadOfOther kind octets
-metric_read row k kind octets e v = inr (inr (inr (e, (k, metric_flagged k (metric_of k row.metrics) octets (sym (metric_value k (hello_line row)) ∙ v)))))
+metric_read row k kind octets e v = inr (inr (e, (k, metric_flagged k (metric_of k row.metrics) octets (sym (metric_value k (hello_line row)) ∙ v))))
 
 -- a value of a line is of a type of a HELLO
 octet_line : (row : HelloRow) (k : OctetKind) (octets : List ℕ) → value_of (Octet k) (hello_line row) ≡ Some octets → (n : ℕ) × (octets ≡ n ∷ []) × (row_octet row k ≡ Some n)
@@ -82,24 +84,30 @@ octet_line row k octets v = by (row_octet row k) (ap (option_map (λ (n : ℕ). 
     by None e is = cc
     by (Some n) e is = (n, sym (some_equal (n ∷ []) octets e), is)
 
-other_read : (row : HelloRow) (kind : ℕ) (octets : List ℕ) (c : AddressTlvKind) → kind ≡ kind_of c → value_of c (hello_line row) ≡ Some octets → row.local ≡ None → IsReadOfOther kind octets
-other_read row kind octets (Octet Local) e v none =
-    absurd (none_not {o = value_of (Octet Local) (hello_line row)} (octet_value (option_map local_value row.local) ∙ ap (λ (o : Option LocalIf). option_map (λ (n : ℕ). n ∷ []) (option_map local_value o)) none) v)
-other_read row kind octets (Octet Link) e v none = inl e
-other_read row kind octets (Octet Other) e v none = inr (inl e)
-other_read row kind octets (Octet Mpr) e v none = inr (inr (inl (e, flags_octet row.mpr.flooding row.mpr.routing octets (sym (octet_value (flags_number row.mpr.flooding row.mpr.routing)) ∙ v))))
-other_read row kind octets (Octet k) e v none = cc
-other_read row kind octets LinkIn e v none = metric_read row Link_in kind octets e v
-other_read row kind octets LinkOut e v none = metric_read row Link_out kind octets e v
-other_read row kind octets NearIn e v none = metric_read row Near_in kind octets e v
-other_read row kind octets NearOut e v none = metric_read row Near_out kind octets e v
+octet_read : (row : HelloRow) (kind : ℕ) (octets : List ℕ) (k : OctetKind) → kind ≡ type_of k → value_of (Octet k) (hello_line row) ≡ Some octets → IsReadOfOther kind octets
+octet_read row kind octets k e v =
+    let (n, is, there) = octet_line row k octets v in
+    elim (Contains-append_cases statuses (Mpr ∷ []) k (row_kind row k n there)) [
+      | inl among ↦ inl (k, among, e)
+      | inr last ↦ (
+          let same : Mpr ≡ k = contains_one Mpr k last in
+          let said = octet_value (flags_number row.mpr.flooding row.mpr.routing) in
+          inr (inl (e ∙ ap type_of (sym same), flags_octet row.mpr.flooding row.mpr.routing octets (sym said ∙ subst (λ (j : OctetKind). value_of (Octet j) (hello_line row) ≡ Some octets) (sym same) v)))
+          )
+    ]
+
+other_read : (row : HelloRow) (kind : ℕ) (octets : List ℕ) (c : AddressTlvKind) → kind ≡ kind_of c → value_of c (hello_line row) ≡ Some octets → IsReadOfOther kind octets
+other_read row kind octets (Octet k) e v = octet_read row kind octets k e v
+other_read row kind octets LinkIn e v = metric_read row Link_in kind octets e v
+other_read row kind octets LinkOut e v = metric_read row Link_out kind octets e v
+other_read row kind octets NearIn e v = metric_read row Near_in kind octets e v
+other_read row kind octets NearOut e v = metric_read row Near_out kind octets e v
 
 -- a type that is read is one of an octet, or that of metrics
 pub read_kind : (kind : ℕ) (octets : List ℕ) → IsReadOfOther kind octets → ((k : OctetKind) × (kind ≡ type_of k) × (kind ≡ mpr → IsOctetOf Mpr octets)) ⊎ ((kind ≡ link_metric) × ((metric : MetricKind) × HasFlag metric octets))
-read_kind kind octets (inl e) = inl (Link, e, λ f. absurd (omega (arith, e, f)))
-read_kind kind octets (inr (inl e)) = inl (Other, e, λ f. absurd (omega (arith, e, f)))
-read_kind kind octets (inr (inr (inl (e, is)))) = inl (Mpr, e, λ f. is)
-read_kind kind octets (inr (inr (inr h))) = inr h
+read_kind kind octets (inl (k, among, e)) = inl (k, e, λ f. absurd ((apart kind (k, among, e)).0 f))
+read_kind kind octets (inr (inl (e, is))) = inl (Mpr, e, λ f. is)
+read_kind kind octets (inr (inr h)) = inr h
 
 sender_read : (addr : NetAddr) (local : Option LocalIf) (kind : ℕ) (octets : List ℕ) (c : AddressTlvKind) → kind ≡ kind_of c → value_of c (hello_line (sender_row addr local)) ≡ Some octets → kind ≡ local_if
 sender_read addr local kind octets (Octet Local) e v = e
@@ -192,7 +200,7 @@ module _ (hello : Hello) (values : List ℕ) (m : MessageFields) (h : IsHelloMes
       let (row, c, there, here, k, ext, value) = part_there hello_line hello.rows m h.blocks up net part p in
       record {
         kind = elim (local_or_not row.local) [
-          | inl e ↦ inr (subst (λ (n : NetAddr). HasType m n local_if → ⊥) here (no_local row there e), other_read row part.kind (octets_of part.value) c k value e)
+          | inl e ↦ inr (subst (λ (n : NetAddr). HasType m n local_if → ⊥) here (no_local row there e), other_read row part.kind (octets_of part.value) c k value)
           | inr some ↦ inl (only_local row part.kind (octets_of part.value) c k value (sender row there some))
         ];
         ext = ext;

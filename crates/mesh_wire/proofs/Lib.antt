@@ -11,6 +11,7 @@ pub mod OneHello  -- replay, report
 pub mod OneTc  -- replay, report
 pub mod RowLines  -- replay
 pub mod Single  -- report
+pub mod Statuses  -- trace
 pub mod Standing  -- machine, probe, replay, trace
 -- Lemmas of this crate alone.
 mod Addresses
@@ -46,7 +47,6 @@ mod Ruled
 mod RunLaws
 mod Slots
 mod Spellings
-mod Statuses
 mod TcHeading
 mod TcRead
 mod TcRows

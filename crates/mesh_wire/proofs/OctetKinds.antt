@@ -1,10 +1,13 @@
 -- Laws of the types of address TLV whose values are one octet, by their list.
-use Rattle.std.proofs.Common.{◌≡◌, ℕ, ◌+◌, ap, ◌∙◌, refl, arith, List, [], ◌∷◌}
+use Rattle.std.proofs.Common.{◌≡◌, ℕ, ◌+◌, ap, ◌∙◌, refl, arith, List, [], ◌∷◌, Decides}
 use Rattle.std.specs.Prelude.{Contains, Some, slice_get, ◌==◌, if◌then◌else◌}
 use Rattle.mesh_wire.specs.declared.octets.OctetKind.{OctetKind}
 use Rattle.mesh_wire.specs.declared.octets.OctetKind.TheVariants.{Local}
 use Rattle.mesh_wire.specs.Kinds.{link_metric}
-use Rattle.mesh_wire.specs.OctetKinds.{kinds, type_of, at, by_kind}
+use Rattle.mesh_wire.specs.OctetKinds.{kinds, statuses, type_of, IsStatusType, at, by_kind}
+use Rattle.std.specs.List.{list_any}
+use Rattle.std.proofs.lemmas.Bool.Decides.{Decides-eqb}
+use Rattle.mesh_atoms.proofs.Deciding.{Decides-some}
 use Rattle.mesh_atoms.proofs.Lists.{contains_at}
 use Rattle.mesh_atoms.proofs.Options.{same_some}
 
@@ -32,3 +35,7 @@ not_metric k e = absurd (omega arith)
 pub at_by_kind : {T : Type 0} (f : OctetKind → T) (k : OctetKind) → at k (by_kind f) ≡ f k
 at_by_kind f Local = refl
 at_by_kind f k = refl
+
+-- a status is found by its number
+pub status_found : (type : ℕ) → Decides (list_any (λ (kind : OctetKind). type == type_of kind) statuses) (IsStatusType type)
+status_found type = Decides-some (λ (kind : OctetKind). type == type_of kind) (λ kind. type ≡ type_of kind) (λ kind. Decides-eqb type (type_of kind)) statuses

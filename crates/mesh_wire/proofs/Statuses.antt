@@ -22,8 +22,10 @@ use Rattle.mesh_wire.specs.declared.octets.OctetKind.{OctetKind}
 use Rattle.mesh_wire.specs.declared.octets.OctetKind.TheVariants as kinds
 use Rattle.mesh_wire.specs.Hello.{local_value, link_value, other_value, row_octet}
 use Rattle.mesh_wire.specs.HelloRows.{local_from, link_from, other_from, sender_row, row_with}
-use Rattle.mesh_wire.specs.OctetKinds.{statuses, is_within, is_value, at}
+use Rattle.mesh_wire.specs.OctetKinds.{statuses, hello_kinds, type_of, IsStatusType, is_within, is_value, at}
+use Rattle.mesh_wire.specs.Kinds.{mpr, link_metric}
 use Rattle.mesh_wire.specs.Singles.{value_from}
+use Rattle.mesh_wire.proofs.OctetKinds.{place_of}
 use Rattle.mesh_wire.proofs.Single.{told_by}
 
 -- a fact of each status
@@ -32,6 +34,19 @@ each P local link other kind among = All-contains P statuses kind (All-from_recu
 
 pub local_among : Contains statuses kinds.Local
 local_among = contains_at statuses 0 kinds.Local refl
+
+-- a row has octets of the types of a HELLO alone
+pub row_kind : (row : HelloRow) (kind : OctetKind) (n : ℕ) → row_octet row kind ≡ Some n → Contains hello_kinds kind
+unfolding place_of
+row_kind row kinds.AddrType n e = cc
+row_kind row kinds.Gateway n e = cc
+row_kind row kind n e = contains_at hello_kinds (place_of (type_of kind) hello_kinds) kind refl
+
+-- they are of other types than relays and metrics
+pub apart : (type : ℕ) → IsStatusType type → (type ≡ mpr → ⊥) × (type ≡ link_metric → ⊥)
+apart type (kind, among, is) =
+    each (λ kind. type ≡ type_of kind → (type ≡ mpr → ⊥) × (type ≡ link_metric → ⊥)) (λ e. ((λ f. omega (arith, e, f)), (λ f. omega (arith, e, f)))) (λ e. ((λ f. omega (arith, e, f)), (λ f. omega (arith, e, f))))
+    (λ e. ((λ f. omega (arith, e, f)), (λ f. omega (arith, e, f)))) kind among is
 
 -- ---- rows that are made of what is kept
 

@@ -1,6 +1,6 @@
 -- Types of TLVs by their numbers (RFC 5497, section 7; RFC 6130, section 10; RFC 7181, section 13.3).
 use Rattle.std.specs.Prelude.{ℕ}
-use Rattle.mesh_atoms.specs.declared.tlv_type.TheConstants.{INTERVAL_TIME, VALIDITY_TIME, MPR_WILLING, CONT_SEQ_NUM, LOCAL_IF, LINK_STATUS, OTHER_NEIGHB, LINK_METRIC, MPR, NBR_ADDR_TYPE, GATEWAY}
+use Rattle.mesh_atoms.specs.declared.tlv_type.TheConstants.{INTERVAL_TIME, VALIDITY_TIME, MPR_WILLING, CONT_SEQ_NUM, LOCAL_IF, LINK_STATUS, LINK_METRIC, MPR, NBR_ADDR_TYPE, GATEWAY}
 
 -- ---- types of message TLVs
 
@@ -29,10 +29,6 @@ local_if = LOCAL_IF
 -- the state of the link with an address
 abbrev pub link_status : ℕ
 link_status = LINK_STATUS
-
--- the state of the neighbour with an address
-abbrev pub other_neighb : ℕ
-other_neighb = OTHER_NEIGHB
 
 -- metrics of an address
 abbrev pub link_metric : ℕ

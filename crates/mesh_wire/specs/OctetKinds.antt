@@ -1,5 +1,5 @@
 -- The types of address TLV whose values are one octet (RFC 6130, section 10; RFC 7181, section 13.3).
-use Rattle.std.specs.Prelude.{◌≡◌, ℕ, List, [], ◌∷◌, ◌++◌, Option, Some, None, Bool, true, false, IsTrue, ◌&&◌, nat_le, nat_lt}
+use Rattle.std.specs.Prelude.{◌≡◌, ℕ, List, [], ◌∷◌, ◌++◌, Contains, Option, Some, None, Bool, true, false, IsTrue, ◌&&◌, nat_le, nat_lt}
 use Rattle.mesh_atoms.specs.declared.tlv_type.TheConstants.{LOCAL_IF, LINK_STATUS, OTHER_NEIGHB, MPR, NBR_ADDR_TYPE, GATEWAY}
 use Rattle.mesh_wire.specs.declared.octets.OctetKind.{OctetKind}
 use Rattle.mesh_wire.specs.declared.octets.OctetKind.TheVariants.{Local, Link, Other, Mpr, AddrType, Gateway}
@@ -29,6 +29,10 @@ type_of Other = OTHER_NEIGHB
 type_of Mpr = MPR
 type_of AddrType = NBR_ADDR_TYPE
 type_of Gateway = GATEWAY
+
+-- a LOCAL_IF, LINK_STATUS or OTHER_NEIGHB by its number
+abbrev pub IsStatusType : ℕ → Type 0
+IsStatusType type = (kind : OctetKind) × Contains statuses kind × (type ≡ type_of kind)
 
 -- whether an octet is in a range
 abbrev pub is_within : ℕ → ℕ → ℕ → Bool

@@ -14,10 +14,10 @@ use Rattle.mesh_tlv.specs.Fields.{TlvFields}
 use Rattle.mesh_tlv.specs.Items.{SpellsItems}
 use Rattle.mesh_wire.specs.Hello.{HelloIs}
 use Rattle.mesh_wire.specs.HelloRules.{BreaksHello}
-use Rattle.mesh_wire.specs.Kinds.{interval_time, validity_time, mpr_willing, cont_seq_num, local_if, link_status, other_neighb, link_metric, mpr, nbr_addr_type, gateway}
+use Rattle.mesh_wire.specs.Kinds.{interval_time, validity_time, mpr_willing, cont_seq_num, local_if, link_metric, mpr, nbr_addr_type, gateway}
 use Rattle.mesh_wire.specs.Metrics.{MetricKind, Near_out, flag_of}
 use Rattle.mesh_wire.specs.declared.octets.OctetKind.TheVariants.{Mpr}
-use Rattle.mesh_wire.specs.OctetKinds.{IsOctetOf}
+use Rattle.mesh_wire.specs.OctetKinds.{IsStatusType, IsOctetOf}
 use Rattle.mesh_wire.specs.Parts.{octets_of, values_of}
 use Rattle.mesh_wire.specs.Rows.{HasType, HasPart}
 use Rattle.mesh_wire.specs.Rules.{Keeps}
@@ -60,8 +60,7 @@ HasFlag kind octets = (high : ℕ) × (low : ℕ) × (octets ≡ high ∷ low �
 -- a reading of a HELLO looks at what is said of an address that isn't the sender's
 abbrev pub IsReadOfOther : ℕ → List ℕ → Type 0
 IsReadOfOther kind octets =
-    (kind ≡ link_status)
-    ⊎ ((kind ≡ other_neighb) ⊎ (((kind ≡ mpr) × IsOctetOf Mpr octets) ⊎ ((kind ≡ link_metric) × ((metric : MetricKind) × HasFlag metric octets))))
+    IsStatusType kind ⊎ (((kind ≡ mpr) × IsOctetOf Mpr octets) ⊎ ((kind ≡ link_metric) × ((metric : MetricKind) × HasFlag metric octets)))
 
 -- a reading of a HELLO looks at what an address TLV says of an address; of an address of the sender's only at LOCAL_IF
 pub record IsReadOfHelloAddress (message : MessageFields) (net : NetAddr) (part : TlvFields) : Type 0 where

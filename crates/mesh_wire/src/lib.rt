@@ -27,6 +27,7 @@ pub use laws::{
     each_is_read_or_refused, one_reading, worked_readings, worked_spellings,
     written_for_each_distance,
 };
+pub use octets::is_status_type;
 pub use summary::{HelloSummary, TcSummary, hello_summary, tc_summary};
 pub use tc::tc_of;
 pub use times::only_value;

@@ -1,7 +1,8 @@
 //! The types of address TLV whose values are one octet (RFC 6130, section 10, and RFC 7181, section 13.3).
-ghost use Rattle.std.specs.Prelude.{◌≡◌, ◌==◌};
+ghost use Rattle.std.specs.Prelude.{◌≡◌, ◌↔◌, ◌==◌, IsTrue};
+ghost use Rattle.std.specs.List.{list_any};
 ghost use Rattle.mesh_wire.specs.KeptParts.{is_flag_set, no_octets, octet_in, octets_also, octets_if, take_octets};
-ghost use Rattle.mesh_wire.specs.OctetKinds.{type_of, is_within, is_value, at};
+ghost use Rattle.mesh_wire.specs.OctetKinds.{type_of, IsStatusType, is_within, is_value, at};
 ghost use Rattle.mesh_wire.specs.RowRules.{is_undefined, has_two, has_status};
 
 use crate::singles::{Single, set_if};
@@ -17,6 +18,9 @@ pub(crate) enum OctetKind {
     AddrType,
     Gateway,
 }
+
+/// LOCAL_IF, LINK_STATUS and OTHER_NEIGHB: a HELLO has one defined value of each on an address, which is a whole one.
+const STATUSES: [OctetKind; 3] = [OctetKind::Local, OctetKind::Link, OctetKind::Other];
 
 /// One thing for each of these types.
 #[derive(Clone, Copy)]
@@ -90,6 +94,23 @@ impl OctetKind {
             _ => None,
         }
     }
+}
+
+// Whether one of the types has the number.
+fn has_type(kinds: &[OctetKind], tlv_type: u8) -> bool
+    ensures { result ≡ list_any (λ kind. tlv_type == type_of kind) kinds.now }
+{
+    match kinds {
+        [] => false,
+        [kind, rest @ ..] => tlv_type == kind.tlv_type() || has_type(rest, tlv_type),
+    }
+}
+
+/// Whether the type of an address TLV is LOCAL_IF, LINK_STATUS or OTHER_NEIGHB.
+pub fn is_status_type(tlv_type: u8) -> bool
+    ensures { IsTrue result ↔ IsStatusType tlv_type }
+{
+    has_type(&STATUSES, tlv_type)
 }
 
 impl<T: Copy> ByKind<T> {

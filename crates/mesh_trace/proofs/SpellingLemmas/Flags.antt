@@ -6,6 +6,7 @@ use Rattle.mesh_atoms.specs.Reading.{has}
 use Rattle.mesh_tlv.specs.Least.{flag}
 use Rattle.mesh_packet.proofs.FlagSums.{tells_128, tells_64, tells_32, tells_16}
 use Rattle.mesh_wire.specs.Writes.{IsReadOfOther}
+use Rattle.mesh_wire.proofs.Statuses.{apart}
 use Rattle.mesh_wire.specs.Metrics.{MetricKind, Link_in, Link_out, Near_in, Near_out, flag_of}
 
 -- a number below twice another has that one as its upper bit
@@ -75,11 +76,10 @@ metric_read kind octets seven two octet = (
   λ most.
       let (low, is) = two_items octets two in
       let (metric, set) = some_flag (slice_index_or octets 0 0) octet most in
-      inr (inr (inr (seven, (metric, (slice_index_or octets 0 0, low, is, set))))),
+      inr (inr (seven, (metric, (slice_index_or octets 0 0, low, is, set)))),
   λ read. elim read [
-    | inl e ↦ absurd (omega (arith, seven, e))
-    | inr (inl e) ↦ absurd (omega (arith, seven, e))
-    | inr (inr (inl h)) ↦ absurd (omega (arith, seven, h.0))
-    | inr (inr (inr (same, (metric, (high, low, is, set))))) ↦ (let first : slice_index_or octets 0 0 ≡ high = ap (λ (l : List ℕ). slice_index_or l 0 0) is in let most = flag_most high metric set in omega (arith, first, most))
+    | inl status ↦ absurd ((apart kind status).1 seven)
+    | inr (inl h) ↦ absurd (omega (arith, seven, h.0))
+    | inr (inr (same, (metric, (high, low, is, set)))) ↦ (let first : slice_index_or octets 0 0 ≡ high = ap (λ (l : List ℕ). slice_index_or l 0 0) is in let most = flag_most high metric set in omega (arith, first, most))
   ],
 )

@@ -16,14 +16,11 @@ ghost use Rattle.mesh_trace.specs.Spelling.Looks.{IsLocal, LooksHello, HasHelloH
 use crate::spelling::brief::is_brief;
 use crate::spelling::parts::{Looks, are_tlvs_read, is_all_read};
 use crate::spelling::sole::sole_message;
-use mesh_atoms::tlv_type::{
-    INTERVAL_TIME, LINK_METRIC, LINK_STATUS, LOCAL_IF, MPR, MPR_WILLING, OTHER_NEIGHB,
-    VALIDITY_TIME,
-};
+use mesh_atoms::tlv_type::{INTERVAL_TIME, LINK_METRIC, LOCAL_IF, MPR, MPR_WILLING, VALIDITY_TIME};
 use mesh_atoms::{DecodeFault, Hello, HelloRow, NetAddr};
 use mesh_packet::{Decoded, Message, Span, decode};
 use mesh_tlv::Tlv;
-use mesh_wire::{WireFault, hello_of};
+use mesh_wire::{WireFault, hello_of, is_status_type};
 use std::alloc::{AllocError, Global};
 
 // Whether two lists of rows are the same.
@@ -70,8 +67,6 @@ fn is_read_of_other(kind: u8, octets: &[u8]) -> bool
     ensures { IsTrue result ↔ IsReadOfOther kind octets.now }
 {
     match kind {
-        LINK_STATUS => true,
-        OTHER_NEIGHB => true,
         MPR => match octets {
             [flags] => 1 <= *flags && *flags < 4,
             _ => false,
@@ -80,7 +75,7 @@ fn is_read_of_other(kind: u8, octets: &[u8]) -> bool
             [high, _] => 16 <= *high,
             _ => false,
         },
-        _ => false,
+        _ => is_status_type(kind),
     }
 }
 

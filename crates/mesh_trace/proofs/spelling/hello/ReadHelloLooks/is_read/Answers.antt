@@ -14,6 +14,9 @@ if_never : (b : Bool) → (IsTrue b → ⊥) → IsTrue (not b)
 if_never true none = absurd (none refl)
 if_never false none = refl
 
+pub is_local-requires : goal.is_local-requires
+is_local-requires c = rw c.as_slice.ensures c.args.self.now.hello.ascending
+
 pub returns-then-is_read_of_other : goal.returns-then-is_read_of_other
 returns-then-is_read_of_other c =
     let ext : c.args.ext ≡ 0 = search rules in
