@@ -1,10 +1,9 @@
 -- What a router sends can be written.
-use Rattle.mesh_atoms.specs.Writable.{IsSentTime, IsSentIfSome, IsAlone, HaveSenderAlone, HaveStatusWhole, AreOneType, HaveTypeWhole}
-use Rattle.std.proofs.Common.{◌≡◌, ℕ, ◌⊎◌, inl, inr, sym, ap, subst, ◌∙◌, List, [], ◌∷◌, ◌++◌, length, Option, Some, None, Contains, IsTrue}
-use Rattle.std.specs.Prelude.{slice_get, IsSome}
+use Rattle.mesh_atoms.specs.Writable.{IsSentTime, IsSentIfSome, HaveStatusWhole, AreOneType, HaveTypeWhole}
+use Rattle.std.proofs.Common.{◌≡◌, ℕ, ◌⊎◌, inl, inr, sym, ap, subst, ◌∙◌, List, [], ◌∷◌, ◌++◌, length, Option, Some, None, IsTrue}
+use Rattle.std.specs.Prelude.{slice_get}
 use Rattle.mesh_atoms.specs.declared.addr.NetAddr.{NetAddr}
 use Rattle.mesh_atoms.specs.declared.hello.Hello.{Hello}
-use Rattle.mesh_atoms.specs.declared.hello.HelloRow.{HelloRow}
 use Rattle.mesh_atoms.specs.declared.tc.TcRow.{TcRow}
 use Rattle.mesh_atoms.specs.Advertised.{AreTcRows, IsTcRow, Of_address, Of_network}
 use Rattle.mesh_atoms.specs.Hello.{IsHelloNow, IsRoundedUp}
@@ -37,9 +36,6 @@ sent_time ticks time is = (is.code, is.sent, is.is)
 
 pub sent_if_some : (o : Option ℕ) (ticks time : ℕ) → o ≡ Some time → IsRoundedUp ticks time → IsSentIfSome o
 sent_if_some o ticks time at is = subst (λ (p : Option ℕ). IsSentIfSome p) (sym at) (sent_time ticks time is)
-
-pub no_other : (rows : List HelloRow) → ((row : HelloRow) → Contains rows row → IsSome row.local → IsAlone row) → HaveSenderAlone rows
-no_other rows alone row has local = let is = alone row has local in record { link = is.link; other = is.other; metrics = is.metrics; mpr = is.mpr }
 
 pub status_whole : (s : State) (i now : ℕ) (hello : Hello) → IsHelloNow s i now hello → HaveStatusWhole hello.rows
 status_whole s i now hello is row has says = let (a, row_is) = is.rows row has in ap (λ (n : NetAddr). n.prefix) row_is.addr

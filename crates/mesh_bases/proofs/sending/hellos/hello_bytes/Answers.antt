@@ -1,5 +1,5 @@
 use Rattle.std.proofs.Common.{arith, refl}
-use Rattle.mesh_bases.proofs.SendingLemmas.Written.{state_with, sent_time, sent_if_some, no_other, status_whole}
+use Rattle.mesh_bases.proofs.SendingLemmas.Written.{state_with, sent_time, sent_if_some, status_whole}
 use Rattle.mesh_bases.proofs.sending.hellos.hello_bytes.Goals as goal
 use Rattle.mesh_atoms.proofs.Options.{if_ok_weaker}
 
@@ -14,9 +14,6 @@ pub write_hello-requires-clause-interval : goal.write_hello-requires-clause-inte
 write_hello-requires-clause-interval g c =
     let is = c.in_ok-hello.ensures.ok (state_with c.args.nhdp.now.settings c.args.nhdp.now.near c.args.relays.now) refl refl refl in
     let (time, at, rounded) = is.interval in sent_if_some _ _ time at rounded
-
-pub write_hello-requires-clause-sender : goal.write_hello-requires-clause-sender
-write_hello-requires-clause-sender g c = no_other c.in_ok-hello.hello.rows c.in_ok-hello.ensures.own
 
 pub write_hello-requires-clause-whole : goal.write_hello-requires-clause-whole
 write_hello-requires-clause-whole g c =
