@@ -1,7 +1,7 @@
 -- Words are read as a job exactly where they ask for it.
 use Rattle.std.proofs.Common.{◌≡◌, ℕ, ◌+◌, inl, inr, List, [], ◌∷◌, length, Option, Some, None, Result, Ok, Bool, true, false, ◌&&◌, refl, sym, ap, subst, ◌∙◌, arith}
 use Rattle.std.specs.Prelude.{codes, option_map}
-use Rattle.std.specs.List.{flat_map}
+use Rattle.std.specs.List.{flat_map, AllByRecursion}
 use Rattle.std.specs.Cmp.Lexicographic.{bytes_decides}
 use Rattle.mesh_atoms.specs.declared.addr.Addr4.{Addr4}
 use Rattle.mesh_atoms.specs.Literals.{only_if}
@@ -10,8 +10,8 @@ use Rattle.mesh_tool.specs.declared.words.job.Job.TheVariants as job
 use Rattle.mesh_emulate.specs.declared.making.kind.Kind.{Kind}
 use Rattle.mesh_tool.specs.declared.words.asked.Parsing.{Parsing}
 use Rattle.mesh_tool.specs.declared.words.asked.Parsing.TheVariants as asked
-use Rattle.mesh_tool.specs.Words.Words.{is_word, turns_of, kind_of, routers_of, seed_of, no_emulate_options, command_word, takes, or_at, read_on, words_of}
-use Rattle.mesh_tool.specs.Words.CommandLines.{InAnyOrder, OptionWords, make_options, AreEmulateOptions, AskFor}
+use Rattle.mesh_tool.specs.Words.Words.{is_word, turns_of, kind_of, routers_of, seed_of, no_emulate_options, command_of, plain_jobs, plain_word, command_word, takes, or_at, read_on, words_of}
+use Rattle.mesh_tool.specs.Words.CommandLines.{InAnyOrder, OptionWords, make_options, AreEmulateOptions, AreOptions, AskFor}
 use Rattle.mesh_tool.proofs.WordsLemmas.EmulateLines.{ReadFrom, comes_read, all_read, option_on, reads_on}
 use Rattle.mesh_tool.proofs.WordsLemmas.MakeLines.{makes_from, make_asked}
 use Rattle.mesh_tool.proofs.WordsLemmas.Orders.{in_each_order}
@@ -42,7 +42,7 @@ asked_is_read words (job.Emulate trace send probe) asks = ap words_of asks.whole
 asked_is_read words (job.Make kind routers seed) asks =
     let a = asks.are in
     ap words_of asks.whole ∙ made a.0 a.1 a.2 kind routers seed asks.options a.3 a.4 a.5 a.6
-asked_is_read words job.Replay asks = ap words_of (asks.whole ∙ ap (behind (codes "replay")) asks.are)
+asked_is_read words j asks = ap words_of (asks.whole ∙ ap (behind (command_of j)) asks.are)
 
 -- ---- what is read is asked for
 
@@ -103,10 +103,17 @@ emulate_asked word (w ∷ words) j is h =
 no_word : (next : Parsing) → (let x : Option Parsing = None in x) ≡ Some next → ⊥
 no_word next h = cc
 
-replay_asked : (word : List ℕ) (words : List (List ℕ)) (j : Job) → word ≡ codes "replay" → read_on asked.Replay 1 words ≡ Ok j → AskFor (word ∷ words) j
-replay_asked word words j is h =
-    let end = none_more asked.Replay job.Replay 1 words j (λ v next k. no_word next k) refl h in
-    subst (AskFor (word ∷ words)) (sym end.1) (record { options = []; are = refl; whole = rw (is, end.0) refl })
+-- of jobs without options
+plain_asked : (jobs : List Job) (word : List ℕ) (words : List (List ℕ)) (next : Parsing) (j : Job) → AllByRecursion (λ job. AreOptions job []) jobs → plain_word jobs word ≡ Some next
+    → read_on next 1 words ≡ Ok j → AskFor (word ∷ words) j
+plain_asked [] word words next j without found h = let bad : ⊥ = cc in absurd bad
+plain_asked (job ∷ jobs) word words next j without found h =
+    elim (if_some (is_word word (command_of job)) (asked.Whole job) _ next found) [
+      | inl (test, e) ↦
+          let end = none_more (asked.Whole job) job 1 words j (λ v found k. no_word found k) refl (subst (λ (n : Parsing). read_on n 1 words ≡ Ok j) e h) in
+          subst (AskFor (word ∷ words)) (sym end.1) (record { options = []; are = without.0; whole = rw ((bytes_decides word (command_of job)).0 test, end.0) refl })
+      | inr (other, rest) ↦ plain_asked jobs word words next j without.1 rest h
+    ]
 
 pub read_is_asked : (words : List (List ℕ)) (j : Job) → words_of words ≡ Ok j → AskFor words j
 read_is_asked [] j h = let bad : ⊥ = cc in absurd bad
@@ -118,10 +125,7 @@ read_is_asked (word ∷ words) j h =
         | inl (test, e) ↦ run_asked word words j ((bytes_decides word (codes "run")).0 test) (subst (λ (next : Parsing). read_on next 1 words ≡ Ok j) e step.2)
         | inr (other', rest') ↦ elim (if_some (is_word word (codes "emulate")) (asked.Emulate no_emulate_options) _ step.0 rest') [
           | inl (test, e) ↦ emulate_asked word words j ((bytes_decides word (codes "emulate")).0 test) (subst (λ (next : Parsing). read_on next 1 words ≡ Ok j) e step.2)
-          | inr (other'', rest'') ↦ elim (if_some (is_word word (codes "replay")) asked.Replay None step.0 rest'') [
-            | inl (test, e) ↦ replay_asked word words j ((bytes_decides word (codes "replay")).0 test) (subst (λ (next : Parsing). read_on next 1 words ≡ Ok j) e step.2)
-            | inr (other''', none) ↦ let bad : ⊥ = cc in absurd bad
-          ]
+          | inr (other'', rest'') ↦ plain_asked plain_jobs word words step.0 j (search) rest'' step.2
         ]
       ]
     ]

@@ -6,7 +6,7 @@ use Rattle.mesh_atoms.specs.Literals.{address_of}
 use Rattle.mesh_atoms.specs.Settings.{IsCount}
 use Rattle.mesh_tool.specs.declared.words.job.Job.{Job}
 use Rattle.mesh_tool.specs.declared.words.job.Job.TheVariants as job
-use Rattle.mesh_tool.specs.Words.Words.{words_of, turns_of, kind_of, routers_of, seed_of}
+use Rattle.mesh_tool.specs.Words.Words.{command_of, words_of, turns_of, kind_of, routers_of, seed_of}
 
 -- these, each once, in any order
 abbrev pub InAnyOrder : {A : Type 0} → List A → List A → Type 0
@@ -73,15 +73,7 @@ AreOptions (job.Emulate trace send probe) options = AreEmulateOptions trace send
 AreOptions (job.Make kind routers seed) options =
     (k : List ℕ) × (n : List ℕ) × (s : List ℕ) × (kind_of k ≡ Some kind) × (routers_of n ≡ Some routers) × (seed_of s ≡ Some seed)
     × InAnyOrder (make_options k n s) options
-AreOptions job.Replay options = options ≡ []
-
--- the first word
-abbrev pub command_of : Job → List ℕ
-command_of (job.Dump recode) = codes "dump"
-command_of (job.Run turns) = codes "run"
-command_of (job.Emulate trace send probe) = codes "emulate"
-command_of (job.Make kind routers seed) = codes "emulate"
-command_of job.Replay = codes "replay"
+AreOptions other options = options ≡ []
 
 -- the words ask for this job: its command, and behind it its options
 pub record AskFor (words : List (List ℕ)) (job : Job) : Type 0 where
@@ -91,11 +83,9 @@ pub record AskFor (words : List (List ℕ)) (job : Job) : Type 0 where
 
 -- so many turns, so many routers, and such a seed, as command lines ask for
 abbrev pub IsJobInRange : Job → Type 0
-IsJobInRange (job.Dump recode) = Unit {0}
 IsJobInRange (job.Run turns) = 1 ≤ turns
-IsJobInRange (job.Emulate trace send probe) = Unit {0}
 IsJobInRange (job.Make kind routers seed) = IsCount 2 64 routers × (seed ≤ 4294967295)
-IsJobInRange job.Replay = Unit {0}
+IsJobInRange other = Unit {0}
 
 -- words are read as a job exactly where they ask for it
 abbrev pub CommandLinesAreRead : Type 0

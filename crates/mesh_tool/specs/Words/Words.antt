@@ -100,13 +100,30 @@ emulate_value o emulates.Name place word = Some (asked.Emulate (record { trace =
 
 -- ---- command lines
 
+-- the first word of each job
+abbrev pub command_of : Job → List ℕ
+command_of (job.Dump recode) = codes "dump"
+command_of (job.Run turns) = codes "run"
+command_of (job.Emulate trace send probe) = codes "emulate"
+command_of (job.Make kind routers seed) = codes "emulate"
+command_of job.Replay = codes "replay"
+
+-- the jobs whose commands have no options: the first word is the whole command line
+abbrev pub plain_jobs : List Job
+plain_jobs = job.Replay ∷ []
+
+-- the first of these jobs whose word this is
+abbrev pub plain_word : List Job → List ℕ → Option Parsing
+plain_word [] word = None
+plain_word (job ∷ jobs) word = if is_word word (command_of job) then Some (asked.Whole job) else plain_word jobs word
+
 -- the first word
 abbrev pub command_word : List ℕ → Option Parsing
 command_word word =
     if is_word word (codes "dump") then Some (asked.Dump false)
     else if is_word word (codes "run") then Some (asked.Run None)
     else if is_word word (codes "emulate") then Some (asked.Emulate no_emulate_options)
-    else only_if (is_word word (codes "replay")) asked.Replay
+    else plain_word plain_jobs word
 
 -- what is asked for after one more word, which has that place, where it begins a command line with the words before it
 abbrev pub takes : Parsing → ℕ → List ℕ → Option Parsing
@@ -118,7 +135,7 @@ takes (asked.Emulate o) place word = emulate_option o word
 takes (asked.EmulateAwaits o value) place word = emulate_value o value place word
 takes (asked.Make o) place word = make_option o word
 takes (asked.MakeAwaits o value) place word = option_map asked.Make (make_value o value word)
-takes asked.Replay place word = None
+takes (asked.Whole job) place word = None
 
 -- the job, where no word is missing
 abbrev pub job_of : Parsing → Option Job
@@ -130,7 +147,7 @@ job_of (asked.Emulate o) = Some (job.Emulate o.trace o.send o.probe)
 job_of (asked.EmulateAwaits o value) = None
 job_of (asked.Make o) = make_job o
 job_of (asked.MakeAwaits o value) = None
-job_of asked.Replay = Some job.Replay
+job_of (asked.Whole job) = Some job
 
 -- the job of words behind others that ask for this, where the first of them has that place
 abbrev pub or_at : {A B : Type 0} → ℕ → Option A → (A → Result B ℕ) → Result B ℕ

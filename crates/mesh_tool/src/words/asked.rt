@@ -39,7 +39,8 @@ pub enum MakeValue {
     Seed,
 }
 
-/// What is asked for as far as the words were read; with `Turns`, `EmulateAwaits` and `MakeAwaits` a value comes next.
+/// What is asked for as far as the words were read; with `Turns`, `EmulateAwaits` and `MakeAwaits` a value comes next, and with `Whole`
+/// nothing more.
 #[derive(Clone, Copy)]
 pub enum Parsing {
     Nothing,
@@ -50,7 +51,7 @@ pub enum Parsing {
     EmulateAwaits(EmulateOptions, EmulateValue),
     Make(MakeOptions),
     MakeAwaits(MakeOptions, MakeValue),
-    Replay,
+    Whole(Job),
 }
 
 const NO_EMULATE_OPTIONS: EmulateOptions = EmulateOptions {
@@ -214,7 +215,7 @@ fn command_word(word: &str) -> Option<Parsing>
     } else if word == "emulate" {
         Some(Parsing::Emulate(NO_EMULATE_OPTIONS))
     } else if word == "replay" {
-        Some(Parsing::Replay)
+        Some(Parsing::Whole(Job::Replay))
     } else {
         None
     }
@@ -255,7 +256,7 @@ pub fn takes(asked: Parsing, place: usize, word: &str) -> Option<Parsing>
             Some(options) => Some(Parsing::Make(options)),
             None => None,
         },
-        Parsing::Replay => None,
+        Parsing::Whole(_) => None,
     }
 }
 
@@ -275,7 +276,7 @@ pub fn job_of(asked: Parsing) -> Option<Job>
             probe: options.probe,
         }),
         Parsing::Make(options) => options.job(),
-        Parsing::Replay => Some(Job::Replay),
+        Parsing::Whole(job) => Some(job),
         Parsing::Nothing
         | Parsing::Turns
         | Parsing::EmulateAwaits(_, _)
