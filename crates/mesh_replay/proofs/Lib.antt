@@ -1,7 +1,6 @@
--- Lemmas for crates above, each file with the crates that cite it.
-pub mod CommandLemmas  -- tool
 -- Lemmas of this crate alone.
 mod CheckingLemmas
+mod CommandLemmas
 mod FramesLemmas
 mod RelaysLemmas
 mod RouterLemmas

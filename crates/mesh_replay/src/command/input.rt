@@ -58,9 +58,14 @@ pub fn replay_input<B: Bases, O: Sink>(
     // The line of the answer to the input was put on `out`.
     ensures answered { IfOk result (PutsAll (MakesOne (IsAnswerText input.now)) (O.content out.old) (O.content out.new)) }
 
-    // The input is refused, with that number and key; nothing was put on `out`.
-    ensures refused { (number : ℕ) (key : List ℕ) → result ≡ Err (Refused number key)
-        → IsRefusedInput input.now number key × Keeps (O.content out.old) (O.content out.new) }
+    // An input that is answered isn't refused.
+    ensures taken { IfOk result (λ answer. (number : ℕ) (key : List ℕ) → IsRefusedInput input.now number key → ⊥) }
+
+    // The input is refused, with that number and key.
+    ensures refused { (number : ℕ) (key : List ℕ) → result ≡ Err (Refused number key) → IsRefusedInput input.now number key }
+
+    // Nothing was put on `out` for an input that is refused.
+    ensures kept { (number : ℕ) (key : List ℕ) → result ≡ Err (Refused number key) → Keeps (O.content out.old) (O.content out.new) }
 
     // The sink counted a fault; a prefix of the line of the answer was put on `out`.
     ensures write { result ≡ Err (Stopped Stop.Write) → PutsFront (MakesOne (IsAnswerText input.now))

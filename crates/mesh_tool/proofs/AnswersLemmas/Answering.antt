@@ -1,23 +1,22 @@
 -- What the program answers, from what was done and the line that was put on err.
-use Rattle.std.proofs.Common.{◌≡◌, ℕ, ◌+◌, ◌<◌, ◌≤◌, ◌⊎◌, inl, inr, List, [], length, Option, Some, None, Result, Ok, Err, refl, sym, subst, arith}
+use Rattle.std.proofs.Common.{◌≡◌, ℕ, ◌+◌, ◌<◌, ◌≤◌, ◌⊎◌, inl, inr, List, [], length, Option, Some, None, Result, Ok, Err, refl, sym, subst, ◌∙◌, arith}
 use Rattle.std.specs.Prelude.{IsErr, codes}
-use Rattle.mesh_atoms.proofs.Options.{none_not, same_ok}
-use Rattle.mesh_config.specs.RunSettings.{run_refusals, FirstRunRefusal}
-use Rattle.mesh_emulate.proofs.Refusals.{emulated_not_refused}
+use Rattle.mesh_atoms.proofs.Options.{same_ok}
+use Rattle.mesh_config.specs.RunSettings.{run_refusals}
+use Rattle.mesh_dump.specs.Dump.{DumpMakes}
 use Rattle.mesh_io.specs.Faults.{Rose}
 use Rattle.mesh_io.specs.Pieces.{MakesOne, PutsAll}
-use Rattle.mesh_replay.specs.declared.answer.Replay.TheVariants.{Yes, No}
+use Rattle.mesh_replay.specs.declared.answer.Replay.TheVariants.{No}
 use Rattle.mesh_replay.specs.Command.Replays.{IsAnswerText}
-use Rattle.mesh_replay.proofs.CommandLemmas.Once.{answers_or_refuses}
 use Rattle.mesh_run.specs.Run.{StatesSetup, SpendsTurns, FailsToAttach}
-use Rattle.mesh_config.specs.Keys.Faults.{fault, first}
+use Rattle.mesh_config.specs.Keys.Faults.{first}
 use Rattle.mesh_tool.specs.declared.jobs.ending.Ending.{Ending}
 use Rattle.mesh_tool.specs.declared.jobs.ending.Ending.TheVariants as ending
 use Rattle.mesh_tool.specs.declared.jobs.status.Status.{Status}
 use Rattle.mesh_tool.specs.declared.jobs.status.Status.TheVariants as status
 use Rattle.mesh_tool.specs.Answers.Answers.{FaultLine, Wrong_words, Read_fault, Refusal, Attach_fault, Turns_spent, Allocation_failure, Whole, All_well, Some_refused, Is_no_run, On_out, On_err, OutputStands, Is_whole, Is_told, Is_failed, Answers}
 use Rattle.mesh_tool.specs.Jobs.Calls.{SourceUse, SinkUse, Call, UsesNoAir, Asks, ReadsNothing, IsInput, IsInputTooLong, IsWorkedOn, PutsText, PutsNothing}
-use Rattle.mesh_tool.specs.Jobs.Commands.{Command, RunsSoFar, wants_in, command_in}
+use Rattle.mesh_tool.specs.Jobs.Commands.{Command, RunsSoFar, command_in}
 use Rattle.mesh_tool.specs.Jobs.Endings.{StopsReading, Leaves, DoesJob, Unread, Worked, Does, No_command, Did, TellsLine, TellsEnding}
 use Rattle.mesh_tool.specs.Jobs.Lines.{words_line, read_line, refused_line, attach_line, turns_line, memory_line}
 use Rattle.mesh_tool.specs.Jobs.Works.{WorksOn, Refuses, Too_long, By_rule, TakesUpTo, TakesInput, Finishes, Before_reading, On_the_way}
@@ -25,6 +24,7 @@ use Rattle.mesh_tool.specs.declared.words.job.Job.{Job}
 use Rattle.mesh_tool.specs.declared.words.job.Job.TheVariants as job
 use Rattle.mesh_emulate.specs.declared.making.kind.Kind.{Kind}
 use Rattle.mesh_tool.specs.Words.Words.{words_of}
+use Rattle.mesh_tool.proofs.JobsLemmas.Outputs.{clear_not_refused}
 use Rattle.mesh_tool.proofs.AnswersLemmas.Reads.{works_within, works_short, whole_input, long_not_taken}
 
 -- ---- the job that the words ask for is one, or none
@@ -39,16 +39,6 @@ none_asked (Err place) j err h = cc
 told : (call : Call) (line : List ℕ) (due answer : Status) → FaultLine call due line → TellsLine call.err line due answer → OutputStands call answer
 told call line due answer cause (inl (same, stands)) = Is_told (record { line = line; due = rw same cause; stands = stands })
 told call line due answer cause (inr (failed, rose, size, stands)) = Is_failed failed (On_err due line cause rose size stands)
-
--- some lines tell a refusal: the job is `dump`
-whole_packets : (call : Call) (j : Job) → Asks call j → Finishes call j ending.Packets → Whole call status.Packets
-whole_packets call (job.Dump recode) asks fin = Some_refused recode asks fin
-whole_packets call j asks fin = absurd fin.puts.1
-
--- a trace is none of a run: the job is `replay`
-whole_unfit : (call : Call) (j : Job) → Asks call j → Finishes call j ending.NotARun → Whole call status.NotARun
-whole_unfit call job.Replay asks fin = Is_no_run asks fin
-whole_unfit call j asks fin = absurd fin.puts.1
 
 ends_unread : (call : Call) (j : Job) (most : ℕ) (how : Ending) (answer : Status) → Asks call j → (command_in call j).most ≡ Some most → StopsReading most call.input how → PutsNothing call.out
     → TellsEnding call.words call.err how answer → OutputStands call answer
@@ -74,12 +64,13 @@ spent call j octets count greatest end answer asks works is keeps tells = absurd
 
 ends_worked : (call : Call) (j : Job) (octets : List ℕ) (how : Ending) (answer : Status) → Asks call j → WorksOn j call octets
     → Leaves (command_in call j) octets call.out how → TellsEnding call.words call.err how answer → OutputStands call answer
+unfolding Leaves
 ends_worked call j octets ending.Done answer asks works puts (same, quiet) =
     Is_whole (rw same (All_well j asks (record { octets = octets; works_on = works; puts = puts }))) quiet
 ends_worked call j octets ending.Packets answer asks works puts (same, quiet) =
-    Is_whole (rw same (whole_packets call j asks (record { octets = octets; works_on = works; puts = puts }))) quiet
+    Is_whole (rw same (Some_refused j asks (record { octets = octets; works_on = works; puts = puts }))) quiet
 ends_worked call j octets ending.NotARun answer asks works puts (same, quiet) =
-    Is_whole (rw same (whole_unfit call j asks (record { octets = octets; works_on = works; puts = puts }))) quiet
+    Is_whole (rw same (Is_no_run j asks (record { octets = octets; works_on = works; puts = puts }))) quiet
 ends_worked call j octets (ending.Refused number key) answer asks works (refuses, keeps) tells =
     told call (refused_line number key) status.Refused answer (Refusal number key j asks (By_rule octets works refuses) keeps) tells
 ends_worked call j octets (ending.Attach interface) answer asks works (is, keeps) tells = unattached call j octets interface answer asks works is keeps tells
@@ -94,7 +85,7 @@ ends : (call : Call) (how : Ending) (answer : Status) → Does call how → Tell
 ends call how answer (No_command is err reads keeps air) tells =
     told call (words_line call.words) status.Words answer (Wrong_words err reads keeps) (subst (λ (e : Ending). TellsEnding call.words call.err e answer) is tells)
 ends call how answer (Did j asks (Unread most is stops keeps air)) tells = ends_unread call j most how answer asks is stops keeps tells
-ends call how answer (Did j asks (Worked octets works did)) tells = ends_worked call j octets how answer asks works did.0 tells
+ends call how answer (Did j asks (Worked octets works leaves uses)) tells = ends_worked call j octets how answer asks works leaves tells
 
 -- ---- what a job left whose output is whole
 
@@ -115,13 +106,13 @@ fault_told (Allocation_failure j asks stops) = tt
 -- the job, and how it ended
 whole_finishes : {call : Call} {answer : Status} → Whole call answer → (j : Job) × (how : Ending) × Asks call j × Finishes call j how
 whole_finishes (All_well j asks fin) = (j, ending.Done, asks, fin)
-whole_finishes (Some_refused recode asks fin) = (job.Dump recode, ending.Packets, asks, fin)
-whole_finishes (Is_no_run asks fin) = (job.Replay, ending.NotARun, asks, fin)
+whole_finishes (Some_refused j asks fin) = (j, ending.Packets, asks, fin)
+whole_finishes (Is_no_run j asks fin) = (j, ending.NotARun, asks, fin)
 
 whole_done : (call : Call) {answer : Status} (j : Job) → Whole call answer → answer ≡ status.Done → Asks call j → Finishes call j ending.Done
 whole_done call j (All_well i asked fin) same asks = subst (λ (k : Job). Finishes call k ending.Done) (same_ok {r = words_of call.words} {a = i} {b = j} asked asks) fin
-whole_done call j (Some_refused recode asked fin) same asks = let bad : ⊥ = cc in absurd bad
-whole_done call j (Is_no_run asked fin) same asks = let bad : ⊥ = cc in absurd bad
+whole_done call j (Some_refused i asked fin) same asks = let bad : ⊥ = cc in absurd bad
+whole_done call j (Is_no_run i asked fin) same asks = let bad : ⊥ = cc in absurd bad
 
 finishes : (call : Call) (answer : Status) (j : Job) → OutputStands call answer → answer ≡ status.Done → Asks call j → Finishes call j ending.Done
 finishes call answer j (Is_whole whole quiet) same asks = whole_done call j whole same asks
@@ -130,24 +121,30 @@ finishes call answer j (Is_failed failed f) same asks = let bad : ⊥ = cc in ab
 
 -- ---- what `replay` left where it isn't done
 
+-- no other job ends so
+is_replay : (call : Call) (j : Job) → Finishes call j ending.NotARun → j ≡ job.Replay
+is_replay call job.Replay fin = refl
+is_replay call j fin = let (answer, all, ends, clear) = fin.puts in absurd ends
+
 whole_no_run : {call : Call} {answer : Status} → Whole call answer → answer ≡ status.NotARun → Asks call job.Replay × Finishes call job.Replay ending.NotARun
 whole_no_run (All_well j asks fin) same = let bad : ⊥ = cc in absurd bad
-whole_no_run (Some_refused recode asks fin) same = let bad : ⊥ = cc in absurd bad
-whole_no_run (Is_no_run asks fin) same = (asks, fin)
+whole_no_run (Some_refused j asks fin) same = let bad : ⊥ = cc in absurd bad
+whole_no_run {call} (Is_no_run j asks fin) same = subst (λ (k : Job). Asks call k × Finishes call k ending.NotARun) (is_replay call j fin) (asks, fin)
 
 not_a_run : (call : Call) (answer : Status) → OutputStands call answer → answer ≡ status.NotARun → Asks call job.Replay
     × (octets : List ℕ) × IsInput 67108864 call.input octets × (line : ℕ)
     × PutsAll (MakesOne (IsAnswerText octets)) call.out.content call.out.content' (No line) × PutsText call.err []
 not_a_run call answer (Is_whole whole quiet) same =
     let (asks, fin) = whole_no_run whole same in
-    let (pieces, (line, made), stands) = fin.puts in (asks, fin.octets, fin.works_on, line, (pieces, made, stands), quiet)
+    let (found, all, (line, is), clear) = fin.puts in
+    (asks, fin.octets, fin.works_on, line, subst (PutsAll (MakesOne (IsAnswerText fin.octets)) call.out.content call.out.content') is all, quiet)
 not_a_run call answer (Is_told t) same = absurd (subst IsFault same (fault_told t.due))
 not_a_run call answer (Is_failed failed f) same = let bad : ⊥ = cc in absurd bad
 
 no_refusal : {call : Call} {answer : Status} → Whole call answer → answer ≡ status.Refused → ⊥
 no_refusal (All_well j asks fin) same = cc
-no_refusal (Some_refused recode asks fin) same = cc
-no_refusal (Is_no_run asks fin) same = cc
+no_refusal (Some_refused j asks fin) same = cc
+no_refusal (Is_no_run j asks fin) same = cc
 
 -- a refusal of `replay`, whose line stands on err
 abbrev pub Unreplayed : Call → Type 0
@@ -187,7 +184,7 @@ no_command call answer (Is_failed failed (On_err due line cause rose size stands
 
 made_reads : (call : Call) (how : Ending) (kind : Kind) (routers seed : ℕ) → DoesJob (job.Make kind routers seed) call how → ReadsNothing call.input
 made_reads call how kind routers seed (Unread most is stops keeps air) = let bad : ⊥ = cc in absurd bad
-made_reads call how kind routers seed (Worked octets works did) = works.1
+made_reads call how kind routers seed (Worked octets works leaves uses) = works.1
 
 unread : (call : Call) (how : Ending) → Does call how → (kind : Kind) (routers seed : ℕ) → Asks call (job.Make kind routers seed) → ReadsNothing call.input
 unread call how (No_command is err reads keeps air) kind routers seed asks = reads
@@ -209,19 +206,13 @@ long_input : (call : Call) (how : Ending) (answer : Status) (j : Job) (most : �
     → call.input.taken' ≡ call.input.taken + (most + 1) → (answer ≡ status.Refused) ⊎ (answer ≡ status.Write)
 long_input call how answer j most (Unread limit read stops keeps air) tells is long =
     let same : limit ≡ most = cc in long_unread call most how answer (subst (λ (m : ℕ). StopsReading m call.input how) same stops) tells long
-long_input call how answer j most (Worked octets works did) tells is long = absurd (works_within (command_in call j).most most call.input octets is works long)
+long_input call how answer j most (Worked octets works leaves uses) tells is long = absurd (works_within (command_in call j).most most call.input octets is works long)
 
 one_too_many : (call : Call) (how : Ending) (answer : Status) → Does call how → TellsEnding call.words call.err how answer
     → (j : Job) (most : ℕ) → Asks call j → (command_in call j).most ≡ Some most → call.input.taken' ≡ call.input.taken + (most + 1) → (answer ≡ status.Refused) ⊎ (answer ≡ status.Write)
 one_too_many call how answer (No_command is err reads keeps air) tells j most asks limit long = absurd (none_asked (words_of call.words) j err asks)
 one_too_many call how answer (Did i asked did) tells j most asks limit long =
     long_input call how answer j most (subst (λ (k : Job). DoesJob k call how) (same_ok {r = words_of call.words} {a = i} {b = j} asked asks) did) tells limit long
-
--- ---- what is refused is not done
-
-clear_not_refused : (octets all : List ℕ) (number : ℕ) (key : List ℕ) → octets ≡ all → first (run_refusals octets) ≡ None → FirstRunRefusal all number key → ⊥
-clear_not_refused octets all number key same clear refused =
-    none_not {o = first (run_refusals all)} {a = fault number key} (subst (λ (o : List ℕ). first (run_refusals o) ≡ None) same clear) refused
 
 -- ---- an input that has more octets than its job takes
 
@@ -248,18 +239,6 @@ too_long call answer (Is_whole whole quiet) j most all asks limit is long calm =
 too_long call answer (Is_told t) j most all asks limit is long calm = long_due j t.due asks (long_works call j most all asks limit is long) calm
 too_long call answer (Is_failed failed f) j most all asks limit is long calm = inr (inl failed)
 
--- octets of which a job makes all its output aren't refused
-made_not_refused : (call : Call) (j : Job) (octets : List ℕ) (pieces : List (List ℕ)) (how : Ending) (number : ℕ) (key : List ℕ) → (command_in call j).makes octets pieces (Some how)
-    → (command_in call j).refuses octets number key → ⊥
-made_not_refused call (job.Run turns) octets pieces ending.Done number key (r, is) refuses = clear_not_refused octets octets number key refl r.stated.clear refuses
-made_not_refused call (job.Run turns) octets pieces how number key made refuses = absurd made
-made_not_refused call (job.Emulate trace send probe) octets pieces ending.Done number key (e, are) refuses = emulated_not_refused octets (wants_in call.words trace send probe) e number key refuses
-made_not_refused call (job.Emulate trace send probe) octets pieces how number key made refuses = absurd made
-made_not_refused call job.Replay octets pieces ending.Done number key (lines, (text, (replays, line), one)) refuses = answers_or_refuses octets (Yes lines) number key replays refuses
-made_not_refused call job.Replay octets pieces ending.NotARun number key (at, (text, (replays, line), one)) refuses = answers_or_refuses octets (No at) number key replays refuses
-made_not_refused call job.Replay octets pieces how number key made refuses = absurd made
-made_not_refused call j octets pieces how number key made refuses = refuses
-
 -- a job refuses what it reads
 refused_read : (call : Call) (j : Job) (octets all : List ℕ) (number : ℕ) (key : List ℕ) → WorksOn j call octets → call.input.left ≡ Some all → (command_in call j).refuses all number key
     → (command_in call j).refuses octets number key
@@ -267,17 +246,16 @@ refused_read call (job.Make kind routers seed) octets all number key works is re
 refused_read call j octets all number key works is refuses = subst (λ (o : List ℕ). (command_in call j).refuses o number key) (sym (whole_input all is works)) refuses
 
 whole_not_refused : {call : Call} {answer : Status} (j : Job) (all : List ℕ) (number : ℕ) (key : List ℕ) → Whole call answer → Asks call j → call.input.left ≡ Some all → (command_in call j).refuses all number key → ⊥
-whole_not_refused {call} j all number key whole asks is refuses =
+whole_not_refused {call} j all number key whole asks is refused =
     let (i, how, asked, fin) = whole_finishes whole in
-    let (pieces, made, stands) = fin.puts in
-    made_not_refused call i fin.octets pieces how number key made
-    (refused_read call i fin.octets all number key fin.works_on is (subst (λ (k : Job). (command_in call k).refuses all number key) (same_ok {r = words_of call.words} {a = j} {b = i} asks asked) refuses))
+    let (found, put, ends, clear) = fin.puts in
+    clear number key (refused_read call i fin.octets all number key fin.works_on is (subst (λ (k : Job). (command_in call k).refuses all number key) (same_ok {r = words_of call.words} {a = j} {b = i} asks asked) refused))
 
--- nor are the octets of a router that is run
+-- nor are octets refused of a router that is run
 run_not_refused : (call : Call) (turns : ℕ) (j : Job) (octets all : List ℕ) (number : ℕ) (key : List ℕ) → Asks call (job.Run turns) → Asks call j → IsInput 1048576 call.input octets → call.input.left ≡ Some all →
     first (run_refusals octets) ≡ None → (command_in call j).refuses all number key → ⊥
 run_not_refused call turns j octets all number key asked asks works is clear refused =
-    clear_not_refused octets all number key (whole_input all is works) clear
+    clear_not_refused all number key (subst (λ (o : List ℕ). first (run_refusals o) ≡ None) (whole_input all is works) clear)
     (subst (λ (k : Job). (command_in call k).refuses all number key) (same_ok {r = words_of call.words} {a = j} {b = job.Run turns} asks asked) refused)
 
 refusal_due : {call : Call} {answer : Status} {line : List ℕ} (j : Job) (all : List ℕ) (number : ℕ) (key : List ℕ) → FaultLine call answer line → Asks call j → call.input.left ≡ Some all →
@@ -339,8 +317,8 @@ IsThrough j answer = (answer ≡ status.Done) ⊎ ((answer ≡ status.Packets) �
 
 whole_status : {call : Call} {answer : Status} (j : Job) → Asks call j → Whole call answer → IsThrough j answer
 whole_status j asks (All_well i asked fin) = inl refl
-whole_status j asks (Some_refused recode asked fin) = inr (inl refl)
-whole_status {call} j asks (Is_no_run asked fin) = inr (inr (inr (inl (refl, same_ok {r = words_of call.words} {a = j} {b = job.Replay} asks asked))))
+whole_status j asks (Some_refused i asked fin) = inr (inl refl)
+whole_status {call} j asks (Is_no_run i asked fin) = inr (inr (inr (inl (refl, same_ok {r = words_of call.words} {a = j} {b = i} asks asked ∙ is_replay call i fin))))
 
 due_status : (j : Job) (answer : Status) → (answer ≡ status.Turns) ⊎ (answer ≡ status.Memory) → IsThrough j answer
 due_status j answer (inl turns) = inr (inr (inl turns))
@@ -358,8 +336,8 @@ complete call answer (Is_failed failed (On_err due line cause rose size stands))
 
 hands_worked : (call : Call) (how : Ending) (turns : ℕ) → DoesJob (job.Run turns) call how → UsesNoAir call.air ⊎ ((octets : List ℕ) × IsInput 1048576 call.input octets × RunsSoFar octets turns call.air.told)
 hands_worked call how turns (Unread most is stops keeps air) = inl air
-hands_worked call how turns (Worked octets works (leaves, inl air)) = inl air
-hands_worked call how turns (Worked octets works (leaves, inr runs)) = inr (octets, works, runs)
+hands_worked call how turns (Worked octets works leaves (inl air)) = inl air
+hands_worked call how turns (Worked octets works leaves (inr runs)) = inr (octets, works, runs)
 
 hands : (call : Call) (how : Ending) → Does call how → (turns : ℕ) → Asks call (job.Run turns) → UsesNoAir call.air ⊎ ((octets : List ℕ) × IsInput 1048576 call.input octets × RunsSoFar octets turns call.air.told)
 hands call how (No_command is err reads keeps air) turns asks = inl air
@@ -368,8 +346,8 @@ hands call how (Did j asked did) turns asks =
 
 airless_worked : (call : Call) (how : Ending) (j : Job) → DoesJob j call how → ((turns : ℕ) → j ≡ job.Run turns → ⊥) → UsesNoAir call.air
 airless_worked call how j (Unread most is stops keeps air) other = air
-airless_worked call how (job.Run turns) (Worked octets works did) other = absurd (other turns refl)
-airless_worked call how j (Worked octets works did) other = did.1
+airless_worked call how (job.Run turns) (Worked octets works leaves uses) other = absurd (other turns refl)
+airless_worked call how j (Worked octets works leaves uses) other = uses
 
 airless : (call : Call) (how : Ending) → Does call how → (j : Job) → Asks call j → ((turns : ℕ) → j ≡ job.Run turns → ⊥) → UsesNoAir call.air
 airless call how (No_command is err reads keeps air) j asks other = air
@@ -388,15 +366,19 @@ answers call how answer does tells later_input later_out later_err later_air =
     let e : OutputStands call answer = ends call how answer does tells in
     record {
       ends = e;
-      dumped = λ recode same asks. let fin = finishes call answer (job.Dump recode) e same asks in (fin.octets, fin.works_on, fin.puts);
-      ran = λ turns same asks. let fin = finishes call answer (job.Run turns) e same asks in (fin.octets, fin.works_on, fin.puts);
+      dumped = λ recode same asks.
+          let fin = finishes call answer (job.Dump recode) e same asks in
+          let (refused, all, none, clear) = fin.puts in
+          (fin.octets, fin.works_on, subst (PutsAll (DumpMakes fin.octets recode) call.out.content call.out.content') none all);
+      ran = λ turns same asks. let fin = finishes call answer (job.Run turns) e same asks in (fin.octets, fin.works_on, fin.puts.1);
       hands = λ turns asks. hands call how does turns asks;
       airless = λ j asks other. airless call how does j asks other;
-      emulated = λ trace send probe same asks. let fin = finishes call answer (job.Emulate trace send probe) e same asks in (fin.octets, fin.works_on, fin.puts);
-      made = λ kind routers seed same asks. let fin = finishes call answer (job.Make kind routers seed) e same asks in (fin.puts, fin.works_on.1);
+      emulated = λ trace send probe same asks. let fin = finishes call answer (job.Emulate trace send probe) e same asks in (fin.octets, fin.works_on, fin.puts.1);
+      made = λ kind routers seed same asks. let fin = finishes call answer (job.Make kind routers seed) e same asks in (fin.puts.1, fin.works_on.1);
       replayed = λ same asks.
           let fin = finishes call answer job.Replay e same asks in
-          let (pieces, (lines, made), stands) = fin.puts in (fin.octets, fin.works_on, lines, (pieces, made, stands));
+          let (found, all, (lines, is), clear) = fin.puts in
+          (fin.octets, fin.works_on, lines, subst (PutsAll (MakesOne (IsAnswerText fin.octets)) call.out.content call.out.content') is all);
       not_a_run = λ same. not_a_run call answer e same;
       not_replayed = λ same asks. not_replayed call answer e same asks;
       unread = λ kind routers seed asks. unread call how does kind routers seed asks;

@@ -1,27 +1,14 @@
--- How a job ends, by what was put of its output.
-use Rattle.std.proofs.Common.{inl, inr, ℕ, zero, suc, Bool, List, Option, Some, None, arith}
-use Rattle.mesh_dump.specs.Dump.{DumpMakes}
-use Rattle.mesh_io.specs.Pieces.{MakesOne, PutsFront}
-use Rattle.mesh_replay.specs.declared.answer.Replay.TheVariants.{Yes, No}
-use Rattle.mesh_replay.specs.Command.Replays.{IsAnswerText}
+-- What the output of a run says of it.
+use Rattle.std.proofs.Common.{◌≡◌, ℕ, List, Option, Some, None, inl, inr}
+use Rattle.mesh_atoms.proofs.Options.{none_not}
+use Rattle.mesh_config.specs.Keys.Faults.{fault, first}
+use Rattle.mesh_config.specs.RunSettings.{run_refusals, FirstRunRefusal}
 use Rattle.mesh_run.specs.Run.{ToldInCall, RouterRunMakes}
-use Rattle.mesh_tool.specs.declared.jobs.ending.Ending.TheVariants as ending
-use Rattle.mesh_tool.specs.Jobs.Commands.{DoneBy, ListingEnds, ReplayEnds, RunsSoFar}
+use Rattle.mesh_tool.specs.Jobs.Commands.{RunsSoFar}
 
--- a write failed
-pub done_front : (Makes : List (List ℕ) → Option (Unit {0}) → Type 0) (a b : Option (List ℕ)) (f g : ℕ) → PutsFront Makes a b f g → PutsFront (DoneBy Makes) a b f g
-done_front Makes a b f g (rose, pieces, piece, Some u, made, n, stands) = (rose, pieces, piece, Some ending.Done, made, n, stands)
-done_front Makes a b f g (rose, pieces, piece, None, made, n, stands) = (rose, pieces, piece, None, made, n, stands)
-
-pub listing_front : (octets : List ℕ) (recode : Bool) (a b : Option (List ℕ)) (f g : ℕ) → PutsFront (DumpMakes octets recode) a b f g → PutsFront (ListingEnds octets recode) a b f g
-listing_front octets recode a b f g (rose, pieces, piece, Some zero, made, n, stands) = (rose, pieces, piece, Some ending.Done, made, n, stands)
-listing_front octets recode a b f g (rose, pieces, piece, Some (suc refused), made, n, stands) = (rose, pieces, piece, Some ending.Packets, (suc refused, omega arith, made), n, stands)
-listing_front octets recode a b f g (rose, pieces, piece, None, made, n, stands) = (rose, pieces, piece, None, made, n, stands)
-
-pub replay_front : (octets : List ℕ) (a b : Option (List ℕ)) (f g : ℕ) → PutsFront (MakesOne (IsAnswerText octets)) a b f g → PutsFront (ReplayEnds octets) a b f g
-replay_front octets a b f g (rose, pieces, piece, Some (Yes lines), made, n, stands) = (rose, pieces, piece, Some ending.Done, (lines, made), n, stands)
-replay_front octets a b f g (rose, pieces, piece, Some (No line), made, n, stands) = (rose, pieces, piece, Some ending.NotARun, (line, made), n, stands)
-replay_front octets a b f g (rose, pieces, piece, None, made, n, stands) = (rose, pieces, piece, None, made, n, stands)
+-- octets of a router that is run aren't refused
+pub clear_not_refused : (octets : List ℕ) (number : ℕ) (key : List ℕ) → first (run_refusals octets) ≡ None → FirstRunRefusal octets number key → ⊥
+clear_not_refused octets number key clear refused = none_not {o = first (run_refusals octets)} {a = fault number key} clear refused
 
 -- how a run that made these pieces used the clock and the air
 pub run_uses : (octets : List ℕ) (turns : ℕ) (told : ToldInCall) (pieces : List (List ℕ)) (answer : Option (Unit {0})) → RouterRunMakes octets turns told pieces answer → RunsSoFar octets turns told

@@ -40,8 +40,8 @@ pub data FaultLine (call : Call) : Status → List ℕ → Type 0 where
 -- all pieces of a job's output stand on out, and no line or some line of it tells a refusal, or it says that a trace is none of a run
 pub data Whole (call : Call) : Status → Type 0 where
   All_well : (job : Job) → Asks call job → Finishes call job ending.Done → Whole call status.Done
-  Some_refused : (recode : Bool) → Asks call (Dump recode) → Finishes call (Dump recode) ending.Packets → Whole call status.Packets
-  Is_no_run : Asks call Replay → Finishes call Replay ending.NotARun → Whole call status.NotARun
+  Some_refused : (job : Job) → Asks call job → Finishes call job ending.Packets → Whole call status.Packets
+  Is_no_run : (job : Job) → Asks call job → Finishes call job ending.NotARun → Whole call status.NotARun
 
 -- a write failed: on out, where some first pieces of a job's output and a prefix of the next one then stand, and nothing on err; or on
 -- err, where a prefix of the line of the fault that was due then stands

@@ -5,11 +5,13 @@ use Rattle.mesh_atoms.specs.declared.settings.RunSetup.{RunSetup}
 use Rattle.mesh_config.specs.declared.keys.parse.TheConstants.{LONGEST_SETTINGS}
 use Rattle.mesh_config.specs.RunSettings.{FirstRunRefusal}
 use Rattle.mesh_dump.specs.Dump.{DumpMakes}
+use Rattle.mesh_emulate.specs.declared.making.kind.Kind.{Kind}
 use Rattle.mesh_emulate.specs.Emulation.{IsRefused, EmulationMakes}
 use Rattle.mesh_emulate.specs.Making.Made.{MadeMakes}
 use Rattle.mesh_emulate.specs.Wants.{WantedPacket, Wants}
 use Rattle.mesh_io.specs.Faults.{RoseByOne}
 use Rattle.mesh_io.specs.Pieces.{MakesOne}
+use Rattle.mesh_replay.specs.declared.answer.Replay.{Replay}
 use Rattle.mesh_replay.specs.declared.answer.Replay.TheVariants.{Yes, No}
 use Rattle.mesh_replay.specs.Command.Replays.{IsRefusedInput, IsAnswerText}
 use Rattle.mesh_run.specs.Run.{ToldInCall, StatesSetup, WholeRouterRun, SpendsTurns, FailsToAttach, RunsShort, RouterRunMakes}
@@ -22,30 +24,33 @@ use Rattle.mesh_tool.specs.declared.jobs.jobs.TheConstants.{LONGEST_INPUT}
 
 -- what a command does, by the octets that it works on
 pub record Command : Type 1 where
+  -- the answers that it may give once all its output is made
+  pub Answer : Type 0
   -- it reads an input of at most so many octets; none: it reads nothing, and works on no octets
   pub most : Option ℕ
   -- it refuses them, with that number and key
   pub refuses : List ℕ → ℕ → List ℕ → Type 0
   -- the air was such that it can come to its end
   pub attaches : List ℕ → Type 0
-  -- these are all pieces of its output, and so it ends; or, with no ending, some first ones, and more are to come
-  pub makes : List ℕ → List (List ℕ) → Option Ending → Type 0
-  -- the use that it made of the clock and the air
-  pub uses_air : List ℕ → Type 0
+  -- these are all pieces of its output, with that answer; or, with no answer, some first ones, and more are to come
+  pub makes : List ℕ → List (List ℕ) → Option Answer → Type 0
+  -- with that answer it ends in this way
+  pub ends : Answer → Ending → Type 0
   -- that interface couldn't be attached
   pub is_unattached : List ℕ → ℕ → Type 0
   -- so many turns were done, with that greatest moment, below that end
   pub is_spent : List ℕ → ℕ → ℕ → ℕ → Type 0
 
--- the command that does nothing: it neither reads nor refuses, makes nothing, and uses neither clock nor air. The command of a job says
--- what it does beyond this
-abbrev pub idle_command : AirUse → Command
-idle_command air = record {
+-- the command that makes this output and ends in this way, and does nothing else: it neither reads nor refuses, and uses neither clock
+-- nor air. The command of a job says what it does beyond this
+abbrev pub only_makes : {A : Type 0} → (List ℕ → List (List ℕ) → Option A → Type 0) → (A → Ending → Type 0) → Command
+only_makes {A} Makes Ends = record {
+  Answer = A;
   most = None;
   refuses = λ octets number key. ⊥;
   attaches = λ octets. Unit {0};
-  makes = λ octets pieces how. ⊥;
-  uses_air = λ octets. UsesNoAir air;
+  makes = Makes;
+  ends = Ends;
   is_unattached = λ octets interface. ⊥;
   is_spent = λ octets turns greatest end. ⊥;
 }
@@ -53,24 +58,21 @@ idle_command air = record {
 -- How a command ends that has made all its pieces
 
 -- it is done
-abbrev pub DoneBy : (List (List ℕ) → Option (Unit {0}) → Type 0) → List (List ℕ) → Option Ending → Type 0
-DoneBy Makes pieces (Some ending.Done) = Makes pieces (Some tt)
-DoneBy Makes pieces (Some other) = ⊥
-DoneBy Makes pieces None = Makes pieces None
+abbrev pub EndsDone : Unit {0} → Ending → Type 0
+EndsDone answer ending.Done = Unit {0}
+EndsDone answer other = ⊥
 
 -- `dump`: none of the lines is refused, or some are
-abbrev pub ListingEnds : List ℕ → Bool → List (List ℕ) → Option Ending → Type 0
-ListingEnds octets recode pieces (Some ending.Done) = DumpMakes octets recode pieces (Some 0)
-ListingEnds octets recode pieces (Some ending.Packets) = (refused : ℕ) × (0 < refused) × DumpMakes octets recode pieces (Some refused)
-ListingEnds octets recode pieces (Some other) = ⊥
-ListingEnds octets recode pieces None = DumpMakes octets recode pieces None
+abbrev pub ListingEnds : ℕ → Ending → Type 0
+ListingEnds refused ending.Done = refused ≡ 0
+ListingEnds refused ending.Packets = 0 < refused
+ListingEnds refused other = ⊥
 
 -- `replay`: the trace is whole, or none of a run
-abbrev pub ReplayEnds : List ℕ → List (List ℕ) → Option Ending → Type 0
-ReplayEnds octets pieces (Some ending.Done) = (lines : ℕ) × MakesOne (IsAnswerText octets) pieces (Some (Yes lines))
-ReplayEnds octets pieces (Some ending.NotARun) = (line : ℕ) × MakesOne (IsAnswerText octets) pieces (Some (No line))
-ReplayEnds octets pieces (Some other) = ⊥
-ReplayEnds octets pieces None = MakesOne (IsAnswerText octets) pieces None
+abbrev pub ReplayEnds : Replay → Ending → Type 0
+ReplayEnds answer ending.Done = (lines : ℕ) × (answer ≡ Yes lines)
+ReplayEnds answer ending.NotARun = (line : ℕ) × (answer ≡ No line)
+ReplayEnds answer other = ⊥
 
 -- What `emulate` is asked for
 
@@ -95,39 +97,52 @@ RunsSoFar octets turns told =
     ⊎ (((greatest : ℕ) × (end : ℕ) × SpendsTurns octets turns greatest end told)
     ⊎ (((interface : ℕ) × FailsToAttach octets interface told) ⊎ RunsShort octets turns told))
 
--- the command of a job that these words ask for, over an air and a clock of this use
-abbrev pub command_of : List (List ℕ) → AirUse → Job → Command
+-- The commands
+
 -- `dump`: the listing of the lines, and the line that counts
-command_of words air (job.Dump recode) = record (idle_command air) {
-  most = Some LONGEST_INPUT;
-  makes = λ octets. ListingEnds octets recode;
-}
--- `run`: the report of a run of the router, each port of which is attached
-command_of words air (job.Run turns) = record (idle_command air) {
+abbrev pub dump_command : Bool → Command
+dump_command recode = record (only_makes (λ octets. DumpMakes octets recode) ListingEnds) { most = Some LONGEST_INPUT }
+
+-- `run`: the report of a run of the router, each port of which is attached, over an air and a clock of this use
+abbrev pub run_command : ℕ → AirUse → Command
+run_command turns air = record (only_makes (λ octets. RouterRunMakes octets turns air.told) EndsDone) {
   most = Some LONGEST_SETTINGS;
   refuses = λ octets number key. FirstRunRefusal octets number key;
   attaches = λ octets. (setup : RunSetup) → StatesSetup octets setup → air.told.attached' ≡ length setup.ports;
-  makes = λ octets. DoneBy (RouterRunMakes octets turns air.told);
-  uses_air = λ octets. UsesNoAir air ⊎ RunsSoFar octets turns air.told;
   is_unattached = λ octets interface. RoseByOne air.faults air.faults' × FailsToAttach octets interface air.told;
   is_spent = λ octets count greatest end. (count ≡ turns) × SpendsTurns octets count greatest end air.told;
 }
+
 -- `emulate`: the text of an emulation
-command_of words air (job.Emulate trace send probe) = record (idle_command air) {
+abbrev pub emulate_command : Wants → Command
+emulate_command wants = record (only_makes (λ octets. EmulationMakes octets wants) EndsDone) {
   most = Some LONGEST_SETTINGS;
-  refuses = λ octets number key. IsRefused octets (wants_in words trace send probe) number key;
-  makes = λ octets. DoneBy (EmulationMakes octets (wants_in words trace send probe));
+  refuses = λ octets number key. IsRefused octets wants number key;
 }
+
 -- `emulate --make`: the text of a run of the made scenario
-command_of words air (job.Make kind routers seed) = record (idle_command air) {
-  makes = λ octets. DoneBy (MadeMakes kind routers seed);
-}
+abbrev pub make_command : Kind → ℕ → ℕ → Command
+make_command kind routers seed = only_makes (λ octets. MadeMakes kind routers seed) EndsDone
+
 -- `replay`: the line of the answer to the input
-command_of words air job.Replay = record (idle_command air) {
+abbrev pub replay_command : Command
+replay_command = record (only_makes (λ octets. MakesOne (IsAnswerText octets)) ReplayEnds) {
   most = Some LONGEST_INPUT;
   refuses = λ octets number key. IsRefusedInput octets number key;
-  makes = λ octets. ReplayEnds octets;
 }
+
+-- the command of a job that these words ask for, over an air and a clock of this use
+abbrev pub command_of : List (List ℕ) → AirUse → Job → Command
+command_of words air (job.Dump recode) = dump_command recode
+command_of words air (job.Run turns) = run_command turns air
+command_of words air (job.Emulate trace send probe) = emulate_command (wants_in words trace send probe)
+command_of words air (job.Make kind routers seed) = make_command kind routers seed
+command_of words air job.Replay = replay_command
+
+-- the use that a job made of the clock and the air, where these are the octets that it works on: none, but for `run`
+abbrev pub UsesAir : Job → AirUse → List ℕ → Type 0
+UsesAir (job.Run turns) air octets = UsesNoAir air ⊎ RunsSoFar octets turns air.told
+UsesAir other air octets = UsesNoAir air
 
 -- the command of a job in a call
 abbrev pub command_in : Call → Job → Command

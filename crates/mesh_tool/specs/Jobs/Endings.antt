@@ -1,15 +1,15 @@
 -- What was done before anything is put on err, and what is put there then.
 use Rattle.std.specs.Prelude.{◌≡◌, ◌⊎◌, ℕ, ◌+◌, List, [], take, codes, Some, IsErr}
 use Rattle.mesh_io.specs.Faults.{Rose}
-use Rattle.mesh_io.specs.Pieces.{PutsAll, PutsFront, PutsSome}
+use Rattle.mesh_io.specs.Pieces.{PutsFront, PutsSome}
 use Rattle.mesh_tool.specs.declared.jobs.ending.Ending.{Ending}
 use Rattle.mesh_tool.specs.declared.jobs.ending.Ending.TheVariants as ending
 use Rattle.mesh_tool.specs.declared.jobs.status.Status.{Status}
 use Rattle.mesh_tool.specs.declared.jobs.status.Status.TheVariants as status
 use Rattle.mesh_tool.specs.Jobs.Calls.{SourceUse, SinkUse, Call, UsesNoAir, Asks, ReadsNothing, IsInputTooLong, PutsText, PutsNothing}
-use Rattle.mesh_tool.specs.Jobs.Commands.{Command, command_in}
+use Rattle.mesh_tool.specs.Jobs.Commands.{Command, UsesAir, command_in}
 use Rattle.mesh_tool.specs.Jobs.Lines.{words_line, read_line, refused_line, attach_line, turns_line, memory_line}
-use Rattle.mesh_tool.specs.Jobs.Works.{WorksOn}
+use Rattle.mesh_tool.specs.Jobs.Works.{WorksOn, PutsWhole}
 use Rattle.mesh_tool.specs.declared.words.job.Job.{Job}
 use Rattle.mesh_tool.specs.Words.Words.{words_of}
 
@@ -27,10 +27,10 @@ StopsReading most input ending.Memory = IsNotLonger most input
 StopsReading most input other = ⊥
 
 -- what a command leaves on out, by how it ended, where these are the octets that it works on
-abbrev pub Leaves : Command → List ℕ → SinkUse → Ending → Type 0
-Leaves command octets out ending.Done = PutsAll (command.makes octets) out.content out.content' ending.Done
-Leaves command octets out ending.Packets = PutsAll (command.makes octets) out.content out.content' ending.Packets
-Leaves command octets out ending.NotARun = PutsAll (command.makes octets) out.content out.content' ending.NotARun
+unfoldable pub Leaves : Command → List ℕ → SinkUse → Ending → Type 0
+Leaves command octets out ending.Done = PutsWhole command octets out ending.Done
+Leaves command octets out ending.Packets = PutsWhole command octets out ending.Packets
+Leaves command octets out ending.NotARun = PutsWhole command octets out ending.NotARun
 Leaves command octets out (ending.Refused number key) = command.refuses octets number key × PutsNothing out
 Leaves command octets out ending.Write = PutsFront (command.makes octets) out.content out.content' out.faults out.faults'
 Leaves command octets out ending.Memory = PutsSome (command.makes octets) out.content out.content'
@@ -38,15 +38,13 @@ Leaves command octets out (ending.Attach interface) = command.is_unattached octe
 Leaves command octets out (ending.Turns turns moment end) = command.is_spent octets turns moment end × PutsNothing out
 Leaves command octets out other = ⊥
 
--- what a command did with the octets that it works on: what it left on out, and how it used the clock and the air
-abbrev pub Works : Command → List ℕ → SinkUse → Ending → Type 0
-Works command octets out how = Leaves command octets out how × command.uses_air octets
-
--- what was read and put for a job: its input wasn't read whole, and nothing was put; or it worked on its octets
+-- what was read and put for a job: its input wasn't read whole, and nothing was put; or it worked on its octets, and left on out and used
+-- of the clock and the air what its command says
 pub data DoesJob (job : Job) (call : Call) (how : Ending) : Type 0 where
   Unread : (most : ℕ) → (command_in call job).most ≡ Some most → StopsReading most call.input how → PutsNothing call.out →
       UsesNoAir call.air → DoesJob job call how
-  Worked : (octets : List ℕ) → WorksOn job call octets → Works (command_in call job) octets call.out how → DoesJob job call how
+  Worked : (octets : List ℕ) → WorksOn job call octets → Leaves (command_in call job) octets call.out how → UsesAir job call.air octets →
+      DoesJob job call how
 
 -- what was read and put: nothing, where the words are no command line; else what their job asks for
 pub data Does (call : Call) (how : Ending) : Type 0 where

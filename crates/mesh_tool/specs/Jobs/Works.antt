@@ -1,7 +1,7 @@
 -- What a call did for the job that its words ask for.
 use Rattle.std.specs.Prelude.{◌≡◌, ℕ, ◌≤◌, List, [], length, Option, Some, None, codes}
 use Rattle.mesh_io.specs.Pieces.{PutsAll, PutsFront, PutsSome}
-use Rattle.mesh_tool.specs.Jobs.Calls.{SourceUse, Call, IsInputTooLong, IsWorkedOn, PutsNothing}
+use Rattle.mesh_tool.specs.Jobs.Calls.{SourceUse, SinkUse, Call, IsInputTooLong, IsWorkedOn, PutsNothing}
 use Rattle.mesh_tool.specs.Jobs.Commands.{Command, command_in}
 use Rattle.mesh_tool.specs.declared.jobs.ending.Ending.{Ending}
 use Rattle.mesh_tool.specs.declared.words.job.Job.{Job}
@@ -16,9 +16,13 @@ pub data Refuses (job : Job) (call : Call) : ℕ → List ℕ → Type 0 where
   By_rule : {number : ℕ} {key : List ℕ} (octets : List ℕ) → WorksOn job call octets → (command_in call job).refuses octets number key →
       Refuses job call number key
 
--- the command refuses none of these octets, and can come to its end
+-- the command doesn't refuse these octets
+abbrev pub IsUnrefused : Command → List ℕ → Type 0
+IsUnrefused command octets = (number : ℕ) (key : List ℕ) → command.refuses octets number key → ⊥
+
+-- the command doesn't refuse these octets, and can come to its end
 abbrev pub TakesOctets : Command → List ℕ → Type 0
-TakesOctets command octets = ((number : ℕ) (key : List ℕ) → command.refuses octets number key → ⊥) × command.attaches octets
+TakesOctets command octets = IsUnrefused command octets × command.attaches octets
 
 -- the source tells what it has left, which is no more than the most, and the command takes it; or nothing is read
 abbrev pub TakesUpTo : Option ℕ → Command → SourceUse → Type 0
@@ -31,11 +35,17 @@ TakesInput job call = TakesUpTo (command_in call job).most (command_in call job)
 
 -- What is written on out
 
+-- all pieces of the output of a command that doesn't refuse these octets were put, and it ends in this way
+abbrev pub PutsWhole : Command → List ℕ → SinkUse → Ending → Type 0
+PutsWhole command octets out how =
+    (answer : command.Answer) × PutsAll (command.makes octets) out.content out.content' answer × command.ends answer how
+    × IsUnrefused command octets
+
 -- all pieces of the job's output were put on out, and so it ended
 pub record Finishes (call : Call) (job : Job) (how : Ending) : Type 0 where
   pub octets : List ℕ
   pub works_on : WorksOn job call octets
-  pub puts : PutsAll ((command_in call job).makes octets) call.out.content call.out.content' how
+  pub puts : PutsWhole (command_in call job) octets call.out how
 
 -- what was put on out where an allocation failed: nothing, where the input wasn't read whole; else some first pieces
 pub data StopsShort (call : Call) (job : Job) : Type 0 where

@@ -4,8 +4,9 @@ ghost use Rattle.mesh_atoms.specs.Settings.{IsCount};
 ghost use Rattle.std.specs.Option.{option_copied};
 ghost use Rattle.mesh_emulate.specs.Wants.{packet_of, wants_of};
 ghost use Rattle.mesh_tool.specs.Jobs.Calls.{SinkUse, AirUse, source_use, sink_use, air_use, IsInput};
-ghost use Rattle.mesh_tool.specs.Jobs.Commands.{command_of, word_at, packet_in, wants_in};
-ghost use Rattle.mesh_tool.specs.Jobs.Endings.{StopsReading, Leaves, Works, DoesJob, Does};
+ghost use Rattle.mesh_tool.specs.Jobs.Commands.{word_at, packet_in, wants_in};
+ghost use Rattle.mesh_tool.specs.Jobs.Commands.{dump_command, run_command, emulate_command, make_command, replay_command, command_of, UsesAir};
+ghost use Rattle.mesh_tool.specs.Jobs.Endings.{StopsReading, Leaves, DoesJob, Does};
 ghost use Rattle.mesh_tool.specs.Words.CommandLines.{IsJobInRange};
 ghost use Rattle.mesh_tool.specs.Words.Words.{texts};
 
@@ -39,9 +40,9 @@ fn read_input<S: Source>(alloc: Global, input: &mut S, most: usize) -> Result<By
 }
 
 // Lists the lines of these octets.
+#[tactic(auto, unfolding(crate::specs::Jobs::Endings::Leaves))]
 fn list<O: Sink>(alloc: Global, octets: &[u8], recode: bool, out: &mut O) -> Ending
-    ensures leaves { (words : List (List ℕ)) (air : AirUse) → Leaves (command_of words air (Job.Dump recode)) octets.now
-        (sink_use O.content O.faults out.old out.new) result }
+    ensures leaves { Leaves (dump_command recode) octets.now (sink_use O.content O.faults out.old out.new) result }
     ensures later { O.faults out.old ≤ O.faults out.new }
 {
     match mesh_dump::dump(alloc, octets, recode, out) {
@@ -92,20 +93,13 @@ fn wanted<'a>(
 }
 
 // Emulates the network that these octets state.
-fn emulate<B: Bases, O: Sink>(
-    alloc: Global,
-    words: &[String],
-    octets: &[u8],
-    trace: bool,
-    send: Option<(usize, Addr4)>,
-    probe: Option<usize>,
-    out: &mut O,
-) -> Ending
-    ensures leaves { (air : AirUse) → Leaves (command_of (texts words.now) air (Job.Emulate trace send probe)) octets.now
+#[tactic(auto, unfolding(crate::specs::Jobs::Endings::Leaves))]
+fn emulate<B: Bases, O: Sink>(alloc: Global, octets: &[u8], wanted: &Wanted, out: &mut O) -> Ending
+    ensures leaves { Leaves (emulate_command (wants_of wanted.now)) octets.now
         (sink_use O.content O.faults out.old out.new) result }
     ensures later { O.faults out.old ≤ O.faults out.new }
 {
-    match mesh_emulate::emulate::<B, O>(alloc, octets, &wanted(words, trace, send, probe), out) {
+    match mesh_emulate::emulate::<B, O>(alloc, octets, wanted, out) {
         Ok(()) => Ending::Done,
         Err(EmulateFault::Refused { number, key }) => Ending::Refused { number, key },
         Err(EmulateFault::Stopped(Stop::Write)) => Ending::Write,
@@ -114,6 +108,7 @@ fn emulate<B: Bases, O: Sink>(
 }
 
 // Runs the router that these octets state.
+#[tactic(auto, unfolding(crate::specs::Jobs::Endings::Leaves))]
 fn run<B: Bases, O: Sink, A: Air, C: Clock>(
     alloc: Global,
     octets: &[u8],
@@ -123,9 +118,11 @@ fn run<B: Bases, O: Sink, A: Air, C: Clock>(
     clock: &mut C,
 ) -> Ending
     requires { A.attached air.old ≡ 0 }
-    ensures works { (words : List (List ℕ)) → Works
-        (command_of words (air_use C.moments clock.old clock.new A.reports A.attached A.faults air.old air.new) (Job.Run turns)) octets.now
+    ensures leaves { Leaves
+        (run_command turns (air_use C.moments clock.old clock.new A.reports A.attached A.faults air.old air.new)) octets.now
         (sink_use O.content O.faults out.old out.new) result }
+    ensures uses_air { UsesAir (Job.Run turns)
+        (air_use C.moments clock.old clock.new A.reports A.attached A.faults air.old air.new) octets.now }
     ensures later { O.faults out.old ≤ O.faults out.new }
     ensures later_air { A.faults air.old ≤ A.faults air.new }
 {
@@ -140,6 +137,7 @@ fn run<B: Bases, O: Sink, A: Air, C: Clock>(
 }
 
 // Emulates a made network.
+#[tactic(auto, unfolding(crate::specs::Jobs::Endings::Leaves))]
 fn make<B: Bases, O: Sink>(
     alloc: Global,
     kind: Kind,
@@ -149,7 +147,7 @@ fn make<B: Bases, O: Sink>(
 ) -> Ending
     requires count { IsCount 2 64 routers }
     requires seed { seed ≤ 4294967295 }
-    ensures leaves { (words : List (List ℕ)) (air : AirUse) (octets : List ℕ) → Leaves (command_of words air (Job.Make kind routers seed)) octets
+    ensures leaves { (octets : List ℕ) → Leaves (make_command kind routers seed) octets
         (sink_use O.content O.faults out.old out.new) result }
     ensures later { O.faults out.old ≤ O.faults out.new }
 {
@@ -161,9 +159,9 @@ fn make<B: Bases, O: Sink>(
 }
 
 // Says whether the trace that these octets have is that of a run.
+#[tactic(auto, unfolding(crate::specs::Jobs::Endings::Leaves))]
 fn replay<B: Bases, O: Sink>(alloc: Global, octets: &[u8], out: &mut O) -> Ending
-    ensures leaves { (words : List (List ℕ)) (air : AirUse) → Leaves (command_of words air Job.Replay) octets.now
-        (sink_use O.content O.faults out.old out.new) result }
+    ensures leaves { Leaves replay_command octets.now (sink_use O.content O.faults out.old out.new) result }
     ensures later { O.faults out.old ≤ O.faults out.new }
 {
     match mesh_replay::replay_input::<B, O>(alloc, octets, out) {
@@ -187,8 +185,9 @@ fn work_on<B: Bases, O: Sink, A: Air, C: Clock>(
 ) -> Ending
     requires unattached { A.attached air.old ≡ 0 }
     requires range { IsJobInRange job }
-    ensures works { Works (command_of (texts words.now) (air_use C.moments clock.old clock.new A.reports A.attached A.faults air.old air.new)
+    ensures leaves { Leaves (command_of (texts words.now) (air_use C.moments clock.old clock.new A.reports A.attached A.faults air.old air.new)
         job) octets.now (sink_use O.content O.faults out.old out.new) result }
+    ensures uses_air { UsesAir job (air_use C.moments clock.old clock.new A.reports A.attached A.faults air.old air.new) octets.now }
     ensures later_out { O.faults out.old ≤ O.faults out.new }
     ensures later_air { A.faults air.old ≤ A.faults air.new }
 {
@@ -196,7 +195,7 @@ fn work_on<B: Bases, O: Sink, A: Air, C: Clock>(
         Job::Dump { recode } => list(alloc, octets, recode, out),
         Job::Run { turns } => run::<B, O, A, C>(alloc, octets, turns, out, air, clock),
         Job::Emulate { trace, send, probe } => {
-            emulate::<B, O>(alloc, words, octets, trace, send, probe, out)
+            emulate::<B, O>(alloc, octets, &wanted(words, trace, send, probe), out)
         }
         Job::Make {
             kind,

@@ -1,29 +1,16 @@
-use Rattle.std.proofs.Common.{Err, ap, ◌∙◌, subst}
-use Rattle.mesh_emulate.specs.Emulation.{EmulationMakes, IsRefused}
-use Rattle.mesh_emulate.specs.Wants.{Wants}
-use Rattle.mesh_emulate.specs.declared.emulation.EmulateFault.TheVariants.{Stopped}
-use Rattle.mesh_io.specs.Pieces.{PutsAll, PutsFront, PutsSome}
-use Rattle.mesh_tool.specs.Jobs.Commands.{wants_in}
-use Rattle.mesh_tool.specs.Words.Words.{texts}
-use Rattle.mesh_tool.proofs.JobsLemmas.Outputs.{done_front}
+use Rattle.std.proofs.Common.{Err, ap}
+use Rattle.mesh_emulate.proofs.Refusals.{emulated_not_refused}
+use Rattle.mesh_emulate.specs.Wants.{wants_of}
+use Rattle.mesh_tool.specs.Jobs.Endings.{Leaves}
 use Rattle.mesh_tool.proofs.jobs.jobs.emulate.Goals as goal
 
 pub returns-in-Ok-clause-leaves : goal.returns-in-Ok-clause-leaves
-returns-in-Ok-clause-leaves g c = λ air.
-    subst (λ (w : Wants). PutsAll (EmulationMakes c.args.octets.now w) (g.O.Sink.content c.args.out.now) (g.O.Sink.content c.emulate.new.out) tt) c.wanted.ensures c.in-Ok.ensures.done
+unfolding Leaves
+returns-in-Ok-clause-leaves g c =
+    let done = c.in-Ok.ensures.done in
+    (tt, done, tt, λ number key refused. emulated_not_refused c.args.octets.now (wants_of c.args.wanted.now) done.1.0 number key refused)
 
 pub returns-in-Err-Refused-clause-leaves : goal.returns-in-Err-Refused-clause-leaves
-returns-in-Err-Refused-clause-leaves g c = λ air.
-    let refused = c.in-Err-Refused.ensures.refused c.in-Err-Refused.number c.in-Err-Refused.key (ap (λ fault. Err fault) c.in-Err-Refused.field-0-is) in
-    (subst (λ (w : Wants). IsRefused c.args.octets.now w c.in-Err-Refused.number c.in-Err-Refused.key) c.wanted.ensures refused.0, refused.1)
-
-pub returns-in-Err-Stopped-Write-clause-leaves : goal.returns-in-Err-Stopped-Write-clause-leaves
-returns-in-Err-Stopped-Write-clause-leaves g c = λ air.
-    let cut = c.in-Err-Stopped-Write.ensures.write (ap (λ fault. Err fault) (c.in-Err-Stopped-Write.field-0-is ∙ ap (λ stop. Stopped stop) c.in-Err-Stopped-Write.field-0-0-is)) in
-    done_front (EmulationMakes c.args.octets.now (wants_in (texts c.args.words.now) c.args.trace c.args.send c.args.probe)) _ _ _ _
-    (subst (λ (w : Wants). PutsFront (EmulationMakes c.args.octets.now w) (g.O.Sink.content c.args.out.now) (g.O.Sink.content c.emulate.new.out) (g.O.Sink.faults c.args.out.now) (g.O.Sink.faults c.emulate.new.out)) c.wanted.ensures cut)
-
-pub returns-in-Err-Stopped-Memory-clause-leaves : goal.returns-in-Err-Stopped-Memory-clause-leaves
-returns-in-Err-Stopped-Memory-clause-leaves g c = λ air.
-    let first = c.in-Err-Stopped-Memory.ensures.memory (ap (λ fault. Err fault) (c.in-Err-Stopped-Memory.field-0-is ∙ ap (λ stop. Stopped stop) c.in-Err-Stopped-Memory.field-0-0-is)) in
-    subst (λ (w : Wants). PutsSome (EmulationMakes c.args.octets.now w) (g.O.Sink.content c.args.out.now) (g.O.Sink.content c.emulate.new.out)) c.wanted.ensures first
+unfolding Leaves
+returns-in-Err-Refused-clause-leaves g c =
+    c.in-Err-Refused.ensures.refused c.in-Err-Refused.number c.in-Err-Refused.key (ap (λ fault. Err fault) c.in-Err-Refused.field-0-is)
