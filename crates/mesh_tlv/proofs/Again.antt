@@ -1,5 +1,6 @@
 -- What is spelled so is read, whatever follows, and a first fault is the one that is answered.
 use Rattle.std.proofs.Common.{◌≡◌, ℕ, ◌+◌, ◌-◌, ◌%◌, ◌<◌, ◌≤◌, Bool, true, false, cond, ltb, ◌||◌, List, [], ◌∷◌, ◌++◌, length, Option, Some, None, Ok, refl, sym, ap, subst, ◌∙◌, arith, inl, inr, ◌⊎◌, append_assoc}
+use Rattle.std.proofs.lemmas.Grind.{common_steps}
 use Rattle.std.specs.Prelude.{slice_range}
 use Rattle.std.proofs.lemmas.Bool.{le-ltb, lt-ltb, le-leb, lt-leb, ne_eqb}
 use Rattle.std.proofs.lemmas.List.{length-append}
@@ -72,24 +73,9 @@ value_again flags first last s at end (Some text) bytes rest false wide le fits 
 -- ---- a whole TLV
 
 not_broken : (barred count : ℕ) (tlv : AddrTlvFields) (bytes : List ℕ) (h : SpellsTlvOf barred count tlv bytes) → IsBroken barred h.flags → ⊥
-not_broken barred count tlv bytes h (two_indexes s m) = no_two (has h.flags 64) (has h.flags 32) s m h.index_is where
-  no_two : (a b : Bool) → a ≡ true → b ≡ true → SpellsIndex a b count tlv.first tlv.last h.index → ⊥
-  no_two true true p q k = k
-  no_two true false p q k = absurd cc
-  no_two false b p q k = absurd cc
-not_broken barred count tlv bytes h (wide_nothing w v) = no_wide (has h.flags 16) (has h.flags 8) tlv.value v w h.value_is where
-  no_wide : (a b : Bool) (o : Option (List ℕ)) → a ≡ false → b ≡ true → SpellsValue a b o h.value → ⊥
-  no_wide true b o p q k = absurd cc
-  no_wide false true (Some text) p q k = k
-  no_wide false true None p q k = k
-  no_wide false false o p q k = absurd cc
-not_broken barred count tlv bytes h (multi_nothing p v) = no_multi (has h.flags 4) (has h.flags 16) (has h.flags 8) tlv.value p v h.equal_parts h.value_is where
-  no_multi : (m a b : Bool) (o : Option (List ℕ)) → m ≡ true → a ≡ false → HasEqualParts m tlv.first tlv.last o → SpellsValue a b o h.value → ⊥
-  no_multi m true b o p q d k = absurd cc
-  no_multi m false b (Some text) p q d k = no_value b k where
-    no_value : (b : Bool) → SpellsValue false b (Some text) h.value → ⊥
-    no_value b k = k
-  no_multi m false b None p q d k = absurd cc
+not_broken barred count tlv bytes h (two_indexes s m) = grind (arith, common_steps)
+not_broken barred count tlv bytes h (wide_nothing w v) = grind (arith, common_steps)
+not_broken barred count tlv bytes h (multi_nothing p v) = grind (arith, common_steps)
 not_broken barred count tlv bytes h (not_taken other) = other h.not_barred
 
 pub tlv_of_again : (barred count : ℕ) (s : List ℕ) (at end : ℕ) (tlv : AddrTlvFields) (bytes rest : List ℕ) → at ≤ end → end ≤ length s → SpellsTlvOf barred count tlv bytes → slice_range s at end ≡ bytes ++ rest → tlv_of_at barred count s at end ≡ Ok (tlv, at + length bytes)

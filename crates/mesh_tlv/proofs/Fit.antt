@@ -1,11 +1,11 @@
 -- What is read of an address block's TLVs can be written.
-use Rattle.std.proofs.Common.{ℕ, ◌<◌, ◌≤◌, Bool, true, false, List, [], ◌∷◌, sym, subst, arith}
+use Rattle.std.proofs.Common.{ℕ, ◌<◌, ◌≤◌, Bool, true, false, List, [], ◌∷◌, arith}
+use Rattle.std.proofs.lemmas.Grind.{common_steps}
 use Rattle.std.specs.Prelude.{All}
 use Rattle.std.proofs.lemmas.List.Elements.{All-nil, All-cons}
-use Rattle.mesh_atoms.specs.Reading.{has}
 use Rattle.mesh_tlv.specs.Fields.{AddrTlvFields}
 use Rattle.mesh_tlv.specs.Items.{SpellsItems}
-use Rattle.mesh_tlv.specs.Grammar.{SpellsIndex, HasEqualParts, SpellsAddrTlv}
+use Rattle.mesh_tlv.specs.Grammar.{SpellsIndex, SpellsAddrTlv}
 use Rattle.mesh_tlv.specs.Least.{IsFit}
 
 index_fit : (single several : Bool) (count first last : ℕ) (text : List ℕ) → 0 < count → SpellsIndex single several count first last text → (first ≤ last) × (last < count)
@@ -15,9 +15,7 @@ index_fit false false count first last text pos h = (omega (arith, h.0), omega (
 index_fit true true count first last text pos h = absurd h
 
 tlv_fit : (count : ℕ) (tlv : AddrTlvFields) (bytes : List ℕ) → 0 < count → SpellsAddrTlv count tlv bytes → IsFit count tlv
-tlv_fit count tlv bytes pos h =
-    let index = index_fit (has h.flags 64) (has h.flags 32) count tlv.first tlv.last h.index pos h.index_is in
-    (index.0, index.1, subst (λ (b : Bool). HasEqualParts b tlv.first tlv.last tlv.value) (sym h.multi_is) h.equal_parts)
+tlv_fit count tlv bytes pos h = grind (arith, common_steps, index_fit)
 
 pub all_fit : (count : ℕ) (tlvs : List AddrTlvFields) (bytes : List ℕ) → 0 < count → SpellsItems (SpellsAddrTlv count) tlvs bytes → All (IsFit count) tlvs
 all_fit count [] bytes pos h = All-nil (IsFit count)

@@ -1,5 +1,6 @@
 -- How long the items of a list are written.
-use Rattle.std.proofs.Common.{◌≡◌, ℕ, zero, suc, ◌+◌, ◌<◌, ◌≤◌, ◌++◌, ◌∙◌, [], ◌∷◌, append_assoc, sym, subst, List, length, map, take, get_or, Option, Some, None, refl, ap, arith, inl, inr}
+use Rattle.std.proofs.Common.{◌≡◌, ℕ, zero, suc, ◌+◌, ◌<◌, ◌≤◌, ◌++◌, ◌∙◌, [], ◌∷◌, append_assoc, sym, List, length, map, take, get_or, Option, Some, None, refl, arith, inl, inr}
+use Rattle.std.proofs.lemmas.Grind.{common_steps}
 use Rattle.std.specs.List.{flat_map}
 use Rattle.std.proofs.lemmas.Bool.{lt-ltb}
 use Rattle.std.proofs.lemmas.List.{length-append, append-nil}
@@ -32,13 +33,11 @@ tlv_longer tlv h = addr_tlv_longer 1 (indexed tlv) h
 
 pub block_longer : {A : Type 0} (least : A → List ℕ) (value : A → Option (List ℕ)) → ((tlv : A) → HasLongValue (value tlv) → IsLong (least tlv)) → (tlvs : List A) → AreTooLong least value tlvs → IsLong (flat_map least tlvs)
 block_longer least value longer tlvs (inl long) = long
-block_longer least value longer tlvs (inr any) =
-    omega (arith, length-flat_map-take least tlvs any.0 any.1 any.2, ap (λ tlv. length (least tlv)) any.3, longer any.1 any.4)
+block_longer least value longer tlvs (inr any) = grind (arith, common_steps, length-flat_map-take)
 
 written_next : {A B : Type 0} (view : A → B) (least : B → List ℕ) (xs : List A) (i : ℕ) (d : A) (old out new : List ℕ) → i < length xs
     → out ≡ old ++ flat_map least (map view (take i xs)) → new ≡ out ++ least (view (get_or xs i d)) → new ≡ old ++ flat_map least (map view (take (suc i) xs))
-written_next view least (x ∷ xs) zero d old out new lt before is =
-    is ∙ ap (λ (l : List ℕ). l ++ least (view x)) (before ∙ append-nil old) ∙ ap (λ (l : List ℕ). old ++ l) (sym (append-nil (least (view x))))
+written_next view least (x ∷ xs) zero d old out new lt before is = grind (arith, common_steps, append-nil)
 written_next view least (x ∷ xs) (suc i) d old out new lt before is =
     written_next view least xs i d (old ++ least (view x)) out new (omega (arith, lt)) (before ∙ sym (append_assoc old (least (view x)) (flat_map least (map view (take i xs))))) is
     ∙ append_assoc old (least (view x)) (flat_map least (map view (take (suc i) xs)))
@@ -47,9 +46,7 @@ written_next view least [] i d old out new lt before is = absurd (omega (arith, 
 -- one item more, written behind those before it
 pub item_written : {A B : Type 0} (view : A → B) (least : B → List ℕ) (xs : List A) (i : ℕ) (d : A) (old out new : List ℕ) → i < length xs
     → out ≡ old ++ flat_map least (map view (take i xs)) → new ≡ out ++ least (view (get_or xs i d)) → new ≡ old ++ flat_map least (map view (take (i + 1) xs))
-item_written view least xs i d old out new lt before is =
-    let next : suc i ≡ i + 1 = omega arith in
-    subst (λ (n : ℕ). new ≡ old ++ flat_map least (map view (take n xs))) next (written_next view least xs i d old out new lt before is)
+item_written view least xs i d old out new lt before is = grind (arith, common_steps, written_next)
 
 -- packet or message TLVs, written as those of a block of one address
 pub written_indexed : (tlvs : List Tlv) → flat_map (least_addr_tlv 1) (map (λ tlv. indexed (fields tlv)) tlvs) ≡ flat_map least_tlv (map fields tlvs)

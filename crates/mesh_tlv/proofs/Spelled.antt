@@ -1,5 +1,6 @@
 -- The least form is a spelling.
-use Rattle.std.proofs.Common.{◌≡◌, ℕ, ◌+◌, ◌/◌, ◌%◌, ◌<◌, ◌≤◌, Bool, true, false, not, ◌&&◌, eqb, ltb, bit_and, List, [], ◌∷◌, ◌++◌, length, Option, Some, None, refl, sym, ap, subst, arith, append_assoc}
+use Rattle.std.proofs.Common.{◌≡◌, ℕ, ◌+◌, ◌/◌, ◌%◌, ◌<◌, ◌≤◌, Bool, true, false, not, ◌&&◌, eqb, ltb, bit_and, List, [], ◌∷◌, ◌++◌, length, Option, Some, None, refl, sym, arith}
+use Rattle.std.proofs.lemmas.Grind.{common_steps}
 use Rattle.std.specs.Prelude.{All}
 use Rattle.std.specs.List.{flat_map}
 use Rattle.std.specs.Int.Bits.{and_zero_r}
@@ -12,7 +13,7 @@ use Rattle.mesh_tlv.proofs.Trying.{both, both_is, same, same_is}
 use Rattle.mesh_tlv.specs.Fields.{TlvFields, AddrTlvFields, indexed}
 use Rattle.mesh_tlv.specs.Items.{SpellsItems}
 use Rattle.mesh_tlv.specs.Grammar.{SpellsExtension, SpellsIndex, SpellsLength, SpellsValue, HasEqualParts, SpellsTlvOf, SpellsTlv, SpellsAddrTlv, SpellsTlvs, SpellsTlvBlock, SpellsAddrTlvBlock}
-use Rattle.mesh_tlv.specs.Least.{IsFit, flag, octet_if, is_single, is_several, has_value, is_wide, least_flags, least_index, least_head, least_short, least_length, least_value, least_addr_tlv, least_tlv, least_block}
+use Rattle.mesh_tlv.specs.Least.{IsFit, flag, octet_if, has_value, is_wide, least_flags, least_head, least_short, least_length, least_value, least_addr_tlv, least_tlv, least_block}
 
 -- ---- each flag is told from the sum of the flags, by trying all sums
 
@@ -82,27 +83,7 @@ value_spelled (Some text) = (least_length (length text), length_spelled (length 
 
 tlv_of_spelled : (barred count : ℕ) (tlv : AddrTlvFields) → IsFit count tlv → bit_and (least_flags count tlv) barred ≡ 0 → SpellsTlvOf barred count tlv (least_addr_tlv count tlv)
 unfolding least_head least_flags
-tlv_of_spelled barred count tlv fit free =
-    let a = not (eqb tlv.ext 0) in
-    let b = is_single count tlv.first tlv.last in
-    let c = is_several count tlv.first tlv.last in
-    let d = has_value tlv.value in
-    let e = is_wide tlv.value in
-    let ext : List ℕ = octet_if a tlv.ext in
-    let index : List ℕ = least_index count tlv.first tlv.last in
-    record {
-      flags = flags_of a b c d e tlv.multi;
-      ext = ext;
-      index = index;
-      value = least_value tlv.value;
-      not_barred = free;
-      ext_is = subst (λ (x : Bool). SpellsExtension x tlv.ext ext) (sym (tells_128 a b c d e tlv.multi)) (ext_spelled tlv.ext (eqb tlv.ext 0) refl);
-      index_is = subst (λ (x : Bool). SpellsIndex x (has (flags_of a b c d e tlv.multi) 32) count tlv.first tlv.last index) (sym (tells_64 a b c d e tlv.multi)) (subst (λ (x : Bool). SpellsIndex b x count tlv.first tlv.last index) (sym (tells_32 a b c d e tlv.multi)) (index_spelled count tlv.first tlv.last fit.0 fit.1 (eqb tlv.first 0) (eqb (tlv.last + 1) count) (eqb tlv.first tlv.last) refl refl refl));
-      value_is = subst (λ (x : Bool). SpellsValue x (has (flags_of a b c d e tlv.multi) 8) tlv.value (least_value tlv.value)) (sym (tells_16 a b c d e tlv.multi)) (subst (λ (x : Bool). SpellsValue d x tlv.value (least_value tlv.value)) (sym (tells_8 a b c d e tlv.multi)) (value_spelled tlv.value));
-      multi_is = sym (tells_4 a b c d e tlv.multi);
-      equal_parts = subst (λ (x : Bool). HasEqualParts x tlv.first tlv.last tlv.value) (sym (tells_4 a b c d e tlv.multi)) fit.2;
-      whole = ap (λ (l : List ℕ). tlv.kind ∷ (flags_of a b c d e tlv.multi ∷ l)) (append_assoc ext index (least_value tlv.value));
-    }
+tlv_of_spelled barred count tlv fit free = grind (arith, common_steps, tells_128, ext_spelled, tells_64, tells_32, index_spelled, tells_16, tells_8, value_spelled, tells_4)
 
 pub addr_tlv_spelled : (count : ℕ) (tlv : AddrTlvFields) → IsFit count tlv → SpellsTlvOf 0 count tlv (least_addr_tlv count tlv)
 addr_tlv_spelled count tlv fit = tlv_of_spelled 0 count tlv fit (and_zero_r (least_flags count tlv))
