@@ -7,11 +7,7 @@ use Rattle.std.proofs.lemmas.List.{take-take, drop-take, drop-drop, drop-replica
 use Rattle.std.proofs.lemmas.Bool.{not-false}
 use Rattle.mesh_atoms.proofs.Options.{not_both}
 use Rattle.mesh_addr.specs.declared.records.RawAddr.{RawAddr}
-use Rattle.mesh_addr.specs.declared.choices.Choice.{Choice}
-use Rattle.mesh_addr.specs.declared.choices.Limits.{Limits}
-use Rattle.mesh_addr.specs.declared.choices.TailForm.{TailForm}
-use Rattle.mesh_addr.specs.declared.choices.TailForm.TheVariants as tails
-use Rattle.mesh_addr.specs.Spelling.{tail_len, ShareTail, EndsInZeros, TailFits, IsPossible, IsLimit, AreLimits, IsTailWithin, IsWithinLimits}
+use Rattle.mesh_addr.specs.Spelling.{EndsInZeros, IsLimit}
 use Rattle.mesh_addr.proofs.Padding.{zeros}
 
 -- what a test for a difference told
@@ -49,24 +45,3 @@ tails_less xs ys w n m le le' e = last_less xs w n m le le' ∙ ap (drop (m - n)
 
 pub zeros_less : (a : RawAddr) (w n m : ℕ) → n ≤ m → m ≤ w → EndsInZeros w a m → EndsInZeros w a n
 zeros_less a w n m le le' e = last_less a.octets w n m le le' ∙ ap (drop (m - n)) e ∙ drop-replicate {X = ℕ} (m - n) m 0 ∙ ap zeros (omega arith)
-
--- what is within the limits is possible
-pub within_possible : (w : ℕ) (first : RawAddr) (addrs : List RawAddr) (limits : Limits) → AreLimits w first addrs limits → (choice : Choice) → IsWithinLimits w limits choice → IsPossible w first addrs choice
-within_possible w first addrs limits h choice k = record { fits = k.fits; heads = h.heads.below choice.head k.head; tails = shared choice.tail k.tail; zeros = fit choice.tail k.tail } where
-  shared : (t : TailForm) → IsTailWithin limits t → ShareTail w first addrs (tail_len t)
-  shared tails.Absent le = h.tails.below 0 (omega arith)
-  shared (tails.Zeros n) le = h.tails.below n (omega (arith, le, h.zeros.within))
-  shared (tails.Full n) le = h.tails.below n le
-
-  fit : (t : TailForm) → IsTailWithin limits t → TailFits w first t
-  fit tails.Absent le = tt
-  fit (tails.Zeros n) le = h.zeros.below n le
-  fit (tails.Full n) le = tt
-
--- what is possible is within the limits
-pub possible_within : (w : ℕ) (first : RawAddr) (addrs : List RawAddr) (limits : Limits) → AreLimits w first addrs limits → (choice : Choice) → IsPossible w first addrs choice → IsWithinLimits w limits choice
-possible_within w first addrs limits h choice k = record { fits = k.fits; head = h.heads.greatest choice.head (omega (arith, k.fits)) k.heads; tail = small choice.tail k.fits k.tails k.zeros } where
-  small : (t : TailForm) → choice.head + tail_len t ≤ w → ShareTail w first addrs (tail_len t) → TailFits w first t → IsTailWithin limits t
-  small tails.Absent le shared fit = tt
-  small (tails.Zeros n) le shared fit = h.zeros.greatest n (h.tails.greatest n (omega (arith, le)) shared) fit
-  small (tails.Full n) le shared fit = h.tails.greatest n (omega (arith, le)) shared

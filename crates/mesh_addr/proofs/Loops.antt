@@ -34,10 +34,6 @@ parts_done limit i place end size total le so_far = grind (arith, common_steps)
 abbrev pub with_front : List RawAddr → Result (List RawAddr × ℕ) Refusal → Result (List RawAddr × ℕ) Refusal
 with_front front read = read >>= λ x. Ok (front ++ x.0, x.1)
 
-pub none_before : (read : Result (List RawAddr × ℕ) Refusal) → with_front [] read ≡ read
-none_before (Ok x) = refl
-none_before (Err f) = refl
-
 regroup : (front : List RawAddr) (a : RawAddr) (read : Result (List RawAddr × ℕ) Refusal) → with_front front (read >>= λ x. Ok (a ∷ x.0, x.1)) ≡ with_front (front ++ a ∷ []) read
 regroup front a (Ok x) = ap (λ (l : List RawAddr). Ok (l, x.1)) (simp append_assoc)
 regroup front a (Err f) = refl

@@ -39,10 +39,6 @@ gathers_more xs P n e old new at so_far adds a = (
   λ s. (adds a).1 (elim (below_cases xs (λ x. P x a) n e at s) [ inl h ↦ inl ((so_far a).1 h) | inr h ↦ inr h ]),
 )
 
--- nothing is gathered before the first place
-pub gathers_none : {E A : Type 0} (xs : List E) (P : E → A → Type 0) (a : A) → Contains [] a ↔ SomeBelow xs 0 (λ x. P x a)
-gathers_none xs P a = (λ c. absurd (omega (arith, c.1)), λ s. absurd (omega (arith, s.2)))
-
 -- an element that is at a place is one of the list
 pub below_contains : {E : Type 0} (xs : List E) (P : E → Type 0) → SomeBelow xs (length xs) P ↔ ((e : E) × Contains xs e × P e)
 below_contains xs P = grind (arith, common_steps, get_or_from_slice_get, slice_get_cases, get_or)
@@ -105,10 +101,6 @@ adds_more xs P n e first old new at so_far adds a = (
     | inr s ↦ elim (below_cases xs (λ x. P x a) n e at s) [ inl b ↦ inl ((so_far a).1 (inr b)) | inr p ↦ inr p ]
   ]),
 )
-
--- a walk that has taken no step
-pub adds_none : {E A : Type 0} (xs : List E) (P : E → A → Type 0) (list : List A) → Gathers list list (λ a. SomeBelow xs 0 (λ x. P x a))
-adds_none xs P list a = (λ c. inl c, λ h. elim h [ inl c ↦ c | inr s ↦ absurd (omega (arith, s.2)) ])
 
 -- what is added, said otherwise
 pub adds_so : {A : Type 0} (old new : List A) (P Q : A → Type 0) → ((a : A) → P a ↔ Q a) → Gathers old new P → Gathers old new Q

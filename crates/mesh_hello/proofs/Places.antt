@@ -1,9 +1,9 @@
 -- Elements of lists by their places.
-use Rattle.std.proofs.Common.{◌≡◌, ℕ, zero, suc, ◌+◌, ◌≤◌, ◌++◌, List, [], ◌∷◌, drop, length, refl, sym, ◌∙◌, ap, subst, add-one, arith}
+use Rattle.std.proofs.Common.{◌≡◌, ℕ, zero, suc, ◌+◌, ◌++◌, List, [], ◌∷◌, drop, refl, ap, subst, add-one, arith}
 use Rattle.std.proofs.lemmas.Grind.{common_steps}
 use Rattle.std.specs.Prelude.{Contains, Some, slice_get, ◌↔◌}
 use Rattle.std.specs.List.{flat_map}
-use Rattle.std.proofs.lemmas.List.{append-nil, append_assoc, drop_all}
+use Rattle.std.proofs.lemmas.List.{append_assoc}
 use Rattle.mesh_atoms.proofs.Options.{same_some, none_not}
 
 drop_at : {A : Type 0} (xs : List A) (k : ℕ) (x : A) → slice_get xs k ≡ Some x → drop k xs ≡ x ∷ drop (suc k) xs
@@ -15,14 +15,6 @@ drop_at (y ∷ ys) (suc k) x h = drop_at ys k x h
 pub put_next : {A B : Type 0} (f : A → List B) (xs : List A) (k : ℕ) (x : A) (list whole : List B) → slice_get xs k ≡ Some x →
     list ++ flat_map f (drop k xs) ≡ whole → (list ++ f x) ++ flat_map f (drop (k + 1) xs) ≡ whole
 put_next f xs k x list whole at h = grind (arith, common_steps, add-one, drop_at, append_assoc)
-
-pub put_more : {A B : Type 0} (f : A → List B) (xs : List A) (k : ℕ) (x : A) (list new whole : List B) → slice_get xs k ≡ Some x →
-    list ++ flat_map f (drop k xs) ≡ whole → new ≡ list ++ f x → new ++ flat_map f (drop (k + 1) xs) ≡ whole
-put_more f xs k x list new whole at h is = subst (λ l. l ++ flat_map f (drop (k + 1) xs) ≡ whole) (sym is) (put_next f xs k x list whole at h)
-
--- past the last place there is no rest
-pub put_all : {A B : Type 0} (f : A → List B) (xs : List A) (k : ℕ) (list whole : List B) → length xs ≤ k → list ++ flat_map f (drop k xs) ≡ whole → list ≡ whole
-put_all f xs k list whole past h = sym (append-nil list) ∙ subst (λ rest. list ++ flat_map f rest ≡ whole) (drop_all k xs past) h
 
 -- lists put one after another have what they have one by one
 pub same_in_turn : {A : Type 0} (once w x y z l0 l1 l2 l3 : List A) → l0 ≡ w → l1 ≡ l0 ++ x → l2 ≡ l1 ++ y → l3 ≡ l2 ++ z →

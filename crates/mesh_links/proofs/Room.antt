@@ -1,12 +1,11 @@
 -- Links that leave room for a hold time still do after each change.
-use Rattle.std.proofs.Common.{◌≡◌, ℕ, ◌<◌, ◌^◌, inl, inr, refl, sym, subst, ◌∙◌, Bool, true, false, cond, Option, Some, None}
+use Rattle.std.proofs.Common.{◌≡◌, ℕ, ◌<◌, ◌^◌, refl, sym, subst, ◌∙◌, Bool, true, false, cond, Option, Some, None}
 use Rattle.std.specs.Prelude.{nat_lt, option_map}
 use Rattle.mesh_atoms.specs.declared.tuples.Link.{Link}
 use Rattle.mesh_atoms.specs.declared.tuples.LinkKey.{LinkKey}
 use Rattle.mesh_atoms.specs.Base.{Base, find, if_live, link_eq, SetsOnly}
 use Rattle.mesh_atoms.specs.State.{is_symmetric}
 use Rattle.mesh_atoms.specs.Live.{trim, trimmed}
-use Rattle.mesh_atoms.specs.Words.{IsKept}
 use Rattle.mesh_atoms.proofs.Lookups.{link_equiv}
 use Rattle.mesh_expire.specs.Table.{changed_at}
 use Rattle.mesh_expire.proofs.Laws.{find-changed_at}
@@ -40,16 +39,6 @@ room_changed before key change room low q e found = by_key (link_eq key q) refl 
   by_key false is =
       let at : find link_eq (changed_at link_eq before key change) q ≡ find link_eq before q = find-changed_at link_equiv key change q before ∙ rw is refl in
       room q e (sym at ∙ found)
-
--- after some have ended
-pub room_kept : (Stays : Link × ℕ → Type 0) (before after : Base LinkKey Link) → HasRoom before → ((key : LinkKey) → IsKept Stays (find link_eq before key) (find link_eq after key)) → HasRoom after
-room_kept Stays before after room kept key e found = by_old (find link_eq before key) refl (kept key) where
-  by_old : (o : Option (Link × ℕ)) → find link_eq before key ≡ o → IsKept Stays o (find link_eq after key) → IsLow e
-  by_old None is none = let both : None ≡ Some e = sym none ∙ found in absurd cc
-  by_old (Some f) is k = elim k [
-    | inl stays ↦ low_there (find link_eq after key) e f stays.1 found (room key f is)
-    | inr ends ↦ let both : None ≡ Some e = sym ends.1 ∙ found in absurd cc
-  ]
 
 sym-trimmed : (now : ℕ) (e : Link × ℕ) → (trimmed now e).0.sym ≡ e.0.sym
 sym-trimmed now e = by_case (is_symmetric e.0 now) where

@@ -91,9 +91,6 @@ kept_from P None new e k is = none_not k is
 kept_from P (Some f) new e (inl k) is = let same : f ≡ e = same_some refl (sym k.1 ∙ is) in (subst P same k.0, ap Some same)
 kept_from P (Some f) new e (inr k) is = none_not k.1 is
 
-pub fewer_kept : (Stays : Link × ℕ → Type 0) (old new : Base LinkKey Link) → ((key : LinkKey) → IsKept Stays (find link_eq old key) (find link_eq new key)) → IsFewer old new
-fewer_kept Stays old new kept key e found = (e, (kept_from Stays (find link_eq old key) (find link_eq new key) e (kept key) found).1, refl)
-
 -- the links from which a HELLO begins
 pub begins_before : (rule : Admit) (shown : Shown) (now : ℕ) (o mid : Option (Link × ℕ)) (start : Link × ℕ) → IsKept (λ e. IsApart shown.sending e.0) o mid → LinkKeptOrMade rule shown now mid start → LinkKeptOrMade rule shown now o start
 begins_before rule shown now o mid start kept (Stood e at same) = Stood e (kept_from (λ x. IsApart shown.sending x.0) o mid e kept at).1 same

@@ -1,23 +1,14 @@
 -- When values are the same.
-use Rattle.std.proofs.Common.{◌≡◌, ℕ, ◌&&◌, Bool, refl, sym, ap, subst, eqb, Option, Some, None, Decides}
+use Rattle.std.proofs.Common.{◌≡◌, ℕ, Bool, refl, sym, ap, subst, eqb, Option, Some, None, Decides}
 use Rattle.std.specs.Option.{option_eq}
 use Rattle.std.proofs.lemmas.Bool.{false≢true}
-use Rattle.std.proofs.lemmas.Bool.Decides.{Decides-and, Decides-eqb}
+use Rattle.std.proofs.lemmas.Bool.Decides.{Decides-eqb}
 use Rattle.mesh_atoms.specs.declared.addr.Addr4.{Addr4}
-use Rattle.mesh_atoms.specs.declared.hello.Willing.{Willing}
 use Rattle.mesh_atoms.specs.declared.codes.metric.Metric.{Metric}
 use Rattle.mesh_atoms.proofs.Rows.{metrics}
-use Rattle.mesh_atoms.proofs.Equal.{same_willing}
 
 pub addrs : (a b : Addr4) → Decides (eqb a.0 b.0) (a ≡ b)
 addrs a b = (λ h. ap (λ (n : ℕ). let x : Addr4 = record { 0 = n } in x) ((Decides-eqb a.0 b.0).0 h), λ e. (Decides-eqb a.0 b.0).1 (ap (λ (x : Addr4). x.0) e))
-
--- how willing routers are
-pub willings : (a b : Willing) (r : Bool) → r ≡ (eqb a.flooding b.flooding && eqb a.routing b.routing) → Decides r (a ≡ b)
-willings a b r is =
-    let both : Decides (eqb a.flooding b.flooding && eqb a.routing b.routing) ((a.flooding ≡ b.flooding) × (a.routing ≡ b.routing)) =
-    Decides-and _ _ (Decides-eqb a.flooding b.flooding) (Decides-eqb a.routing b.routing) in
-    subst (λ (x : Bool). Decides x (a ≡ b)) (sym is) (λ h. same_willing a b (both.0 h).0 (both.0 h).1, λ e. both.1 (ap (λ (w : Willing). w.flooding) e, ap (λ (w : Willing). w.routing) e))
 
 -- metrics that may be unknown
 pub known_metrics : (a b : Option Metric) (r : Bool) → r ≡ option_eq (λ (m n : Metric). eqb m.code n.code) a b → Decides r (a ≡ b)

@@ -1,5 +1,5 @@
 -- The empty neighbourhood is sound.
-use Rattle.std.proofs.Common.{◌≡◌, ℕ, zero, suc, ◌+◌, ◌<◌, inl, inr, refl, sym, ◌∙◌, ap, subst, arith, List, [], ◌∷◌, ◌++◌, length, replicate, Contains, Some}
+use Rattle.std.proofs.Common.{◌≡◌, ℕ, ◌<◌, inl, inr, refl, sym, ◌∙◌, ap, subst, arith, List, [], ◌∷◌, length, replicate, Contains, Some}
 use Rattle.std.specs.Prelude.{slice_index_or}
 use Rattle.std.specs.List.{IsDistinct}
 use Rattle.std.proofs.lemmas.List.{get_or-replicate, get_or_past, length-replicate}
@@ -79,11 +79,3 @@ empty_parts settings moment count near counts links two_hops neighbours losts = 
     ∙ ap (λ t. let n : Neighbourhood = record near { links = replicate count []; two_hops = t } in n) two_hops
     ∙ ap (λ m. let n : Neighbourhood = record { links = replicate count []; two_hops = replicate count []; neighbours = m; losts = near.losts } in n) neighbours
     ∙ ap (λ m. let n : Neighbourhood = record { links = replicate count []; two_hops = replicate count []; neighbours = []; losts = m } in n) losts)
-
--- one more of nothing is put at the end
-pub one_more_empty : {K V : Type 0} (sets new : List (Base K V)) (n : ℕ) (set : Base K V) → sets ≡ replicate n [] → new ≡ sets ++ set ∷ [] → set ≡ [] → new ≡ replicate (n + 1) []
-one_more_empty {K} {V} sets new n set is put none = put ∙ rw (is, none) (snoc n)
-  where
-    snoc : (n : ℕ) → replicate n (let none : Base K V = [] in none) ++ [] ∷ [] ≡ replicate (n + 1) []
-    snoc zero = refl
-    snoc (suc n) = let e : suc n + 1 ≡ suc (n + 1) = omega arith in rw e (ap (λ rest. [] ∷ rest) (snoc n))

@@ -1,5 +1,5 @@
 -- A walk over the keys of links drops the tuples of those that ended.
-use Rattle.std.proofs.Common.{◌≡◌, ℕ, ◌+◌, ◌⊎◌, inl, inr, refl, sym, ◌∙◌, ap, subst, arith, List, length, Contains, slice_get, Option, Some, None}
+use Rattle.std.proofs.Common.{◌≡◌, ℕ, ◌+◌, ◌⊎◌, inl, inr, refl, sym, ◌∙◌, ap, subst, List, length, Contains, slice_get, Option, Some, None}
 use Rattle.std.specs.Prelude.{Bool, true, false, cond, not, ◌&&◌}
 use Rattle.std.proofs.lemmas.Bool.{false≢true}
 use Rattle.mesh_atoms.specs.declared.tuples.LinkKey.{LinkKey}
@@ -49,11 +49,6 @@ module _ (keys : List LinkKey) (symmetric : LinkKey → Bool) (n : ℕ) (key lin
       by_case (Some t) true false e f (inl stood) is = inr (λ stays. stays (ended_here f e), is)
       by_case (Some t) true true e f (inl stood) is = inl (λ ended. stood.0 (not_ended_here (inl f) ended), is ∙ stood.1)
       by_case (Some t) false sk e f (inl stood) is = inl (λ ended. stood.0 (not_ended_here (inr e) ended), is ∙ stood.1)
-
--- nothing is dropped before the first step
-pub ended_none : (keys : List LinkKey) (symmetric : LinkKey → Bool) (link : LinkKey) (o : Option (TwoHop × ℕ)) → IsKept (λ t. IsEndedBelow keys symmetric 0 link → ⊥) o o
-ended_none keys symmetric link None = refl
-ended_none keys symmetric link (Some t) = inl (λ ended. omega (arith, ended.0.2), refl)
 
 -- after the last step
 pub ended_all : (keys : List LinkKey) (symmetric : LinkKey → Bool) (link : LinkKey) (o new : Option (TwoHop × ℕ)) →

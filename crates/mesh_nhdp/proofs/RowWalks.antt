@@ -1,5 +1,5 @@
 -- A walk over the rows of a HELLO.
-use Rattle.std.proofs.Common.{◌≡◌, ℕ, ◌+◌, ◌↔◌, inl, inr, refl, sym, ◌∙◌, ap, subst, arith, List, length, Contains, slice_get, Option, Some, IsTrue}
+use Rattle.std.proofs.Common.{◌≡◌, ℕ, ◌+◌, ◌↔◌, inl, inr, refl, sym, ◌∙◌, ap, subst, List, length, Contains, slice_get, Option, Some, IsTrue}
 use Rattle.std.specs.Prelude.{Bool, true, false, ◌≢◌}
 use Rattle.mesh_atoms.specs.declared.addr.Addr4.{Addr4}
 use Rattle.mesh_atoms.specs.declared.addr.NetAddr.{NetAddr}
@@ -60,9 +60,6 @@ module _ (own listed : List Addr4) (rows : List HelloRow) (n until : ℕ) (link 
   others_more (Passed not same) key other = ap (λ (b : Base TwoHopKey TwoHop). find two_hop_eq b key) same
   others_more (Looked looks sets) key other = sets key ∙ on_false _ (row_makes until row) (find two_hop_eq old key)
       (two_hop_other (record { link = link; addr = row.addr.addr }) key (λ e. other (sym (ap (λ (k : TwoHopKey). k.link) e))))
-
-pub rows_none : (own listed : List Addr4) (rows : List HelloRow) (until : ℕ) (a : Addr4) (stood : Option (TwoHop × ℕ)) → RowsTell own listed rows 0 until a stood stood
-rows_none own listed rows until a stood = No (λ below. absurd (omega (arith, below.2))) refl
 
 module _ (settings : RouterSettings) (told : Told) (hello : Hello) (own listed : List Addr4) (own_is : (a : Addr4) → Contains own a ↔ HasAddress settings a) (listed_is : told.listed ≡ listed) where
   -- the row is looked at

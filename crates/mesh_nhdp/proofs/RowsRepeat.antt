@@ -1,9 +1,8 @@
 -- Rows of a HELLO that repeat what is held of a link.
-use Rattle.std.proofs.Common.{◌≡◌, ℕ, ◌+◌, ◌↔◌, inl, inr, refl, sym, ◌∙◌, ap, subst, List, length, Contains, slice_get, Option, Some, None, IsTrue}
-use Rattle.std.specs.Prelude.{Bool, true, false, cond, ◌&&◌, not, option_map, IsSome}
+use Rattle.std.proofs.Common.{◌≡◌, ℕ, ◌+◌, inl, inr, refl, sym, ◌∙◌, ap, subst, List, length, Contains, slice_get, Option, Some, None, IsTrue}
+use Rattle.std.specs.Prelude.{Bool, true, false, cond, ◌&&◌, not, option_map}
 use Rattle.std.proofs.lemmas.Bool.{false≢true}
 use Rattle.mesh_atoms.specs.declared.addr.Addr4.{Addr4}
-use Rattle.mesh_atoms.specs.declared.codes.metric.Metric.{Metric}
 use Rattle.mesh_atoms.specs.declared.hello.Hello.{Hello}
 use Rattle.mesh_atoms.specs.declared.hello.HelloRow.{HelloRow}
 use Rattle.mesh_atoms.specs.declared.tuples.Link.{Link}
@@ -11,7 +10,7 @@ use Rattle.mesh_atoms.specs.declared.tuples.LinkKey.{LinkKey}
 use Rattle.mesh_atoms.specs.declared.tuples.TwoHopKey.{TwoHopKey}
 use Rattle.mesh_atoms.specs.declared.tuples.TwoHop.{TwoHop}
 use Rattle.mesh_atoms.specs.Base.{Base, find, SetsOnly, two_hop_eq}
-use Rattle.mesh_atoms.specs.HelloTold.{or_else, tells_symmetric, two_hop_of}
+use Rattle.mesh_atoms.specs.HelloTold.{tells_symmetric, two_hop_of}
 use Rattle.mesh_atoms.specs.AfterHello.{row_makes}
 use Rattle.mesh_atoms.specs.Words.{IsKept}
 use Rattle.mesh_atoms.proofs.Lookups.{same_two_hop}
@@ -43,26 +42,6 @@ set_same old new key entry sets same q = by_case (two_hop_eq key q) refl
     by_case : (b : Bool) → two_hop_eq key q ≡ b → record_of (find two_hop_eq new q) ≡ record_of (find two_hop_eq old q)
     by_case true is = ap record_of (sets q ∙ on_true _ entry (find two_hop_eq old q) is) ∙ (sym same ∙ ap (λ (k : TwoHopKey). record_of (find two_hop_eq old k)) (same_two_hop key q is))
     by_case false is = ap record_of (sets q ∙ on_false _ entry (find two_hop_eq old q) is)
-
--- the tuple has the metrics that the row shows
-pub repeats_by_metrics : (old : Base TwoHopKey TwoHop) (link : LinkKey) (row : HelloRow) (metric_in metric_out : Option Metric) → metric_in ≡ or_else row.metrics.near_in row.metrics.link_in →
-    metric_out ≡ or_else row.metrics.near_out row.metrics.link_out → tells_symmetric row.link row.other ≡ true →
-    record_of (find two_hop_eq old (record { link = link; addr = row.addr.addr })) ≡ Some (record { metric_in = metric_in; metric_out = metric_out }) → RepeatsRow old link row
-repeats_by_metrics old link row metric_in metric_out ins outs says stands =
-    stands ∙ (ap (λ (m : Option Metric). let t : TwoHop = record { metric_in = m; metric_out = metric_out } in Some t) ins
-    ∙ (ap (λ (m : Option Metric). let t : TwoHop = record { metric_in = or_else row.metrics.near_in row.metrics.link_in; metric_out = m } in Some t) outs
-    ∙ sym (on_true _ (Some (two_hop_of row)) None says)))
-
-none_there : {A : Type 0} (o : Option A) (found : Bool) → IsTrue found ↔ IsSome o → not found ≡ true → o ≡ None
-none_there None found is gone = refl
-none_there (Some x) true is gone = absurd (false≢true gone)
-none_there (Some x) false is gone = absurd (false≢true (is.1 refl))
-
--- there was no tuple that the row could take out
-pub repeats_by_none : (old : Base TwoHopKey TwoHop) (link : LinkKey) (row : HelloRow) (found : Bool) → IsTrue found ↔ IsSome (find two_hop_eq old (record { link = link; addr = row.addr.addr })) →
-    tells_symmetric row.link row.other ≡ false → not found ≡ true → RepeatsRow old link row
-repeats_by_none old link row found is says gone =
-    ap record_of (none_there (find two_hop_eq old (record { link = link; addr = row.addr.addr })) found is gone) ∙ sym (on_false _ (Some (two_hop_of row)) None says)
 
 module _ (own listed : List Addr4) (link : LinkKey) where
   -- a row that repeats what is held, where it is looked at, changes nothing but a moment

@@ -2,12 +2,10 @@
 use Rattle.std.proofs.Common.{◌≡◌, ℕ, ◌+◌, ◌-◌, ◌<◌, ◌≤◌, eqb, true, List, [], ◌∷◌, ◌++◌, length, map, Ok, refl, sym, ap, ◌∙◌, arith, length-append}
 use Rattle.std.specs.List.{zip}
 use Rattle.std.proofs.lemmas.List.{map_push}
-use native.Mathlib.Nat.{sub-zero}
 use Rattle.mesh_atoms.specs.declared.refusal.DecodeFault.{DecodeFault}
-use Rattle.mesh_atoms.specs.declared.refusal.DecodeFault.TheVariants as faults
 use Rattle.mesh_atoms.specs.Reading.{Fails}
 use Rattle.mesh_tlv.specs.Items.{items_at}
-use Rattle.mesh_tlv.proofs.Loop.{with_front, none_before, goes_on, fails, is_done, is_at_end}
+use Rattle.mesh_tlv.proofs.Loop.{with_front, goes_on, fails, is_done, is_at_end}
 use Rattle.mesh_packet.specs.declared.packet.Span.{Span}
 use Rattle.mesh_packet.specs.Fields.{MessageFields}
 use Rattle.mesh_packet.specs.Reading.{message_at, sized_at, spans_from, messages_at}
@@ -27,14 +25,6 @@ pub record SoFar (frame : List ℕ) (at end turns : ℕ) (messages : List Messag
   pub as_many : length messages ≡ length spans
   pub in_row : spans ≡ spans_from at (sizes spans)
   pub reached : place ≡ at + total (sizes spans)
-
-pub nothing_yet : (frame : List ℕ) (at end : ℕ) → SoFar frame at end 0 [] [] at
-nothing_yet frame at end = record {
-  reads = rw (sub-zero (end - at)) (none_before (items_at (sized_at frame) (end - at) at end));
-  as_many = refl;
-  in_row = refl;
-  reached = omega arith;
-}
 
 module _ (frame : List ℕ) (at end turns : ℕ) (messages : List MessageFields) (spans : List Span) (place : ℕ) (h : SoFar frame at end turns messages spans place) where
   pub one_more : turns < end - at → (place ≡ end → ⊥) → (message : MessageFields) (after : ℕ) → message_at frame place end ≡ Ok (message, after) → place ≤ after → SoFar frame at end (turns + 1) (messages ++ message ∷ []) (spans ++ record { start = place; len = after - place } ∷ []) after

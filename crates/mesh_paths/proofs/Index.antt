@@ -21,27 +21,12 @@ at_place xs i d l = get_or_default xs i d (slice_index_or xs i d) l
 abbrev pub IsLeft : List Arc4 → ℕ → ℕ → ℕ → Type 0
 IsLeft arcs number start end = (k : ℕ) (d : Arc4) → start ≤ k → k < end → number_from (slice_index_or arcs k d) ≡ number
 
-pub run_more : (arcs : List Arc4) (start place number found : ℕ) → IsLeft arcs number start place → ((d : Arc4) → number_from (slice_index_or arcs place d) ≡ found) → found ≡ number → IsLeft arcs number start (place + 1)
-run_more arcs start place number found before here same k d low high = elim (cases_lt k place) [
-  | inl less ↦ before k d low less
-  | inr upto ↦ let e : place ≡ k = omega arith in subst (λ (n : ℕ). number_from (slice_index_or arcs n d) ≡ number) e (here d ∙ same)
-]
-
-pub run_begun : (arcs : List Arc4) (start number : ℕ) → ((d : Arc4) → number_from (slice_index_or arcs start d) ≡ number) → IsLeft arcs number start (start + 1)
-run_begun arcs start number here = run_more arcs start start number number (λ k d low high. absurd (omega arith)) here refl
-
 -- The runs of all arcs
 
 -- the runs hold the arcs before a place
 pub record IsUpto (arcs : List Arc4) (runs : List ArcRun) (place : ℕ) : Type 0 where
   pub each : (r : ArcRun) → Contains runs r → IsRun arcs r
   pub all : (k : ℕ) → k < place → (r : ArcRun) × Contains runs r × (r.start ≤ k) × (k < r.end)
-
-pub upto_none : (arcs : List Arc4) (runs : List ArcRun) → runs ≡ [] → IsUpto arcs runs 0
-upto_none arcs runs none = record {
-  each = λ r has. absurd (let e : length runs ≡ 0 = ap (λ (x : List ArcRun). length x) none in omega (arith, has.1));
-  all = λ k l. absurd (omega arith);
-}
 
 pub upto_more : (arcs : List Arc4) (runs runs' : List ArcRun) (run : ArcRun) (place : ℕ) → runs' ≡ runs ++ (run ∷ []) → IsRun arcs run → run.start ≡ place → IsUpto arcs runs place → IsUpto arcs runs' run.end
 upto_more arcs runs runs' run place pushed is begins before = subst (λ (x : List ArcRun). IsUpto arcs x run.end) (sym pushed) (record { each = each; all = all })
@@ -57,9 +42,6 @@ upto_more arcs runs runs' run place pushed is begins before = subst (λ (x : Lis
       | inl less ↦ let (r, has, low, high) = before.all k less in (r, Contains-append_left runs (run ∷ []) r has, low, high)
       | inr upto ↦ (run, Contains-append_right runs (run ∷ []) run (0, omega arith, refl), omega arith, l)
     ]
-
-pub index_upto : (arcs : List Arc4) (runs : List ArcRun) (place : ℕ) → length arcs ≤ place → IsUpto arcs runs place → IsIndex arcs runs
-index_upto arcs runs place end upto = record { each = upto.each; all = λ k l. upto.all k (omega arith) }
 
 pub index_moved : (arcs : List Arc4) (runs moved : List ArcRun) → IsPermutation runs moved → IsIndex arcs runs → IsIndex arcs moved
 index_moved arcs runs moved same index = record {

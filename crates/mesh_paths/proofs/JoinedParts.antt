@@ -1,5 +1,5 @@
 -- Two routers are joined exactly where the radio graph has them in one part.
-use Rattle.std.proofs.Common.{◌≡◌, ◌≢◌, ℕ, ◌≤◌, ◌<◌, List, refl, sym, subst, arith, Some, length}
+use Rattle.std.proofs.Common.{◌≡◌, ◌≢◌, ℕ, ◌≤◌, ◌<◌, refl, sym, subst, arith, Some, length}
 use Rattle.std.specs.Prelude.{slice_get, slice_index, ◌↔◌, IsTrue}
 use Rattle.std.proofs.lemmas.Option.{slice_get_within, slice_get-get_or}
 use Rattle.mesh_atoms.specs.declared.settings.Scenario.{Scenario}
@@ -8,26 +8,7 @@ use Rattle.mesh_atoms.specs.Radio.{Joined, Itself, By, IsRadioGraph}
 use Rattle.mesh_atoms.proofs.Deciding.{Decides-eqb, Decides-ltb, Decides-and, Decides-not}
 use Rattle.mesh_paths.proofs.RadioLaw.{joined_back, joined_trans}
 use Rattle.mesh_paths.proofs.Scenarios.{sound_scenario}
-use Rattle.mesh_paths.specs.Joined.{is_joined, ShareAPart}
-
--- the test tells whether two routers share a part, whatever the parts are
-pub part_test : (parts : List ℕ) (x w : ℕ) → IsTrue (is_joined parts x w) ↔ ShareAPart parts x w
-part_test parts x w =
-    let d = Decides-and _ _ (Decides-not _ (Decides-eqb w x)) (Decides-and _ _ (Decides-ltb x (length parts)) (Decides-and _ _ (Decides-ltb w (length parts)) (Decides-eqb (slice_index parts x) (slice_index parts w)))) in (
-      λ e.
-          let (other, (in_x, (in_w, same))) = d.0 e in
-          let at_x : slice_get parts x ≡ Some (slice_index parts x) = slice_get-get_or parts x 0 in_x in
-          let at_w : slice_get parts w ≡ Some (slice_index parts w) = slice_get-get_or parts w 0 in_w in
-          (other, slice_index parts x, at_x, cc),
-      λ shared.
-          let (other, part, at_x, at_w) = shared in
-          let in_x : x < length parts = slice_get_within parts x part at_x in
-          let in_w : w < length parts = slice_get_within parts w part at_w in
-          let is_x : slice_get parts x ≡ Some (slice_index parts x) = slice_get-get_or parts x 0 in_x in
-          let is_w : slice_get parts w ≡ Some (slice_index parts w) = slice_get-get_or parts w 0 in_w in
-          let same : slice_index parts x ≡ slice_index parts w = cc in
-          d.1 (other, (in_x, (in_w, same))),
-    )
+use Rattle.mesh_paths.specs.Joined.{is_joined}
 
 module _ (s : Scenario) (g : RadioGraph) (graph : IsRadioGraph s g) where
   part_at : (x : ℕ) → x < length g.parts → slice_get g.parts x ≡ Some (slice_index g.parts x)

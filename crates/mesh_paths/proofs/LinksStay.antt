@@ -7,7 +7,7 @@ use Rattle.mesh_atoms.specs.declared.tuples.LinkKey.{LinkKey}
 use Rattle.mesh_atoms.specs.declared.tuples.Link.{Link}
 use Rattle.mesh_atoms.specs.declared.settings.RouterSettings.{RouterSettings}
 use Rattle.mesh_atoms.specs.Base.{if_live}
-use Rattle.mesh_atoms.specs.Live.{LiveNeighbourhood, trim, trimmed}
+use Rattle.mesh_atoms.specs.Live.{trim, trimmed}
 use Rattle.mesh_atoms.specs.Quality.{admit_on}
 use Rattle.mesh_atoms.specs.Sound.{SoundNeighbourhood, IsSoundLink}
 use Rattle.mesh_atoms.specs.State.{Neighbourhood, link_at}
@@ -35,8 +35,3 @@ pub link_stays : (settings : RouterSettings) (now : ℕ) (near : Neighbourhood) 
     trim now (if_live now (admit_on settings i now (link_at near i key))) ≡ link_at near i key
 link_stays settings now near sound i key =
     ap (λ (o : Option (Link × ℕ)). trim now (if_live now o)) (sound.by_quality i key) ∙ live_link settings now near sound i key
-
--- so what expiry leaves at that moment has the same links
-pub links_stay : (settings : RouterSettings) (now : ℕ) (old new : Neighbourhood) → SoundNeighbourhood settings now old → LiveNeighbourhood settings now old new →
-    (i : ℕ) (key : LinkKey) → link_at new i key ≡ link_at old i key
-links_stay settings now old new sound live i key = live.links i key ∙ link_stays settings now old sound i key

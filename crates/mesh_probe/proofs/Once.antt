@@ -14,9 +14,6 @@ pub data Apart : List Going → Type 0 where
   None_there : Apart []
   Then : {f : Going} {fs : List Going} → ((g : Going) → Contains fs g → IsApart f g) → Apart fs → Apart (f ∷ fs)
 
-apart_back : (f g : Going) → IsApart f g → IsApart g f
-apart_back f g apart from at = apart (sym from) (sym at)
-
 pub apart_append : {xs ys : List Going} → Apart xs → Apart ys → ((f g : Going) → Contains xs f → Contains ys g → IsApart f g) → Apart (xs ++ ys)
 apart_append None_there b across = b
 apart_append {ys = ys} (Then {f = f} {fs = fs} first rest) b across =

@@ -271,9 +271,6 @@ complete g willing n f are within far via = elim (found g 0 willing f) [
       ]
 ]
 
-le-same : (n : ℕ) → n ≤ n
-le-same n = omega arith
-
 kept_least : (g : NeighbourGraph) (willing : List Near) (sorted ways : List Way) → AreWilling g willing →
     ((v : Way) → Contains (filter_map (λ f. way_from g 0 willing f) g.far) v → Contains sorted v) → IsLeastIn ways sorted →
     (w : Way) → Contains ways w → (IsDirect g w.addr w.cost → ⊥) → (c : ℕ) → Offers g IsWilling w.addr c → w.cost ≤ c

@@ -1,9 +1,9 @@
 -- What the notes say of the set that is taken.
 use Rattle.std.proofs.Common.{◌≡◌, ℕ, ◌≤◌, ◌<◌, Bool, true, false, ◌&&◌, not, nat_eq, nat_le, List, [], ◌∷◌, length, get_or, set, zero, suc, refl, sym, ◌∙◌, ap, subst, inl, inr, arith}
 use Rattle.std.proofs.lemmas.Grind.{common_steps}
-use Rattle.std.specs.Prelude.{◌↔◌, Contains, IsTrue, MatchBool, replicate}
+use Rattle.std.specs.Prelude.{◌↔◌, Contains, IsTrue, MatchBool}
 use Rattle.std.proofs.lemmas.Bool.{false≢true, cases_Bool, cases_lt, or_cases, or_right, or_left, eqb-true, eq-eqb, leb-true, le-leb}
-use Rattle.std.proofs.lemmas.List.{get_or-replicate, get_or_past, length-replicate}
+use Rattle.std.proofs.lemmas.List.{get_or_past}
 use Rattle.mesh_atoms.specs.declared.addr.Addr4.{Addr4}
 use Rattle.mesh_atoms.specs.declared.graphs.Near.{Near}
 use Rattle.mesh_atoms.specs.declared.graphs.NeighbourGraph.{NeighbourGraph}
@@ -21,17 +21,9 @@ set_past [] k le = refl
 set_past (t ∷ ts) zero le = absurd (omega (arith, le))
 set_past (t ∷ ts) (suc k) le = ap (λ (l : List Bool). t ∷ l) (set_past ts k (omega (arith, le)))
 
-none_before : (n k : ℕ) → get_or (replicate n false) k false ≡ false
-none_before n k = grind (arith, common_steps, cases_lt, get_or-replicate, get_or_past, length, length-replicate)
-
 -- the notes of a pass that began with none
 abbrev pub IsNotedFor : List Way → List Bool → List Bool → Bool → Type 0
 IsNotedFor ways ts soles reached = (k : ℕ) → (reached && not (get_or soles k false)) ≡ reaches ways (set ts k false)
-
-pub from_none : (ways : List Way) (ts before soles : List Bool) (n : ℕ) (reached : Bool) → before ≡ replicate n false →
-    ((k : ℕ) → (reached && not (get_or soles k false)) ≡ (not (get_or before k false) && reaches ways (set ts k false))) → IsNotedFor ways ts soles reached
-from_none ways ts before soles n reached is h k =
-    h k ∙ ap (λ x. not x && reaches ways (set ts k false)) (ap (λ (l : List Bool). get_or l k false) is ∙ none_before n k)
 
 and_not_false : (a x : Bool) → x ≡ false → a ≡ (a && not x)
 and_not_false true x e = sym (ap (λ z. not z) e)

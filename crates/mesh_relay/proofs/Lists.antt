@@ -2,18 +2,9 @@
 use Rattle.std.proofs.Common.{◌≡◌, ◌⊎◌, Bool, true, false, cond, List, [], ◌∷◌, Option, Some, None, refl, sym, subst, inl, inr}
 use Rattle.std.specs.Prelude.{Contains, filter_map}
 use Rattle.std.specs.List.{dedup, dedup_from, cons_option}
-use Rattle.std.proofs.lemmas.Bool.{false≢true}
 use Rattle.mesh_atoms.proofs.Lists.{contains_head, contains_none, contains_cases, contains_tail, option_cases}
 
 -- Elements that pass a test
-
-filter_cons : {X : Type 0} (b : Bool) (x y : X) (rest : List X) → Contains (cond b (y ∷ rest) rest) x → ((y ≡ x) × (b ≡ true)) ⊎ Contains rest x
-filter_cons true x y rest w = elim (contains_cases y rest x w) [ inl e ↦ inl (e, refl) | inr v ↦ inr v ]
-filter_cons false x y rest w = inr w
-
-filter_first : {X : Type 0} (b : Bool) (y : X) (rest : List X) → b ≡ true → Contains (cond b (y ∷ rest) rest) y
-filter_first true y rest e = contains_head y rest
-filter_first false y rest e = absurd (false≢true e)
 
 -- What a function gives for elements
 

@@ -1,5 +1,5 @@
 -- A pass over a list that ends at the first element that settles the answer.
-use Rattle.std.proofs.Common.{◌≡◌, ℕ, ◌+◌, ◌<◌, ◌≤◌, Bool, true, false, not, ◌&&◌, ◌||◌, List, length, drop, get_or, refl, sym, ap, subst, ◌∙◌}
+use Rattle.std.proofs.Common.{◌≡◌, ℕ, ◌+◌, ◌<◌, ◌≤◌, Bool, true, false, ◌&&◌, ◌||◌, List, length, drop, get_or, sym, ap, subst, ◌∙◌}
 use Rattle.std.specs.List.{list_any, list_all}
 use Rattle.std.proofs.lemmas.List.{at_drop_more, at_drop_all}
 use Rattle.std.proofs.lemmas.List.Folds.{list_any_at, list_all_at}
@@ -29,9 +29,3 @@ module _ {X : Type 0} (p : X → Bool) (items xs : List X) (same : items ≡ xs)
 
   pub all_end : length items ≤ i → list_all p (drop i xs) ≡ list_all p xs → true ≡ list_all p xs
   all_end past rest = sym (at_drop_all (list_all p) xs i (subst (λ (l : List X). length l ≤ i) same past)) ∙ rest
-
-pub unless_one : (a b : Bool) → a ≡ true → b ≡ false → (not a || b) ≡ false
-unless_one a b ha hb = rw (ha, hb) refl
-
-pub unless_two : (a b c : Bool) → a ≡ true → b ≡ true → c ≡ false → (not a || not b || c) ≡ false
-unless_two a b c ha hb hc = rw (ha, hb, hc) refl

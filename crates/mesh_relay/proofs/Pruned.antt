@@ -59,9 +59,6 @@ others_left willing ts place n id at w other =
 at_or_after : (p k : ℕ) → p ≤ k → (k ≡ p) ⊎ (p + 1 ≤ k)
 at_or_after p k le = elim (cases_lt p k) [ inl lt ↦ inr (omega arith) | inr ge ↦ inl (omega arith) ]
 
-pub start : (g : NeighbourGraph) (willing : List Near) (ts : List Bool) → length ts ≡ length willing → Covers g (ids_of willing ts) → IsPruned g willing ts (length willing)
-start g willing ts e covers = grind (arith, common_steps, length)
-
 -- nothing to do at that place
 pub kept_as_is : (g : NeighbourGraph) (willing : List Near) (ts : List Bool) (place : ℕ) → IsPruned g willing ts (place + 1) →
     ((n : Near) → IsAt willing place n → IsTaken ts place → n.will < 15 → ⊥) → IsPruned g willing ts place
@@ -129,10 +126,6 @@ finish g willing ts are h = record {
 
 pub at_end : (g : NeighbourGraph) (willing : List Near) (ts : List Bool) (left : ℕ) → AreWilling g willing → left ≤ 0 → IsPruned g willing ts left → Needed g (ids_of willing ts)
 at_end g willing ts left are le h = let e : left ≡ 0 = omega arith in finish g willing ts are (subst (λ (k : ℕ). IsPruned g willing ts k) e h)
-
--- before any is left out
-pub at_begin : (g : NeighbourGraph) (willing : List Near) (ts : List Bool) (left : ℕ) → left ≡ length willing → length ts ≡ length willing → Covers g (ids_of willing ts) → IsPruned g willing ts left
-at_begin g willing ts left whole len covers = grind (arith, common_steps, length)
 
 read_at : (ns : List Near) (k : ℕ) (d : Near) → k < length ns → IsAt ns k (get_or ns k d)
 read_at ns k d lt = (lt, get_or_default ns k (get_or ns k d) d lt)

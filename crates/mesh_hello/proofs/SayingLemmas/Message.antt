@@ -1,7 +1,7 @@
 -- The HELLO out of its rows, and sound tuples are apart.
-use Rattle.std.proofs.Common.{◌≡◌, ◌+◌, ◌++◌, take, ◌<◌, ℕ, inl, inr, refl, sym, ◌∙◌, ap, subst, map, length, get_or, ◌∷◌, arith}
-use Rattle.std.specs.Prelude.{List, [], Contains, AllPairs, Some, slice_get, ◌↔◌}
-use Rattle.std.proofs.lemmas.List.{length-map, map-append, get_or-map}
+use Rattle.std.proofs.Common.{◌≡◌, ◌<◌, ℕ, inl, sym, ◌∙◌, ap, subst, map, length, get_or, arith}
+use Rattle.std.specs.Prelude.{List, Contains, AllPairs, Some, ◌↔◌}
+use Rattle.std.proofs.lemmas.List.{length-map, get_or-map}
 use Rattle.mesh_atoms.specs.declared.addr.Addr4.{Addr4}
 use Rattle.mesh_atoms.specs.declared.addr.NetAddr.{NetAddr}
 use Rattle.mesh_atoms.specs.declared.hello.HelloRow.{HelloRow}
@@ -19,7 +19,6 @@ use Rattle.mesh_atoms.specs.Words.{IsAscending}
 use Rattle.mesh_atoms.specs.Sound.{SoundNeighbourhood}
 use Rattle.mesh_atoms.specs.State.{State, Neighbourhood, IsOriginator}
 use Rattle.mesh_atoms.proofs.Lookups.{has_found, addr_equiv, same_addr, link_equiv, same_link}
-use Rattle.mesh_hello.proofs.Collect.{adds_one, taken_more}
 use Rattle.mesh_hello.specs.Saying.Said.{AreDisjoint, IsSeen, IsHelloRowOf, said_addresses}
 use Rattle.mesh_hello.proofs.SayingLemmas.Somewhere.{told_all}
 use Rattle.mesh_atoms.proofs.Options.{same_some}
@@ -44,17 +43,6 @@ said_same settings links seen_links neighbours seen_neighbours losts list same s
     (subst (λ (ns : Base Addr4 Neighbour). Contains list a ↔ Contains (said_addresses settings seen_links ns losts) a) same_neighbours (are a))
 
 -- Lists that are mapped
-
--- one row more is put at the end
-pub addrs_more : (rows new : List HelloRow) (list : List Addr4) (k : ℕ) (row : HelloRow) (a : Addr4) → slice_get list k ≡ Some a → new ≡ rows ++ row ∷ [] → row.addr ≡ host a →
-    map (λ (r : HelloRow). r.addr) rows ≡ map host (take k list) → map (λ (r : HelloRow). r.addr) new ≡ map host (take (k + 1) list)
-addrs_more rows new list k row a at is of so_far =
-    ap (λ (rs : List HelloRow). map (λ (r : HelloRow). r.addr) rs) is ∙ (map-append (λ (r : HelloRow). r.addr) rows (row ∷ [])
-    ∙ (ap (λ (nets : List NetAddr). nets ++ row.addr ∷ []) so_far ∙ (ap (λ (net : NetAddr). map host (take k list) ++ net ∷ []) of
-    ∙ (sym (map-append host (take k list) (a ∷ [])) ∙ ap (λ (xs : List Addr4). map host xs) (sym (taken_more list k a at))))))
-
-pub rows_more : (P : HelloRow → Type 0) (rows new : List HelloRow) (row : HelloRow) → new ≡ rows ++ row ∷ [] → P row → ((r : HelloRow) → Contains rows r → P r) → (r : HelloRow) → Contains new r → P r
-rows_more P rows new row is one all r has = elim ((adds_one rows new (λ (x : HelloRow). row ≡ x) row is refl (λ x h. h) r).0 has) [ inl was ↦ all r was | inr same ↦ subst P same one ]
 
 pub rows_before : (rows : List HelloRow) (list : List Addr4) → map (λ (row : HelloRow). row.addr) rows ≡ map host list → IsAscending list → AllPairs (λ (r t : HelloRow). IsBefore r.addr t.addr) rows
 rows_before rows list same up i j d lt within =

@@ -1,6 +1,5 @@
 -- Lists of the sender's addresses.
-use Rattle.std.proofs.Common.{◌≡◌, slice_index_or, ◌↔◌, inl, inr, refl, sym, ap, subst, arith, List, [], ◌∷◌, ◌++◌, length, Contains, Some}
-use Rattle.std.proofs.lemmas.Grind.{common_steps}
+use Rattle.std.proofs.Common.{◌≡◌, ◌↔◌, inl, inr, refl, sym, ap, subst, arith, List, [], ◌∷◌, ◌++◌, length, Contains, Some}
 use Rattle.std.proofs.lemmas.List.Elements.{Contains-append_cases, Contains-append_left, Contains-append_right}
 use Rattle.mesh_atoms.specs.declared.addr.Addr4.{Addr4}
 use Rattle.mesh_atoms.specs.declared.addr.NetAddr.{NetAddr}
@@ -13,16 +12,12 @@ use Rattle.mesh_atoms.specs.HelloTold.{TellsLocal, IsSending, IsListed}
 use Rattle.mesh_atoms.proofs.Nets.{same_net}
 use Rattle.mesh_hello.specs.Gathers.{Gathers}
 use Rattle.mesh_hello.specs.Told.Sender.{IsLocalAddress, IsOrSender}
-use Rattle.mesh_hello.proofs.Collect.{SomeBelow, below_contains, adds_one, adds_nothing}
+use Rattle.mesh_hello.proofs.Collect.{SomeBelow, below_contains, adds_one}
 
 -- a row that shows one adds it
 pub adds_local : (old new : List Addr4) (row : HelloRow) (local : LocalIf) → new ≡ old ++ row.addr.addr ∷ [] → row.addr.prefix ≡ 32 → row.local ≡ Some local → Gathers old new (IsLocalAddress row local)
 adds_local old new row local is prefix shown =
     adds_one old new (IsLocalAddress row local) row.addr.addr is (same_net row.addr (host row.addr.addr) refl prefix, shown) (λ a p. ap (λ (net : NetAddr). net.addr) p.0)
-
--- and another one adds nothing
-pub adds_no_local : (old : List Addr4) (row : HelloRow) (local : LocalIf) → (row.addr.prefix ≡ 32 → row.local ≡ Some local → ⊥) → Gathers old old (IsLocalAddress row local)
-adds_no_local old row local not = adds_nothing old old (IsLocalAddress row local) refl (λ a p. not (ap (λ (net : NetAddr). net.prefix) p.0) p.1)
 
 -- all rows show what the HELLO shows
 pub tells_local : (hello : Hello) (local : LocalIf) (a : Addr4) → SomeBelow hello.rows (length hello.rows) (λ row. IsLocalAddress row local a) ↔ TellsLocal hello a local
@@ -52,6 +47,3 @@ lists_all hello sender sending others all sending_is others_is is a = (
 pub or_sender_some : (addrs : List Addr4) (sender a : Addr4) → (length addrs ≡ 0 → ⊥) → Contains addrs a ↔ IsOrSender addrs sender a
 or_sender_some [] sender a not = absurd (not refl)
 or_sender_some (x ∷ xs) sender a not = ((λ c. inl c), (λ h. elim h [ inl c ↦ c | inr none ↦ absurd (none.1 x (0, omega arith, refl)) ]))
-
-pub or_sender_none : (addrs all : List Addr4) (sender a : Addr4) → length addrs ≡ 0 → all ≡ addrs ++ sender ∷ [] → Contains all a ↔ IsOrSender addrs sender a
-or_sender_none addrs all sender a none is = grind (arith, common_steps, slice_index_or)

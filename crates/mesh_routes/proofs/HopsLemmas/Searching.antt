@@ -75,9 +75,6 @@ module _ (rows : List Route) (pairs : AllPairs (λ r t. IsBefore r.dest t.dest) 
 abbrev pub HasNoLonger : List Route → Addr4 → ℕ → Type 0
 HasNoLonger routes a less = (r : Route) → Contains routes r → Holds r.dest a → r.dest.prefix + less ≤ 32
 
-pub no_longer_at_first : (routes : List Route) (a : Addr4) → HasNoLonger routes a 0
-no_longer_at_first routes a r has holds = omega (arith, r.dest.within)
-
 -- a network of that prefix that has the address is the address with the further bits cleared
 is_that : (net of : NetAddr) (a : Addr4) (p : ℕ) → net.prefix ≡ p → of.prefix ≡ p → of.addr.0 ≡ a.0 / 2 ^ (32 - p) * 2 ^ (32 - p) → Holds net a → net ≡ of
 is_that net of a p is_p of_p cleared holds = grind (arith, common_steps, same_net)
@@ -100,9 +97,6 @@ longest_at routes a less of k low prefix cleared (r, at, is) before =
     let number : r.dest.addr.0 ≡ a.0 / 2 ^ (32 - (32 - less)) * 2 ^ (32 - (32 - less)) = ap (λ (n : NetAddr). n.addr.0) is ∙ cleared in
     let holds : Holds r.dest a = subst (λ (n : ℕ). a.0 / 2 ^ (32 - n) * 2 ^ (32 - n) ≡ r.dest.addr.0) (sym mine) (sym number) in
     (r, at, record { stands = (k, slice_get_within routes k r at, get_or_from_slice_get routes k r r at); holds = holds; longest = λ t has holds_t. omega (arith, before t has holds_t) })
-
-pub none_at_last : (routes : List Route) (a : Addr4) (less : ℕ) → 33 ≤ less → HasNoLonger routes a less → HasNoRouteTo routes a
-none_at_last routes a less end before r has holds = let l : r.dest.prefix + less ≤ 32 = before r has holds in absurd (omega arith)
 
 -- what is got at the place
 pub got : (o : Option (Bor Route)) (of inside routes : List Route) (a : Addr4) (k : ℕ) → option_copied o ≡ slice_get inside k → of ≡ routes → inside ≡ routes → IsLongestAt of a k →

@@ -6,8 +6,3 @@ pub neither : {P Q : Type 0} (a b : Bool) → a ≡ false → IsTrue a ↔ P →
 neither true b e p q = absurd (cc)
 neither false true e p q = (λ f. absurd (cc), λ w. absurd (w.1 (q.0 refl)))
 neither false false e p q = (λ f. (λ h. absurd (let t : false ≡ true = p.1 h in (cc)), λ h. absurd (let t : false ≡ true = q.1 h in (cc))), λ w. refl)
-
--- where the first of two holds
-pub first_holds : {P Q : Type 0} (a : Bool) → a ≡ true → IsTrue a ↔ P → IsTrue (not a) ↔ ((P → ⊥) × (Q → ⊥))
-first_holds true e p = (λ f. absurd (cc), λ w. absurd (w.0 (p.0 refl)))
-first_holds false e p = absurd (cc)

@@ -15,8 +15,8 @@ use Rattle.mesh_atoms.specs.AfterTc.{if_not_dropped, Becomes, BecomesSet, Given,
 use Rattle.mesh_expire.specs.Keyed.{AreKeys}
 use Rattle.mesh_expire.proofs.Laws.{find_same}
 use Rattle.mesh_topo.specs.TcSets.Same.{SaysSame}
-use Rattle.mesh_topo.specs.TcSets.Sets.{GivenBy, GivenBefore, PutsGiven, PutsRows, Put, Stood, has_other_number, is_outdated}
-use Rattle.mesh_atoms.proofs.Options.{cond_same, none_is_some}
+use Rattle.mesh_topo.specs.TcSets.Sets.{GivenBy, GivenBefore, PutsGiven, PutsRows, Put, Stood}
+use Rattle.mesh_atoms.proofs.Options.{none_is_some}
 
 -- ---- rows that are put one after the other
 
@@ -85,29 +85,6 @@ count_more given rows i row gives before now after here is so_far puts =
     ]
 
 -- ---- tuples that are taken out
-
--- what is left of a tuple
-left_of : {V : Type 0} (tc : Tc) (from : Addr4) (number : V → ℕ) → tc.complete ≡ true → (o : Option (V × ℕ)) → cond (addr_eq from tc.originator && has_other_number tc.ansn number o) None o ≡ if_not_dropped tc from number o
-left_of tc from number complete None = cond_same (addr_eq from tc.originator && false) None
-left_of tc from number complete (Some e) = by_case (addr_eq from tc.originator) (nat_eq (number e.0) tc.ansn) tc.complete complete where
-  by_case : (a n b : Bool) → b ≡ true → cond (a && not n) None (Some e) ≡ cond (a && (b && not n)) None (Some e)
-  by_case true n true h = refl
-  by_case false n b h = refl
-  by_case true n false h = absurd cc
-
--- what is left at a key, where those that are outdated go
-pub left_at : {K V : Type 0} (eq : K → K → Bool) (tc : Tc) (from : K → Addr4) (number : V → ℕ) → tc.complete ≡ true → (base : Base K V) (q : K) →
-    cond (is_outdated eq tc.originator tc.ansn from number base q) None (find eq base q) ≡ if_not_dropped tc (from q) number (find eq base q)
-left_at eq tc from number complete base q = left_of tc (from q) number complete (find eq base q)
-
--- an incomplete TC leaves all
-pub left_all : {V : Type 0} (tc : Tc) (from : Addr4) (number : V → ℕ) (o : Option (V × ℕ)) → tc.complete ≡ false → if_not_dropped tc from number o ≡ o
-left_all tc from number None incomplete = refl
-left_all tc from number (Some e) incomplete = by_case (addr_eq from tc.originator) tc.complete incomplete where
-  by_case : (a b : Bool) → b ≡ false → cond (a && (b && not (nat_eq (number e.0) tc.ansn))) None (Some e) ≡ Some e
-  by_case false b h = refl
-  by_case true false h = refl
-  by_case true true h = absurd cc
 
 -- what has the TC's number stays
 kept_numbered : {V : Type 0} (tc : Tc) (from : Addr4) (number : V → ℕ) (value : V) (until : ℕ) → number value ≡ tc.ansn → if_not_dropped tc from number (Some (value, until)) ≡ Some (value, until)
