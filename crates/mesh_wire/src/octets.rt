@@ -1,7 +1,7 @@
 //! The types of address TLV whose values are one octet (RFC 6130, section 10, and RFC 7181, section 13.3).
 ghost use Rattle.std.specs.Prelude.{◌≡◌, ◌↔◌, ◌==◌, IsTrue};
 ghost use Rattle.std.specs.List.{list_any};
-ghost use Rattle.mesh_wire.specs.KeptParts.{is_flag_set, no_octets, octet_in, octets_also, octets_if, take_octets};
+ghost use Rattle.mesh_wire.specs.KeptParts.{is_flag_set, no_octets, octet_in, octets_also, take_octets};
 ghost use Rattle.mesh_wire.specs.OctetKinds.{type_of, IsStatusType, is_within, is_value, at};
 ghost use Rattle.mesh_wire.specs.RowRules.{is_undefined, has_two, has_status};
 
@@ -150,15 +150,6 @@ impl Octets {
         set_if(&mut self.first, is_flag_set(octets, 1));
         set_if(&mut self.second, is_flag_set(octets, 2));
     }
-
-    // One value more, if it is of the type.
-    fn take_if(&mut self, kind: OctetKind, tlv_type: u8, octets: &[u8])
-        ensures { self.new ≡ octets_if tlv_type octets.now kind self.old }
-    {
-        if tlv_type == kind.tlv_type() {
-            self.take(kind, octets);
-        }
-    }
 }
 
 impl ByKind<Octets> {
@@ -186,13 +177,19 @@ impl ByKind<Octets> {
     pub(crate) fn take(&mut self, tlv_type: u8, octets: &[u8])
         ensures { self.new ≡ take_octets tlv_type octets.now self.old }
     {
-        self.local.take_if(OctetKind::Local, tlv_type, octets);
-        self.link.take_if(OctetKind::Link, tlv_type, octets);
-        self.other.take_if(OctetKind::Other, tlv_type, octets);
-        self.mpr.take_if(OctetKind::Mpr, tlv_type, octets);
-        self.addr_type
-            .take_if(OctetKind::AddrType, tlv_type, octets);
-        self.gateway.take_if(OctetKind::Gateway, tlv_type, octets);
+        if tlv_type == LOCAL_IF {
+            self.local.take(OctetKind::Local, octets);
+        } else if tlv_type == LINK_STATUS {
+            self.link.take(OctetKind::Link, octets);
+        } else if tlv_type == OTHER_NEIGHB {
+            self.other.take(OctetKind::Other, octets);
+        } else if tlv_type == MPR {
+            self.mpr.take(OctetKind::Mpr, octets);
+        } else if tlv_type == NBR_ADDR_TYPE {
+            self.addr_type.take(OctetKind::AddrType, octets);
+        } else if tlv_type == GATEWAY {
+            self.gateway.take(OctetKind::Gateway, octets);
+        }
     }
 
     /// Whether a LOCAL_IF, LINK_STATUS or OTHER_NEIGHB has an undefined value.
