@@ -1,15 +1,7 @@
 -- The laws of a block, as callers of the reader see them.
-use Rattle.std.proofs.Common.{◌≡◌, ℕ, ◌+◌, ◌-◌, ◌<◌, ◌≤◌, List, ◌++◌, length, Result, Ok, sym, ap, subst, arith}
-use Rattle.std.specs.Prelude.{IfOk, IfErr, MatchResult, slice_range}
-use Rattle.std.proofs.lemmas.Result.{MatchResult-weaker}
-use Rattle.mesh_atoms.specs.declared.refusal.Refusal.{Refusal}
+use Rattle.mesh_addr.proofs.Common.{◌≡◌, ℕ, ◌+◌, ◌-◌, ◌<◌, ◌≤◌, List, ◌++◌, length, Result, Ok, sym, ap, subst, arith, IfOk, IfErr, MatchResult, slice_range, MatchResult-weaker, Refusal, Gives, IfRefused, refuse, front_is, RawAddr, SpellsBlock, BlockFault, block_at}
 use Rattle.mesh_atoms.specs.declared.refusal.DecodeFault.{DecodeFault}
-use Rattle.mesh_atoms.specs.Reading.{Gives, IfRefused, refuse}
 use Rattle.mesh_atoms.proofs.Given.{given, given_so}
-use Rattle.mesh_atoms.proofs.Reading.{front_is}
-use Rattle.mesh_addr.specs.declared.records.RawAddr.{RawAddr}
-use Rattle.mesh_addr.specs.Grammar.{SpellsBlock, BlockFault}
-use Rattle.mesh_addr.specs.Reading.{block_at}
 use Rattle.mesh_addr.proofs.Taking.{IsBlock, IsFault, block_takes}
 use Rattle.mesh_addr.proofs.ReadAgain.{block_again}
 use Rattle.mesh_addr.proofs.Refusing.{block_fault}

@@ -1,13 +1,7 @@
 -- The best of the choices within the limits, as the search finds it.
-use Rattle.std.proofs.Common.{◌≡◌, ℕ, ◌+◌, ◌-◌, ◌*◌, ◌<◌, ◌≤◌, Bool, true, false, cond, ltb, refl, arith}
-use Rattle.std.proofs.lemmas.Grind.{common_steps}
-use Rattle.std.proofs.lemmas.Bool.{ltb-false, ltb-true}
-use Rattle.std.proofs.Math.Nat.{mul-add, mul-le-mul_right}
-use Rattle.mesh_addr.specs.declared.choices.Choice.{Choice}
+use Rattle.mesh_addr.proofs.Common.{◌≡◌, ℕ, ◌+◌, ◌-◌, ◌*◌, ◌<◌, ◌≤◌, Bool, true, false, cond, ltb, refl, arith, common_steps, ltb-false, ltb-true, mul-add, mul-le-mul_right, Choice, TailForm, tail_len, tail_rank, choice_rank, cost, weight, cheaper, IsWithinLimits, IsBestOf, HasHead}
 use Rattle.mesh_addr.specs.declared.choices.Limits.{Limits}
-use Rattle.mesh_addr.specs.declared.choices.TailForm.{TailForm}
 use Rattle.mesh_addr.specs.declared.choices.TailForm.TheVariants as tails
-use Rattle.mesh_addr.specs.Spelling.{tail_len, tail_rank, choice_rank, cost, weight, cheaper, IsWithinLimits, IsBestOf, HasHead}
 
 rank_most : (t : TailForm) → tail_rank t ≤ 2
 rank_most tails.Absent = omega arith

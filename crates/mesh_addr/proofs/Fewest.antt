@@ -1,23 +1,9 @@
 -- The cheapest choice is spelled, and no spelling has fewer octets.
-use Rattle.std.proofs.Common.{◌≡◌, ℕ, zero, suc, ◌+◌, ◌-◌, ◌*◌, ◌<◌, ◌≤◌, Bool, true, false, cond, eqb, List, [], ◌∷◌, ◌++◌, length, take, refl, sym, ap, subst, ◌∙◌, arith, append_assoc, length-append}
-use Rattle.std.proofs.lemmas.Grind.{common_steps}
-use Rattle.std.specs.Prelude.{slice_range, replicate, not, ◌&&◌}
-use Rattle.std.proofs.lemmas.Bool.{eq-eqb, eqb-true, ne_eqb}
-use Rattle.std.proofs.lemmas.List.{take_at, drop_at, length-replicate, length-take, length-take-le, nil_from_length}
-use Rattle.std.proofs.lemmas.Slice.{between_from_start}
-use Rattle.mesh_atoms.specs.Reading.{has}
-use Rattle.mesh_atoms.proofs.Reading.{range_length}
-use Rattle.mesh_addr.specs.declared.records.RawAddr.{RawAddr}
+use Rattle.mesh_addr.proofs.Common.{◌≡◌, ℕ, zero, suc, ◌+◌, ◌-◌, ◌*◌, ◌<◌, ◌≤◌, Bool, true, false, cond, eqb, List, [], ◌∷◌, ◌++◌, length, take, refl, sym, ap, subst, ◌∙◌, arith, append_assoc, length-append, common_steps, slice_range, replicate, not, ◌&&◌, eq-eqb, eqb-true, ne_eqb, take_at, drop_at, length-replicate, length-take, length-take-le, nil_from_length, between_from_start, has, range_length, RawAddr, Choice, TailForm, PrefixForm, padded, SpellsHead, SpellsTail, SpellsMids, SpellsPrefixes, AreAll, AreAtMost, prefixes, SpellsBlock, AreRaw, IsWritable, tail_len, last_octets, ShareHead, ShareTail, TailFits, IsPossible, head_cost, tail_cost, cost, tail_rank, choice_rank, weight, IsBestOf, have_prefix, form_of, tail_flag, form_flag, flags_of, head_text, tail_text, mids_text, prefixes_text, text_of, IsLeast, known_flags, rank, IsFirst}
 use Rattle.mesh_addr.proofs.Padding.{split_at}
 use Rattle.mesh_addr.proofs.Choosing.{rank_below}
-use Rattle.mesh_addr.specs.declared.choices.Choice.{Choice}
-use Rattle.mesh_addr.specs.declared.choices.TailForm.{TailForm}
 use Rattle.mesh_addr.specs.declared.choices.TailForm.TheVariants as tails
-use Rattle.mesh_addr.specs.declared.choices.PrefixForm.{PrefixForm}
 use Rattle.mesh_addr.specs.declared.choices.PrefixForm.TheVariants as forms
-use Rattle.mesh_addr.specs.Grammar.{padded, SpellsHead, SpellsTail, SpellsMids, SpellsPrefixes, AreAll, AreAtMost, prefixes, SpellsBlock, AreRaw, IsWritable}
-use Rattle.mesh_addr.specs.Spelling.{tail_len, last_octets, ShareHead, ShareTail, TailFits, IsPossible, head_cost, tail_cost, cost, tail_rank, choice_rank, weight, IsBestOf, have_prefix, form_of, tail_flag, form_flag, flags_of, head_text, tail_text, mids_text, prefixes_text, text_of}
-use Rattle.mesh_addr.specs.Least.{IsLeast, known_flags, rank, IsFirst}
 use Rattle.mesh_addr.proofs.ReadAgain.{mids_long, first_all}
 
 both_true : (a b : Bool) → a ≡ true → b ≡ true → a && b ≡ true

@@ -12,3 +12,4 @@ mod Limits
 mod Loops
 mod Outcomes
 mod Padding
+mod Common

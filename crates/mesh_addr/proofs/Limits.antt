@@ -1,13 +1,8 @@
 -- How far head, tail and zeros of a block reach.
-use Rattle.std.proofs.Common.{◌≡◌, ℕ, ◌+◌, ◌-◌, ◌≤◌, Bool, true, false, List, take, drop, sym, ap, subst, ◌∙◌, arith}
-use Rattle.std.specs.Prelude.{slice_range, not}
+use Rattle.mesh_addr.proofs.Common.{◌≡◌, ℕ, ◌+◌, ◌-◌, ◌≤◌, Bool, true, false, List, take, drop, sym, ap, subst, ◌∙◌, arith, slice_range, not, take-take, drop-take, drop-drop, drop-replicate, not-false, RawAddr, EndsInZeros, IsLimit}
 use Rattle.std.specs.Str.{bytes_eq}
 use Rattle.std.proofs.lemmas.Slice.Eq.{bytes_eq-Decides}
-use Rattle.std.proofs.lemmas.List.{take-take, drop-take, drop-drop, drop-replicate}
-use Rattle.std.proofs.lemmas.Bool.{not-false}
 use Rattle.mesh_atoms.proofs.Options.{not_both}
-use Rattle.mesh_addr.specs.declared.records.RawAddr.{RawAddr}
-use Rattle.mesh_addr.specs.Spelling.{EndsInZeros, IsLimit}
 use Rattle.mesh_addr.proofs.Padding.{zeros}
 
 -- what a test for a difference told

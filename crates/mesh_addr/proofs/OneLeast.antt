@@ -1,13 +1,6 @@
 -- A block has at most one least spelling: its rank tells the lengths of head and tail and the forms of tail and prefix lengths,
 -- and with them all that is written.
-use Rattle.std.proofs.Common.{◌≡◌, ℕ, ◌+◌, ◌-◌, ◌*◌, ◌≤◌, Bool, true, false, cond, List, [], ◌∷◌, ◌++◌, length, take, drop, refl, sym, ap, subst, ◌∙◌, arith, append_assoc, length-append}
-use Rattle.std.proofs.lemmas.Grind.{common_steps}
-use Rattle.std.specs.Prelude.{slice_range}
-use Rattle.std.proofs.lemmas.List.{take_at, drop_at}
-use Rattle.mesh_atoms.specs.Reading.{has}
-use Rattle.mesh_addr.specs.declared.records.RawAddr.{RawAddr}
-use Rattle.mesh_addr.specs.Grammar.{padded, SpellsHead, SpellsTail, SpellsMids, SpellsPrefixes, AreAll, prefixes, SpellsBlock}
-use Rattle.mesh_addr.specs.Least.{IsLeast, known_flags, rank}
+use Rattle.mesh_addr.proofs.Common.{◌≡◌, ℕ, ◌+◌, ◌-◌, ◌*◌, ◌≤◌, Bool, true, false, cond, List, [], ◌∷◌, ◌++◌, length, take, drop, refl, sym, ap, subst, ◌∙◌, arith, append_assoc, length-append, common_steps, slice_range, take_at, drop_at, has, RawAddr, padded, SpellsHead, SpellsTail, SpellsMids, SpellsPrefixes, AreAll, prefixes, SpellsBlock, IsLeast, known_flags, rank}
 use Rattle.mesh_addr.proofs.ReadAgain.{first_all}
 use Rattle.mesh_addr.proofs.Fewest.{one_ends}
 

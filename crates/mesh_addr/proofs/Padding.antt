@@ -1,12 +1,7 @@
 -- Octets laid one after the other where zeros stand.
-use Rattle.std.proofs.Common.{◌≡◌, ℕ, ◌+◌, ◌-◌, ◌≤◌, List, ◌++◌, length, take, drop, refl, sym, ap, subst, ◌∙◌, arith, length-append, append_assoc}
-use Rattle.std.specs.Prelude.{replicate, slice_range}
-use Rattle.std.proofs.lemmas.List.{take_at, length-replicate, drop-replicate, take-append-drop}
-use Rattle.std.proofs.lemmas.Slice.{take-put_mid, drop-put_mid}
+use Rattle.mesh_addr.proofs.Common.{◌≡◌, ℕ, ◌+◌, ◌-◌, ◌≤◌, List, ◌++◌, length, take, drop, refl, sym, ap, subst, ◌∙◌, arith, length-append, append_assoc, replicate, slice_range, take_at, length-replicate, drop-replicate, take-append-drop, take-put_mid, drop-put_mid, range_split, padded}
 use Rattle.std.proofs.Math.Seq.{drop-append-add, drop-append_seam}
 use borrow.Rule.Slice.PartMut.{put_mid}
-use Rattle.mesh_atoms.proofs.Reading.{range_split}
-use Rattle.mesh_addr.specs.Grammar.{padded}
 
 abbrev pub zeros : ℕ → List ℕ
 zeros n = replicate n 0

@@ -1,13 +1,6 @@
 -- A first fault is the one that is refused.
-use Rattle.std.proofs.Common.{◌≡◌, ℕ, zero, suc, ◌+◌, ◌-◌, ◌*◌, ◌<◌, ◌≤◌, Bool, true, false, cond, List, [], ◌∷◌, ◌++◌, length, None, Ok, refl, sym, ap, subst, ◌∙◌, arith, length-append}
-use Rattle.std.specs.Prelude.{slice_range, ◌&&◌, ◌||◌}
-use Rattle.std.proofs.lemmas.Bool.{le-ltb, lt-ltb}
-use Rattle.std.proofs.Math.Nat.{suc-mul}
-use Rattle.mesh_atoms.specs.Reading.{◌>>=◌, refuse, has}
-use Rattle.mesh_atoms.proofs.Reading.{Stands, behind, stands_first, stands_next, octet_again, octet_cut, piece_cut}
-use Rattle.mesh_addr.specs.Grammar.{AreAtMost, CountedFault, ZerosFault, PrefixFault, BeginsBlock, Shaped, BlockFault, prefix_count}
+use Rattle.mesh_addr.proofs.Common.{◌≡◌, ℕ, zero, suc, ◌+◌, ◌-◌, ◌*◌, ◌<◌, ◌≤◌, Bool, true, false, cond, List, [], ◌∷◌, ◌++◌, length, None, Ok, refl, sym, ap, subst, ◌∙◌, arith, length-append, slice_range, ◌&&◌, ◌||◌, le-ltb, lt-ltb, suc-mul, ◌>>=◌, refuse, has, Stands, behind, stands_first, stands_next, octet_again, octet_cut, piece_cut, AreAtMost, CountedFault, ZerosFault, PrefixFault, BeginsBlock, Shaped, BlockFault, prefix_count, count_at, flags_at, number_at, counted_at, head_at, tail_at, parts_end, prefix_at, common_at, addrs_at, block_at}
 use Rattle.mesh_addr.specs.Grammar as fault
-use Rattle.mesh_addr.specs.Reading.{count_at, flags_at, number_at, counted_at, head_at, tail_at, parts_end, prefix_at, common_at, addrs_at, block_at}
 use Rattle.mesh_addr.proofs.ReadAgain.{count_again, flags_again, number_again, head_again, tail_again, parts_again, prefix_again}
 use Rattle.mesh_addr.proofs.Loops.{next_part}
 

@@ -1,19 +1,7 @@
 -- What is read is spelled so, and what is refused has its first fault there.
-use Rattle.std.proofs.Common.{◌≡◌, ℕ, zero, suc, ◌+◌, ◌-◌, ◌*◌, ◌<◌, ◌≤◌, Bool, true, false, eqb, ltb, List, [], ◌∷◌, ◌++◌, length, Option, Some, None, refl, sym, ap, subst, ◌∙◌, arith, inl, inr, ◌⊎◌}
-use Rattle.std.proofs.lemmas.Grind.{common_steps}
-use Rattle.std.specs.Prelude.{slice_range, MatchResult, replicate, ◌&&◌}
-use Rattle.std.proofs.lemmas.Bool.{ltb-false, ltb-true, eqb-true, eqb-false, or_cases as or_true, or_parts as or_false}
-use Rattle.std.proofs.lemmas.List.{length-replicate}
-use Rattle.std.proofs.Math.Nat.{suc-mul}
-use Rattle.std.proofs.lemmas.Result.{MatchResult-weaker}
-use Rattle.mesh_atoms.specs.declared.refusal.Refusal.{Refusal}
-use Rattle.mesh_atoms.specs.Reading.{has, octet_at, piece_at}
-use Rattle.mesh_atoms.proofs.Reading.{meets_bind, meets_if, range_length, Takes, takes_none, takes_both, Faulty, octet_takes, piece_takes}
-use Rattle.mesh_addr.specs.declared.records.RawAddr.{RawAddr}
+use Rattle.mesh_addr.proofs.Common.{◌≡◌, ℕ, zero, suc, ◌+◌, ◌-◌, ◌*◌, ◌<◌, ◌≤◌, Bool, true, false, eqb, ltb, List, [], ◌∷◌, ◌++◌, length, Option, Some, None, refl, sym, ap, subst, ◌∙◌, arith, inl, inr, ◌⊎◌, common_steps, slice_range, MatchResult, replicate, ◌&&◌, ltb-false, ltb-true, eqb-true, eqb-false, or_cases as or_true, or_parts as or_false, length-replicate, suc-mul, MatchResult-weaker, Refusal, has, octet_at, piece_at, meets_bind, meets_if, range_length, Takes, takes_none, takes_both, Faulty, octet_takes, piece_takes, RawAddr, SpellsHead, SpellsTail, SpellsMids, SpellsPrefixes, AreAll, AreAtMost, prefixes, SpellsBlock, CountedFault, ZerosFault, PrefixFault, BeginsBlock, Shaped, BlockFault, prefix_count, ShapeFields, mid_of, clashes, count_at, flags_at, number_at, counted_at, head_at, tail_at, parts_end, prefix_at, common_at, own_at, addrs_at, block_at}
 use Rattle.mesh_addr.proofs.Padding.{split_at}
-use Rattle.mesh_addr.specs.Grammar.{SpellsHead, SpellsTail, SpellsMids, SpellsPrefixes, AreAll, AreAtMost, prefixes, SpellsBlock, CountedFault, ZerosFault, PrefixFault, BeginsBlock, Shaped, BlockFault, prefix_count}
 use Rattle.mesh_addr.specs.Grammar as fault
-use Rattle.mesh_addr.specs.Reading.{ShapeFields, mid_of, clashes, count_at, flags_at, number_at, counted_at, head_at, tail_at, parts_end, prefix_at, common_at, own_at, addrs_at, block_at}
 use Rattle.mesh_addr.proofs.Loops.{next_part}
 
 -- what a reader took, and what that is

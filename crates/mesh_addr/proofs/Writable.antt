@@ -1,10 +1,6 @@
 -- What is read meets the writer's conditions.
-use Rattle.std.proofs.Common.{◌≡◌, ℕ, ◌+◌, ◌-◌, ◌*◌, ◌<◌, ◌≤◌, Bool, true, false, List, [], ◌∷◌, ◌++◌, length, get_or, take, drop, sym, ap, ◌∙◌, arith, length-append}
-use Rattle.std.specs.Prelude.{slice_range, replicate}
-use Rattle.std.proofs.lemmas.List.{take_at, length-take}
+use Rattle.mesh_addr.proofs.Common.{◌≡◌, ℕ, ◌+◌, ◌-◌, ◌*◌, ◌<◌, ◌≤◌, Bool, true, false, List, [], ◌∷◌, ◌++◌, length, get_or, take, drop, sym, ap, ◌∙◌, arith, length-append, slice_range, replicate, take_at, length-take, RawAddr, padded, SpellsMids, SpellsPrefixes, AreAll, AreAtMost, AreRaw, IsWritable, prefixes, SpellsBlock}
 use Rattle.std.proofs.lemmas.List.Edits.{get_or-between}
-use Rattle.mesh_addr.specs.declared.records.RawAddr.{RawAddr}
-use Rattle.mesh_addr.specs.Grammar.{padded, SpellsMids, SpellsPrefixes, AreAll, AreAtMost, AreRaw, IsWritable, prefixes, SpellsBlock}
 use Rattle.mesh_addr.proofs.ReadAgain.{first_all}
 pub use Rattle.std.proofs.lemmas.Result.{IfOk-weaker as if_ok}
 

@@ -1,13 +1,6 @@
 -- Tests that decide statements: how tests of parts make tests of the whole, beside what std has.
-use Rattle.std.proofs.Common.{◌≡◌, ℕ, ◌≤◌, Bool, true, false, ◌||◌, not, nat_le, List, get_or, refl, ap, Decides}
-use Rattle.std.specs.Prelude.{Contains}
-use Rattle.std.specs.List.{list_any, list_all}
-use Rattle.std.proofs.lemmas.Bool.{false≢true, eqb-true, eq-eqb, leb-true, le-leb}
-use Rattle.std.proofs.lemmas.List.Folds.{Any-from_list_any, list_any_at}
+use Rattle.mesh_atoms.proofs.Common.{◌≡◌, ℕ, ◌≤◌, Bool, true, false, ◌||◌, not, nat_le, List, get_or, refl, ap, Decides, Contains, list_any, list_all, false≢true, eqb-true, eq-eqb, leb-true, le-leb, Any-from_list_any, list_any_at, All-contains, Contains-get_or, Addr4, addr_eq}
 use Rattle.std.proofs.lemmas.List.Sums.{AllPass-from_list_all, list_all-from_AllPass}
-use Rattle.std.proofs.lemmas.List.Elements.{All-contains, Contains-get_or}
-use Rattle.mesh_atoms.specs.declared.addr.Addr4.{Addr4}
-use Rattle.mesh_atoms.specs.Base.{addr_eq}
 pub use Rattle.std.proofs.lemmas.Bool.Decides.{Decides-and, Decides-or, Decides-not, Decides-eqb, Decides-ltb}
 
 Decides-under : {P Q : Type 0} {r : Bool} → Decides r Q → P → Decides r (P → Q)

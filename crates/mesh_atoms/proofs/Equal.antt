@@ -1,11 +1,7 @@
 -- When what tuples hold is the same.
-use Rattle.std.proofs.Common.{◌≡◌, ℕ, ◌≤◌, Bool, List, Option, Some, None, refl, ap, subst, ◌∙◌, arith}
-use Rattle.std.specs.Coded.{le_prop}
-use Rattle.mesh_atoms.specs.declared.addr.Addr4.{Addr4}
-use Rattle.mesh_atoms.specs.declared.codes.metric.Metric.{Metric}
+use Rattle.mesh_atoms.proofs.Common.{◌≡◌, ℕ, ◌≤◌, Bool, List, Option, Some, None, refl, ap, subst, ◌∙◌, arith, le_prop, Addr4, Metric, metric_value}
 use Rattle.mesh_atoms.specs.declared.hello.Willing.{Willing}
 use Rattle.mesh_atoms.specs.declared.tuples.Neighbour.{Neighbour}
-use Rattle.mesh_atoms.specs.Codes.Codes.{metric_value}
 use Rattle.mesh_atoms.specs.Words.{IsLeastMetric}
 use Rattle.mesh_atoms.proofs.CodesLemmas.CodeLaws.{cost-injective}
 use Rattle.mesh_atoms.proofs.Rows.{same_metric}

@@ -1,10 +1,7 @@
 -- What holds of a reading holds of a result that gives it.
-use Rattle.std.proofs.Common.{◌≡◌, Result, Ok, Err, refl, subst}
-use Rattle.std.specs.Prelude.{IfOk, IfErr, MatchResult}
+use Rattle.mesh_atoms.proofs.Common.{◌≡◌, Result, Ok, Err, refl, subst, IfOk, IfErr, MatchResult, Refusal, ◌>>=◌, Fails, Gives, IfRefused}
 use Rattle.mesh_atoms.specs.declared.refusal.DecodeFault.{DecodeFault}
 use Rattle.mesh_atoms.specs.declared.refusal.DecodeFault.TheVariants as faults
-use Rattle.mesh_atoms.specs.declared.refusal.Refusal.{Refusal}
-use Rattle.mesh_atoms.specs.Reading.{◌>>=◌, Fails, Gives, IfRefused}
 
 pub given : {X Y : Type 0} (view : X → Y) (P : Y → Type 0) (Q : Refusal → Type 0) (r : Result X DecodeFault) (read : Result Y Refusal) → Gives view r read → MatchResult read P Q → IfOk r (λ x. P (view x)) × IfErr r (IfRefused Q)
 given view P Q (Ok x) read h k = (rw h at k, tt)

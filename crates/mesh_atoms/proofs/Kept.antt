@@ -1,9 +1,6 @@
 -- What the tests of settings say.
-use Rattle.std.proofs.Common.{◌≡◌, Bool, true, false, List, [], ◌∷◌, refl}
-use Rattle.std.specs.Prelude.{IsTrue, not, ◌||◌}
-use Rattle.std.specs.List.{IsDistinct, AllByRecursion, list_any}
-use Rattle.mesh_atoms.specs.Settings.{are_distinct}
-use Rattle.std.proofs.lemmas.Bool.{and_parts as both}
+use Rattle.mesh_atoms.proofs.Common.{◌≡◌, Bool, true, false, List, [], ◌∷◌, refl, IsTrue, not, ◌||◌, AllByRecursion, list_any, are_distinct, and_parts as both}
+use Rattle.std.specs.List.{IsDistinct}
 
 neither : (a b : Bool) → not (a || b) ≡ true → (a ≡ false) × (not b ≡ true)
 neither true b h = absurd cc

@@ -1,17 +1,7 @@
 -- Elements of lists.
 use Rattle.mesh_atoms.proofs.Options.{none_is_some, not_both}
-use Rattle.mesh_atoms.specs.Settings.{are_distinct}
-use Rattle.std.proofs.Common.{All, Bool, Contains, List, None, Option, Some, [], ap, append_assoc, arith, cond, drop, false, filter, get_or, inl, inr, length, length-append, map, refl, slice_get, subst, suc, sym, take, true, zero, ℕ, ◌++◌, ◌+◌, ◌-◌, ◌<◌, ◌∙◌, ◌∷◌, ◌≡◌, ◌≤◌, ◌⊎◌}
-use Rattle.std.proofs.lemmas.Bool.{and_parts}
-use Rattle.std.proofs.lemmas.List.{get_or-map, length-map}
-use Rattle.std.proofs.lemmas.List.Elements.{All-contains, All-contains_itself, All-filter, Contains-append_cases, Contains-append_left, Contains-append_right, filter_passes}
-use Rattle.std.proofs.lemmas.List.Folds.{list_any-append}
+use Rattle.mesh_atoms.proofs.Common.{are_distinct, All, Bool, Contains, List, None, Option, Some, [], ap, append_assoc, arith, cond, drop, false, filter, get_or, inl, inr, length, length-append, map, refl, slice_get, subst, suc, sym, take, true, zero, ℕ, ◌++◌, ◌+◌, ◌-◌, ◌<◌, ◌∙◌, ◌∷◌, ◌≡◌, ◌≤◌, ◌⊎◌, and_parts, get_or-map, length-map, All-contains, All-contains_itself, All-filter, Contains-append_cases, Contains-append_left, Contains-append_right, filter_passes, list_any-append, list_any-from_Contains, get_or_from_slice_get, slice_get-get_or, slice_get_read, slice_get_within, IsEquivalence, AllPairs, cons_option, flat_map, list_all, list_any, not, slice_set, slice_range}
 use Rattle.std.proofs.lemmas.List.Kept.{AllPairs-cons}
-use Rattle.std.proofs.lemmas.Map.Views.{list_any-from_Contains}
-use Rattle.std.proofs.lemmas.Option.{get_or_from_slice_get, slice_get-get_or, slice_get_read, slice_get_within}
-use Rattle.std.specs.Cmp.{IsEquivalence}
-use Rattle.std.specs.List.{AllPairs, cons_option, flat_map, list_all, list_any}
-use Rattle.std.specs.Prelude.{not, slice_set, slice_range}
 
 pub contains_head : {A : Type 0} (a : A) (rest : List A) → Contains (a ∷ rest) a
 contains_head a rest = (0, omega arith, refl)

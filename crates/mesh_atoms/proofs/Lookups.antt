@@ -1,14 +1,5 @@
 -- What a link is, by tests and by cases; tuples by look-up and by membership.
-use Rattle.std.proofs.Common.{◌≡◌, ℕ, nat_eq, inl, inr, ◌≢◌, refl, sym, ◌∙◌, ap, subst, arith, List, [], slice_get, Some}
-use Rattle.std.specs.Prelude.{◌↔◌, Bool, true, false, cond, nat_lt, not, ◌&&◌}
-use Rattle.std.specs.Cmp.{IsEquivalence}
-use Rattle.std.proofs.lemmas.Bool.{eqb-true, false≢true, and_parts}
-use Rattle.std.proofs.lemmas.Cmp.{nat_eq_equiv, on_equiv, and_equiv}
-use Rattle.std.proofs.lemmas.Map.Views.{Contains-from_lookup, lookup-from_Contains}
-use Rattle.std.proofs.lemmas.List.{get_or_past}
-use Rattle.std.proofs.lemmas.Option.{slice_get_cases, get_or_from_slice_get}
-use Rattle.mesh_atoms.specs.declared.addr.Addr4.{Addr4}
-use Rattle.mesh_atoms.specs.declared.addr.NetAddr.{NetAddr}
+use Rattle.mesh_atoms.proofs.Common.{◌≡◌, ℕ, nat_eq, inl, inr, ◌≢◌, refl, sym, ◌∙◌, ap, subst, arith, List, [], slice_get, Some, ◌↔◌, Bool, true, false, cond, nat_lt, not, ◌&&◌, IsEquivalence, eqb-true, false≢true, and_parts, nat_eq_equiv, on_equiv, and_equiv, Contains-from_lookup, lookup-from_Contains, get_or_past, slice_get_cases, get_or_from_slice_get, Addr4, NetAddr, Base, Has, find, base_of, HasDistinctKeys, addr_eq, net_eq, link_eq, two_hop_eq, router_eq, address_eq, network_eq, link_state}
 use Rattle.mesh_atoms.specs.declared.hello.LinkStatus.{LinkStatus}
 use Rattle.mesh_atoms.specs.declared.hello.LinkStatus.TheVariants.{Lost as Down, Symmetric, Heard}
 use Rattle.mesh_atoms.specs.declared.tuples.LinkKey.{LinkKey}
@@ -17,11 +8,9 @@ use Rattle.mesh_atoms.specs.declared.tuples.RouterKey.{RouterKey}
 use Rattle.mesh_atoms.specs.declared.tuples.AddressKey.{AddressKey}
 use Rattle.mesh_atoms.specs.declared.tuples.NetworkKey.{NetworkKey}
 use Rattle.mesh_atoms.specs.Agreement.{TestsSymmetric, TestsHeard, LooksUpLinks, LooksUpTwoHops, LooksUpNeighbours, LooksUpLosts, LooksUpAdvertisers, LooksUpRouters, LooksUpAddresses, LooksUpNetworks, ShowsStatus}
-use Rattle.mesh_atoms.specs.Base.{Base, Has, find, base_of, HasDistinctKeys, addr_eq, net_eq, link_eq, two_hop_eq, router_eq, address_eq, network_eq}
 use Rattle.mesh_atoms.proofs.Nets.{same_net as same_parts}
 use Rattle.mesh_atoms.specs.declared.tuples.LinkState.{LinkState}
 use Rattle.mesh_atoms.specs.declared.tuples.LinkState.TheVariants.{Pending as Is_pending, Lost as Is_lost, Symmetric as Is_symmetric, Heard as Is_heard}
-use Rattle.mesh_atoms.specs.State.{link_state}
 
 -- The status of a link
 

@@ -1,8 +1,5 @@
 -- When two networks are the same.
-use Rattle.std.proofs.Common.{◌≡◌, ℕ, ◌-◌, ◌≤◌, ◌^◌, ◌%◌, ap, subst, ◌∙◌}
-use Rattle.std.specs.Coded.{le_prop, Coded-set, coded_ℕ}
-use Rattle.mesh_atoms.specs.declared.addr.Addr4.{Addr4}
-use Rattle.mesh_atoms.specs.declared.addr.NetAddr.{NetAddr}
+use Rattle.mesh_atoms.proofs.Common.{◌≡◌, ℕ, ◌-◌, ◌≤◌, ◌^◌, ◌%◌, ap, subst, ◌∙◌, le_prop, Coded-set, coded_ℕ, Addr4, NetAddr}
 
 -- the network of an address and a prefix
 abbrev Clear : Addr4 → ℕ → Type 0

@@ -1,8 +1,5 @@
 -- Options, results and conditions.
-use Rattle.std.proofs.Common.{Bool, Err, None, Ok, OnOk, Option, Result, Some, cond, false, refl, sym, true, ◌∙◌, ◌≡◌}
-use Rattle.std.proofs.lemmas.Bool.{false≢true}
-use Rattle.std.specs.Option.{is_some}
-use Rattle.std.specs.Prelude.{IfOk, IsTrue, OnErr, not, ◌↔◌}
+use Rattle.mesh_atoms.proofs.Common.{Bool, Err, None, Ok, OnOk, Option, Result, Some, cond, false, refl, sym, true, ◌∙◌, ◌≡◌, false≢true, is_some, IfOk, IsTrue, OnErr, not, ◌↔◌}
 
 pub some_of : {X : Type 0} (o : Option X) → is_some o ≡ true → (x : X) × (o ≡ Some x)
 some_of None e = cc

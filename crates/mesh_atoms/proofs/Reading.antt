@@ -1,13 +1,7 @@
 -- What readers take of a frame, and that they take again what stands there.
-use Rattle.std.proofs.Common.{◌≡◌, ℕ, suc, ◌+◌, ◌-◌, ◌<◌, ◌≤◌, Bool, true, false, cond, ltb, List, [], ◌∷◌, ◌++◌, length, get_or, take, drop, Result, Ok, Err, refl, sym, ap, subst, ◌∙◌, arith, append_assoc, drop-cons}
-use Rattle.std.specs.Prelude.{MatchResult, slice_range}
+use Rattle.mesh_atoms.proofs.Common.{◌≡◌, ℕ, suc, ◌+◌, ◌-◌, ◌<◌, ◌≤◌, Bool, true, false, cond, ltb, List, [], ◌∷◌, ◌++◌, length, get_or, take, drop, Result, Ok, Err, refl, sym, ap, subst, ◌∙◌, arith, append_assoc, drop-cons, MatchResult, slice_range, ltb-false, ltb-true, le-ltb, lt-ltb, length-append, length-drop, length-take, take_at, drop_at, drop_split, Refusal, ◌>>=◌, refuse, octet_at, short_at, piece_at}
 use Rattle.std.proofs.Math.Seq.{take-append-add}
-use Rattle.std.proofs.lemmas.Bool.{ltb-false, ltb-true, le-ltb, lt-ltb}
-use Rattle.std.proofs.lemmas.List.{length-append, length-drop, length-take, take_at, drop_at}
-use Rattle.std.proofs.lemmas.List.Folds.{drop_split}
-use Rattle.mesh_atoms.specs.declared.refusal.Refusal.{Refusal}
 use Rattle.mesh_atoms.specs.Grammar.{SpellsShort}
-use Rattle.mesh_atoms.specs.Reading.{◌>>=◌, refuse, octet_at, short_at, piece_at}
 
 -- ---- what holds of a reading: of what is read, or of the fault
 

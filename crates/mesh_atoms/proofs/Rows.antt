@@ -1,15 +1,7 @@
 -- When rows of a TC are the same.
-use Rattle.std.specs.Coded.{le_prop}
-use Rattle.std.proofs.Common.{◌≡◌, ℕ, ◌<◌, subst, Bool, eqb, ◌&&◌, refl, ap, ◌∙◌, Decides}
-use Rattle.std.specs.Prelude.{Option, Some, None}
-use Rattle.std.specs.Option.{option_eq}
-use Rattle.std.specs.Cmp.{booleans_Decides}
+use Rattle.mesh_atoms.proofs.Common.{le_prop, ◌≡◌, ℕ, ◌<◌, subst, Bool, eqb, ◌&&◌, refl, ap, ◌∙◌, Decides, Option, Some, None, option_eq, booleans_Decides, false≢true, Addr4, NetAddr, Metric}
 use Rattle.std.proofs.Math.Bool.{beq}
-use Rattle.std.proofs.lemmas.Bool.{false≢true}
 use Rattle.std.proofs.lemmas.Bool.Decides.{Decides-and, Decides-eqb, Decides-like}
-use Rattle.mesh_atoms.specs.declared.addr.Addr4.{Addr4}
-use Rattle.mesh_atoms.specs.declared.addr.NetAddr.{NetAddr}
-use Rattle.mesh_atoms.specs.declared.codes.metric.Metric.{Metric}
 use Rattle.mesh_atoms.specs.declared.tc.TcRow.{TcRow}
 use Rattle.mesh_atoms.proofs.Nets.{same_net}
 

@@ -1,9 +1,5 @@
 -- Values of times by distance that are put together from the front.
-use Rattle.std.proofs.Common.{◌≡◌, ℕ, ◌+◌, ◌*◌, ◌<◌, refl, sym, ap, subst, ◌∙◌, arith, List, [], ◌∷◌, ◌++◌, length, length-append, drop, get_or}
-use Rattle.std.proofs.lemmas.List.{drop_more}
-use Rattle.mesh_atoms.specs.declared.settings.NearHold.{NearHold}
-use Rattle.mesh_atoms.specs.Codes.Codes.{IsSentCode}
-use Rattle.mesh_atoms.specs.Validity.{IsLeastCode, IsTimeValue, Up_to, IsValidity, Near}
+use Rattle.mesh_atoms.proofs.Common.{◌≡◌, ℕ, ◌+◌, ◌*◌, ◌<◌, refl, sym, ap, subst, ◌∙◌, arith, List, [], ◌∷◌, ◌++◌, length, length-append, drop, get_or, drop_more, NearHold, IsSentCode, IsLeastCode, IsTimeValue, Up_to, IsValidity, Near}
 
 -- two more octets stand before what follows
 pub two_more : (v : List ℕ) (a b : ℕ) (rest : List ℕ) → ((v ++ a ∷ []) ++ b ∷ []) ++ rest ≡ v ++ a ∷ b ∷ rest

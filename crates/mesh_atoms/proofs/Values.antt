@@ -1,16 +1,8 @@
 -- Addresses, metrics, tuples and the order of nodes.
 use Rattle.mesh_atoms.proofs.Lists.{contains_cases, contains_none, contains_tail}
 use Rattle.mesh_atoms.proofs.Options.{same_some}
-use Rattle.mesh_atoms.specs.Base.{addr_eq, host, net_eq}
-use Rattle.mesh_atoms.specs.Nodes.{IsAtMost, IsBefore}
-use Rattle.mesh_atoms.specs.State.{HasAddressOn, IsOriginator}
-use Rattle.mesh_atoms.specs.declared.addr.Addr4.{Addr4}
-use Rattle.mesh_atoms.specs.declared.addr.NetAddr.{NetAddr}
-use Rattle.mesh_atoms.specs.declared.settings.Interface.{Interface}
+use Rattle.mesh_atoms.proofs.Common.{addr_eq, host, net_eq, IsAtMost, IsBefore, HasAddressOn, IsOriginator, Addr4, NetAddr, Interface, Contains, List, Some, [], ap, arith, inl, inr, refl, slice_get, subst, true, ℕ, ◌∷◌, ◌≡◌, ◌⊎◌, cases_eq, eq-eqb, ◌↔◌}
 use Rattle.mesh_atoms.specs.declared.settings.RouterSettings.{RouterSettings}
-use Rattle.std.proofs.Common.{Contains, List, Some, [], ap, arith, inl, inr, refl, slice_get, subst, true, ℕ, ◌∷◌, ◌≡◌, ◌⊎◌}
-use Rattle.std.proofs.lemmas.Bool.{cases_eq, eq-eqb}
-use Rattle.std.specs.Prelude.{◌↔◌}
 
 -- addresses of one number are one
 pub same_addr : (a b : Addr4) → a.0 ≡ b.0 → a ≡ b

@@ -4,13 +4,7 @@ mod Graphs
 mod Listings
 mod Offers
 mod Reduced
-use Rattle.std.proofs.Common.{◌≡◌, ℕ, ◌+◌, zero, suc, inl, inr, refl, subst, arith, List, [], ◌∷◌, ◌++◌, length, slice_get, Some}
-use Rattle.mesh_atoms.specs.declared.addr.Addr4.{Addr4}
-use Rattle.mesh_atoms.specs.declared.graphs.NeighbourGraph.{NeighbourGraph}
-use Rattle.mesh_atoms.specs.RelayGraphs.{AreRelaysOf, IsFloodingGraph}
-use Rattle.mesh_atoms.specs.Sound.{SoundNeighbourhood}
-use Rattle.mesh_atoms.specs.State.{State}
-use Rattle.mesh_atoms.proofs.Lists.{get_pushed, length_pushed}
+use Rattle.mesh_bases.proofs.Common.{◌≡◌, ℕ, ◌+◌, zero, suc, inl, inr, refl, subst, arith, List, [], ◌∷◌, ◌++◌, length, slice_get, Some, Addr4, NeighbourGraph, AreRelaysOf, IsFloodingGraph, SoundNeighbourhood, State, get_pushed, length_pushed}
 use Rattle.mesh_bases.specs.Existing.{RoutersHaveRelays}
 use Rattle.mesh_bases.proofs.Existing.Graphs.{flooding_graph, routing_graph}
 use Rattle.mesh_bases.proofs.Existing.Reduced.{relays_of_graph}

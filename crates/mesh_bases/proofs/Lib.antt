@@ -10,3 +10,4 @@ mod Chosen
 mod Pushed
 mod ReadingLemmas
 mod Selectors
+mod Common

@@ -1,11 +1,5 @@
 -- The relays that a router has chosen depend on no moment.
-use Rattle.std.proofs.Common.{◌≡◌, ℕ, sym, ◌∙◌, ap, subst, length, Some}
-use Rattle.std.specs.Prelude.{slice_get}
-use Rattle.mesh_atoms.specs.declared.tuples.Relays.{Relays}
-use Rattle.mesh_atoms.specs.RelayGraphs.{AreRelaysOf, AreRelays}
-use Rattle.mesh_atoms.specs.State.{State}
-use Rattle.mesh_routes.specs.Staying.{SameWays, SameTwoHops}
-use Rattle.mesh_routes.proofs.StayingLaw.{graphs_stay}
+use Rattle.mesh_bases.proofs.Common.{◌≡◌, ℕ, sym, ◌∙◌, ap, subst, length, Some, slice_get, Relays, AreRelaysOf, AreRelays, State, SameWays, SameTwoHops, graphs_stay}
 
 -- the same neighbours, ways and 2-hop tuples keep the relays
 pub relays_stay : {s t : State} {now later : ℕ} → SameWays s now t later → SameTwoHops s t → length t.settings.interfaces ≡ length s.settings.interfaces → t.relays ≡ s.relays → AreRelays s now → AreRelays t later

@@ -1,12 +1,6 @@
 -- The rows that a router advertises depend on no moment.
-use Rattle.std.proofs.Common.{◌≡◌, ◌≢◌, ◌↔◌, ◌⊎◌, inl, inr, refl, sym, subst, List, [], ◌∷◌}
-use Rattle.mesh_atoms.specs.declared.addr.Addr4.{Addr4}
-use Rattle.mesh_atoms.specs.declared.codes.metric.Metric.{Metric}
+use Rattle.mesh_bases.proofs.Common.{◌≡◌, ◌≢◌, ◌↔◌, ◌⊎◌, inl, inr, refl, sym, subst, List, [], ◌∷◌, Addr4, Metric, TcRow, Neighbour, GivesAsSelector, AreRowsBy, AreTcRows, State, HasSymmetric}
 use Rattle.mesh_atoms.specs.declared.settings.Attached4.{Attached4}
-use Rattle.mesh_atoms.specs.declared.tc.TcRow.{TcRow}
-use Rattle.mesh_atoms.specs.declared.tuples.Neighbour.{Neighbour}
-use Rattle.mesh_atoms.specs.Advertised.{GivesAsSelector, AreRowsBy, AreTcRows}
-use Rattle.mesh_atoms.specs.State.{State, HasSymmetric}
 use Rattle.mesh_topo.proofs.AdvertisedLemmas.Advertising.{same_row}
 
 gives_by : (s t : State) → ((o : Addr4) (n : Neighbour) → HasSymmetric s o n → HasSymmetric t o n) → (a o : Addr4) (m : Metric) → GivesAsSelector s a o m → GivesAsSelector t a o m

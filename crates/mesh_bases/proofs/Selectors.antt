@@ -1,17 +1,6 @@
 -- The neighbours that have chosen a router as a routing relay.
-use Rattle.std.proofs.Common.{◌≡◌, ◌<◌, ℕ, inl, inr, refl, sym, ap, subst, arith, ◌∙◌, Bool, true, false, cond, List, [], Option, Some, None}
-use Rattle.std.specs.Prelude.{◌&&◌}
-use Rattle.mesh_atoms.specs.declared.addr.Addr4.{Addr4}
-use Rattle.mesh_atoms.specs.declared.codes.metric.Metric.{Metric}
-use Rattle.mesh_atoms.specs.declared.tuples.Neighbour.{Neighbour}
-use Rattle.mesh_atoms.specs.Base.{Base}
-use Rattle.mesh_atoms.specs.State.{State}
-use Rattle.mesh_topo.specs.declared.advertised.rows.Selector.{Selector}
-use Rattle.mesh_topo.specs.Advertised.Selectors.{HasSelector, IsSelectorOf, AreSelectors}
-use Rattle.mesh_routes.specs.Passes.{Adds, GivenByElement}
+use Rattle.mesh_bases.proofs.Common.{◌≡◌, ◌<◌, ℕ, inl, inr, refl, sym, ap, subst, arith, ◌∙◌, Bool, true, false, cond, List, [], Option, Some, None, ◌&&◌, Addr4, Metric, Neighbour, Base, State, Selector, HasSelector, IsSelectorOf, AreSelectors, Adds, GivenByElement, adds_start, adds_all, selector_metric, IsSelectorBy}
 use Rattle.mesh_routes.proofs.Choosing.{adds_same}
-use Rattle.mesh_routes.proofs.Passes.{adds_start, adds_all}
-use Rattle.mesh_bases.specs.Selecting.{selector_metric, IsSelectorBy}
 
 abbrev metric_if : Bool → Bool → Option Metric → Option Metric
 metric_if a b o = cond (a && b) o None

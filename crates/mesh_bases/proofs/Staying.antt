@@ -1,23 +1,8 @@
 -- What followed from the bases of a router at its last event still follows at a later moment, part by part: relays and advertised rows where the
 -- neighbourhood is the same but for moments, and routes where others advertise the same too.
-use Rattle.std.proofs.Common.{◌≡◌, ℕ, refl, sym, ap, subst, List, length, []}
-use Rattle.mesh_atoms.specs.declared.addr.Addr4.{Addr4}
-use Rattle.mesh_atoms.specs.declared.settings.RouterSettings.{RouterSettings}
-use Rattle.mesh_atoms.specs.declared.tc.TcRow.{TcRow}
-use Rattle.mesh_atoms.specs.declared.tuples.LinkKey.{LinkKey}
-use Rattle.mesh_atoms.specs.declared.codes.metric.Metric.{Metric}
-use Rattle.mesh_atoms.specs.declared.tuples.Neighbour.{Neighbour}
-use Rattle.mesh_atoms.specs.Advertised.{AreTcRows}
-use Rattle.mesh_atoms.specs.Live.{HasTables}
-use Rattle.mesh_atoms.specs.RelayGraphs.{AreRelays}
+use Rattle.mesh_bases.proofs.Common.{◌≡◌, ℕ, refl, sym, ap, subst, List, length, [], Addr4, RouterSettings, TcRow, LinkKey, Metric, Neighbour, AreTcRows, HasTables, AreRelays, SoundNeighbourhood, SoundTopology, State, TopologyBase, SameNear, SameAdvertised, SameWays, SameTwoHops, routes_stay}
 use Rattle.mesh_atoms.specs.Routes.{AreRoutes, IsWayTo}
-use Rattle.mesh_atoms.specs.Sound.{SoundNeighbourhood, SoundTopology}
-use Rattle.mesh_atoms.specs.State.{State, TopologyBase}
-use Rattle.mesh_nbrs.specs.Same.{SameNear}
-use Rattle.mesh_topo.specs.Same.{SameAdvertised}
-use Rattle.mesh_routes.specs.Staying.{SameWays, SameTwoHops}
 use Rattle.mesh_routes.proofs.SameBases.{bases_give_same}
-use Rattle.mesh_routes.proofs.StayingLaw.{routes_stay}
 use Rattle.mesh_machine.proofs.topo.Soundness.{none_sound}
 use Rattle.mesh_bases.proofs.Moments.{relays_stay}
 use Rattle.mesh_bases.proofs.RowMoments.{rows_stay}

@@ -1,25 +1,7 @@
 -- No sender of an interface stands twice: two arcs that lead to it come from two interfaces, whose addresses differ.
-use Rattle.std.proofs.Common.{◌≡◌, ℕ, zero, suc, List, [], ◌∷◌, ◌++◌, map, Bool, true, false, not, ◌&&◌, cond, nat_eq, Contains, Option, Some, None, refl, sym, ap, ◌∙◌}
-use Rattle.std.specs.List.{list_any, flat_map, slice_get}
-use Rattle.std.proofs.lemmas.Bool.{and_parts, eqb-true, eq-eqb, or_parts, false_from_ne_true}
-use Rattle.std.proofs.lemmas.List.{map-append}
-use Rattle.std.proofs.lemmas.List.Folds.{list_any-append, flat_map-map}
-use Rattle.std.proofs.lemmas.Simd.{map-map}
-use Rattle.mesh_atoms.specs.declared.addr.Addr4.{Addr4}
-use Rattle.mesh_atoms.specs.declared.codes.metric.Metric.{Metric}
-use Rattle.mesh_atoms.specs.declared.settings.RadioArc.{RadioArc}
-use Rattle.mesh_atoms.specs.declared.settings.SenderMetric.{SenderMetric}
-use Rattle.mesh_atoms.specs.Base.{addr_eq}
-use Rattle.mesh_atoms.specs.Literals.{◌>>=◌}
-use Rattle.mesh_atoms.specs.Settings.{are_distinct, ends_eq}
+use Rattle.mesh_config.proofs.Common.{◌≡◌, ℕ, zero, suc, List, [], ◌∷◌, ◌++◌, map, Bool, true, false, not, ◌&&◌, cond, nat_eq, Contains, Option, Some, None, refl, sym, ap, ◌∙◌, list_any, flat_map, slice_get, and_parts, eqb-true, eq-eqb, or_parts, false_from_ne_true, map-append, list_any-append, flat_map-map, map-map, Addr4, Metric, RadioArc, SenderMetric, addr_eq, ◌>>=◌, are_distinct, ends_eq, StatedInterface, StatedRouter, all_addrs, stated_lists, ends_of, HaveNoDuplicates, AddressLists, first_addr, with_metric, sender_by, sender_pair, senders_to, not_both as no_both, same_some, back_distinct, contains_at, contains_flat_map_at, front_distinct, one_part}
 use Rattle.mesh_atoms.proofs.Lookups.{addr_equiv, same_addr}
-use Rattle.mesh_config.specs.declared.stated.stated.StatedInterface.{StatedInterface}
-use Rattle.mesh_config.specs.declared.stated.stated.StatedRouter.{StatedRouter}
-use Rattle.mesh_config.specs.Checks.Compared.{all_addrs, stated_lists, ends_of}
-use Rattle.mesh_config.specs.Senders.{HaveNoDuplicates, AddressLists, first_addr, with_metric, sender_by, sender_pair, senders_to}
 use Rattle.mesh_config.proofs.JoinFacts.{bind_some}
-use Rattle.mesh_atoms.proofs.Options.{not_both as no_both, same_some}
-use Rattle.mesh_atoms.proofs.Lists.{back_distinct, contains_at, contains_flat_map_at, front_distinct, one_part}
 
 -- a part of a list, no address of which stands twice
 part_apart : {A : Type 0} (f : A → List Addr4) (xs : List A) (i : ℕ) (x : A) → are_distinct addr_eq (flat_map f xs) ≡ true → slice_get xs i ≡ Some x → are_distinct addr_eq (f x) ≡ true

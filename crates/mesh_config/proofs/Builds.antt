@@ -1,26 +1,8 @@
 -- Settings out of what their tables state.
-use Rattle.std.proofs.Common.{◌≡◌, ℕ, ◌+◌, ◌<◌, suc, List, [], ◌∷◌, ◌++◌, map, length, get_or, take, codes, zero, Bool, true, false, not, All, None, refl, sym, ap, ◌∙◌, subst, arith}
-use Rattle.std.specs.List.{list_all, list_any, flat_map}
-use Rattle.std.proofs.lemmas.List.Folds.{list_all-map, list_any-append, flat_map-map}
-use Rattle.std.proofs.lemmas.Bool.{and_parts}
+use Rattle.mesh_config.proofs.Common.{◌≡◌, ℕ, ◌+◌, ◌<◌, suc, List, [], ◌∷◌, ◌++◌, map, length, get_or, take, codes, zero, Bool, true, false, not, All, None, refl, sym, ap, ◌∙◌, subst, arith, list_all, list_any, flat_map, list_all-map, list_any-append, flat_map-map, and_parts, map-append, length-map, map-map, Attached4, Interface, addr_eq, net_eq, are_distinct, is_host, name_eq, StatedRouter, StatedInterface, first, duplicate_unless, same_router, same_interface, same_attached, router_addrs, all_addrs, attaches_no_host, stated_duplicates, interface_fields, IsClear, AreOfOneRouter, InterfaceFields, stated_interface_fields, EachAt, back_distinct, front_distinct}
 use Rattle.std.proofs.lemmas.List.Elements.{All-nil, All-cons}
-use Rattle.std.proofs.lemmas.List.{map-append, length-map}
-use Rattle.std.proofs.lemmas.Simd.{map-map}
-use Rattle.mesh_atoms.specs.declared.settings.Attached4.{Attached4}
-use Rattle.mesh_atoms.specs.declared.settings.Interface.{Interface}
-use Rattle.mesh_atoms.specs.Base.{addr_eq, net_eq}
-use Rattle.mesh_atoms.specs.Settings.{are_distinct, is_host, name_eq}
-use Rattle.mesh_config.specs.declared.stated.stated.StatedRouter.{StatedRouter}
-use Rattle.mesh_config.specs.declared.stated.stated.StatedInterface.{StatedInterface}
-use Rattle.mesh_config.specs.Keys.Faults.{first}
-use Rattle.mesh_config.specs.Checks.Checks.{duplicate_unless}
-use Rattle.mesh_config.specs.Checks.Compared.{same_router, same_interface, same_attached, router_addrs, all_addrs, attaches_no_host, stated_duplicates}
-use Rattle.mesh_config.specs.Fields.{interface_fields, IsClear, AreOfOneRouter}
-use Rattle.mesh_config.specs.Stated.Router.{InterfaceFields, stated_interface_fields}
-use Rattle.mesh_config.specs.Senders.{EachAt}
 use Rattle.mesh_config.proofs.ChecksLemmas.Links.{are_distinct-map}
 use Rattle.mesh_config.proofs.KeysLemmas.Elements.{map_take}
-use Rattle.mesh_atoms.proofs.Lists.{back_distinct, front_distinct}
 
 -- one more
 pub each_more : {X : Type 0} (Has : ℕ → X → Type 0) (i n : ℕ) (xs : List X) (x : X) → EachAt Has i xs → i + length xs ≡ n → Has n x → EachAt Has i (xs ++ x ∷ [])

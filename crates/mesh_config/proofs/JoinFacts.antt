@@ -1,13 +1,7 @@
 -- What arcs that are joined by name keep.
-use Rattle.std.proofs.Common.{◌≡◌, ℕ, zero, suc, List, [], ◌∷◌, ◌++◌, map, length, position, Bool, true, false, cond, codes, nat_eq, nat_lt, slice_index, Option, Some, None, Ok, Err, refl, sym, ◌∙◌, subst, arith}
-use Rattle.std.specs.List.{list_all, list_any, slice_get, position_or_len}
+use Rattle.mesh_config.proofs.Common.{◌≡◌, ℕ, zero, suc, List, [], ◌∷◌, ◌++◌, map, length, position, Bool, true, false, cond, codes, nat_eq, nat_lt, slice_index, Option, Some, None, Ok, Err, refl, sym, ◌∙◌, subst, arith, list_all, list_any, slice_get, position_or_len, list_any-append, name_eq, are_distinct, Ends, ends_eq, is_interface, joins_routers, Fault, ReadValue, fault, bad_value, ◌>>=◌, Identifiers, NamedInterface, find_place, known_place, ends, new_ends, joined, joins, ◌>>?◌}
 use Rattle.std.proofs.lemmas.Bool.Decides.{nat_tests}
-use Rattle.std.proofs.lemmas.List.Folds.{list_any-append}
-use Rattle.mesh_atoms.specs.Settings.{name_eq, are_distinct, Ends, ends_eq, is_interface, joins_routers}
 use Rattle.mesh_config.specs.declared.keys.refusal.TheConstants.{DUPLICATE}
-use Rattle.mesh_config.specs.Keys.Faults.{Fault, ReadValue, fault, bad_value}
-use Rattle.mesh_atoms.specs.Literals.{◌>>=◌}
-use Rattle.mesh_config.specs.Checks.Checks.{Identifiers, NamedInterface, find_place, known_place, ends, new_ends, joined, joins, ◌>>?◌}
 
 abbrev counts : List Identifiers → List ℕ
 counts routers = map (λ (n : Identifiers). length n.interface_names) routers

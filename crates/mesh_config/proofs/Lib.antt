@@ -11,3 +11,4 @@ mod RunLaws
 mod Said
 mod StatedLemmas
 mod Told
+mod Common

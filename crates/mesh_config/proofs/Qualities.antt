@@ -1,19 +1,7 @@
 -- The qualities of the senders of an interface.
-use Rattle.std.proofs.Common.{◌≡◌, ℕ, zero, suc, ◌+◌, ◌<◌, ◌≤◌, List, [], ◌∷◌, ◌++◌, map, length, get_or, take, Bool, true, false, cond, nat_eq, ◌&&◌, Option, Some, None, refl, sym, ap, ◌∙◌, arith}
-use Rattle.std.specs.List.{flat_map, slice_get}
-use Rattle.std.proofs.lemmas.List.{take_more, length-take-le, map-append, append-nil}
+use Rattle.mesh_config.proofs.Common.{◌≡◌, ℕ, zero, suc, ◌+◌, ◌<◌, ◌≤◌, List, [], ◌∷◌, ◌++◌, map, length, get_or, take, Bool, true, false, cond, nat_eq, ◌&&◌, Option, Some, None, refl, sym, ap, ◌∙◌, arith, flat_map, slice_get, take_more, length-take-le, map-append, append-nil, slice_get_read, map-map, Addr4, QualityStep, Metric, RadioArc, SenderMetric, StatedArc, quality_pair, AddressLists, first_addr, with_metric, sender_by, senders_to, sender_pair, with_steps, with_quality, quality_by, qualities_to, stated_steps, steps_at}
 use Rattle.std.proofs.lemmas.Grind.{flat_map-append}
-use Rattle.std.proofs.lemmas.Option.{slice_get_read}
-use Rattle.std.proofs.lemmas.Simd.{map-map}
-use Rattle.mesh_atoms.specs.declared.addr.Addr4.{Addr4}
-use Rattle.mesh_atoms.specs.declared.admit.QualityStep.{QualityStep}
 use Rattle.mesh_atoms.specs.declared.admit.SenderQuality.{SenderQuality}
-use Rattle.mesh_atoms.specs.declared.codes.metric.Metric.{Metric}
-use Rattle.mesh_atoms.specs.declared.settings.RadioArc.{RadioArc}
-use Rattle.mesh_atoms.specs.declared.settings.SenderMetric.{SenderMetric}
-use Rattle.mesh_config.specs.declared.stated.stated.StatedArc.{StatedArc}
-use Rattle.mesh_config.specs.Stated.Steps.{quality_pair}
-use Rattle.mesh_config.specs.Senders.{AddressLists, first_addr, with_metric, sender_by, senders_to, sender_pair, with_steps, with_quality, quality_by, qualities_to, stated_steps, steps_at}
 
 -- the steps of a stated arc are those at its number
 stated_there : (arcs : List StatedArc) (number : ℕ) (arc : StatedArc) → slice_get arcs number ≡ Some arc → steps_at (stated_steps arcs) number ≡ arc.steps

@@ -1,31 +1,10 @@
 -- The setup of `run` out of what its tables state.
-use Rattle.std.proofs.Common.{◌≡◌, ℕ, List, [], ◌∷◌, map, length, Bool, true, false, codes, nat_le, le-leb, Option, Some, None, refl, sym, ap, ◌∙◌, lit≤}
-use Rattle.std.specs.List.{list_all}
-use Rattle.std.proofs.lemmas.Bool.{and_parts}
-use Rattle.std.proofs.lemmas.List.{length-map}
-use Rattle.std.proofs.lemmas.Simd.{map-map}
-use Rattle.toml.specs.Data.{Members}
-use Rattle.mesh_atoms.specs.declared.addr.Addr4.{Addr4}
-use Rattle.mesh_atoms.specs.declared.settings.Interface.{Interface}
-use Rattle.mesh_atoms.specs.declared.settings.RouterSettings.{RouterSettings}
+use Rattle.mesh_config.proofs.Common.{◌≡◌, ℕ, List, [], ◌∷◌, map, length, Bool, true, false, codes, nat_le, le-leb, Option, Some, None, refl, sym, ap, ◌∙◌, lit≤, list_all, and_parts, length-map, map-map, Members, Addr4, Interface, RouterSettings, SenderMetric, Times, addr_eq, are_distinct, are_senders, StatedRouter, Fault, first, listed, interfaces, stated_interface_fields, sub_times, run_table_visits, address, neighbours, StatedNeighbourIs, NeighbourIs, QualityIs, CostsAre, RunRouterIs, RunIs, Identifiers, tables_in, duplicates, duplicate_unless, stated_identifiers, interface_fields, CostFields, interface_costs, RouterParts, settings_parts, stated_parts, IsClear, CostsSay, SetupSays, SetupFrom, setup_visits, run_checks, the_router, addr_in, neighbour_addrs, stated_costs, same_neighbour, senders_checked, stated_run_checks}
 use Rattle.mesh_atoms.specs.declared.settings.RunSetup.{RunSetup}
-use Rattle.mesh_atoms.specs.declared.settings.SenderMetric.{SenderMetric}
-use Rattle.mesh_atoms.specs.declared.settings.Times.{Times}
-use Rattle.mesh_atoms.specs.Base.{addr_eq}
-use Rattle.mesh_atoms.specs.Settings.{are_distinct, are_senders}
 use Rattle.mesh_config.specs.declared.run_tables.stated.Costs.{Costs}
 use Rattle.mesh_config.specs.declared.run_tables.stated.StatedNeighbour.{StatedNeighbour}
 use Rattle.mesh_config.specs.declared.run_tables.stated.StatedRun.{StatedRun}
 use Rattle.mesh_config.specs.declared.run_tables.stated.StatedRunRouter.{StatedRunRouter}
-use Rattle.mesh_config.specs.declared.stated.stated.StatedRouter.{StatedRouter}
-use Rattle.mesh_config.specs.Keys.Faults.{Fault, first, listed}
-use Rattle.mesh_config.specs.Stated.Router.{interfaces, stated_interface_fields}
-use Rattle.mesh_config.specs.Stated.Scenario.{sub_times}
-use Rattle.mesh_config.specs.RunTables.Run.{run_table_visits, address, neighbours, StatedNeighbourIs, NeighbourIs, QualityIs, CostsAre, RunRouterIs, RunIs}
-use Rattle.mesh_config.specs.Checks.Checks.{Identifiers, tables_in, duplicates, duplicate_unless}
-use Rattle.mesh_config.specs.Checks.Compared.{stated_identifiers}
-use Rattle.mesh_config.specs.Fields.{interface_fields, CostFields, interface_costs, RouterParts, settings_parts, stated_parts, IsClear}
-use Rattle.mesh_config.specs.RunSettings.{CostsSay, SetupSays, SetupFrom, setup_visits, run_checks, the_router, addr_in, neighbour_addrs, stated_costs, same_neighbour, senders_checked, stated_run_checks}
 use Rattle.mesh_config.proofs.ChecksLemmas.Links.{duplicates_same, are_distinct-map}
 use Rattle.mesh_config.proofs.Builds.{clear_at}
 use Rattle.mesh_config.proofs.KeysLemmas.Parts.{first_one}

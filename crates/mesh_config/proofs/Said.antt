@@ -1,18 +1,5 @@
 -- The whole scenario: from what the tables state to what they say of settings.
-use Rattle.std.proofs.Common.{◌≡◌, ℕ, List, [], ◌∷◌, map, refl}
-use Rattle.std.specs.List.{flat_map}
-use Rattle.toml.specs.Data.{Data, Members}
-use Rattle.mesh_atoms.specs.declared.addr.Addr4.{Addr4}
-use Rattle.mesh_atoms.specs.declared.settings.Attached4.{Attached4}
-use Rattle.mesh_config.specs.declared.stated.stated.StatedRouter.{StatedRouter}
-use Rattle.mesh_config.specs.declared.stated.stated.StatedInterface.{StatedInterface}
-use Rattle.mesh_config.specs.declared.stated.stated.StatedArc.{StatedArc}
-use Rattle.mesh_config.specs.Keys.Faults.{listed}
-use Rattle.mesh_config.specs.Stated.Tables.{Each, table_of}
-use Rattle.mesh_config.specs.Stated.Router.{name, addresses, interfaces, attached, net, InterfaceIs, AttachedIs, RouterIs}
-use Rattle.mesh_config.specs.Stated.Scenario.{ArcIs}
-use Rattle.mesh_config.specs.Checks.Checks.{Identifiers, table_identifiers, net_in, tables_in, places_table}
-use Rattle.mesh_config.specs.Checks.Compared.{stated_identifiers, router_addrs, arc_places}
+use Rattle.mesh_config.proofs.Common.{◌≡◌, ℕ, List, [], ◌∷◌, map, refl, flat_map, Data, Members, Addr4, Attached4, StatedRouter, StatedInterface, StatedArc, listed, Each, table_of, name, addresses, interfaces, attached, net, InterfaceIs, AttachedIs, RouterIs, ArcIs, Identifiers, table_identifiers, net_in, tables_in, places_table, stated_identifiers, router_addrs, arc_places}
 
 -- what each table says, of all of them
 pub map_said : {X B : Type 0} (Is : Members → X → Type 0) (F : Members → B) (G : X → B) → ((t : Members) (x : X) → Is t x → F t ≡ G x) → (ds : List Data) (xs : List X) → Each Is ds xs

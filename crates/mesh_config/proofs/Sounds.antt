@@ -1,22 +1,6 @@
 -- What a scenario keeps.
-use Rattle.std.proofs.Common.{◌≡◌, ◌≤◌, List, [], ◌∷◌, map, length, Bool, not, None, Ok, refl, sym, ap, ◌∙◌}
-use Rattle.std.specs.List.{list_all, list_any, flat_map}
-use Rattle.std.proofs.lemmas.List.{length-map}
-use Rattle.std.proofs.lemmas.List.Folds.{list_all-map, list_all-append, flat_map-map}
-use Rattle.std.proofs.lemmas.Simd.{map-map}
+use Rattle.mesh_config.proofs.Common.{◌≡◌, ◌≤◌, List, [], ◌∷◌, map, length, Bool, not, None, Ok, refl, sym, ap, ◌∙◌, list_all, list_any, flat_map, length-map, list_all-map, list_all-append, flat_map-map, map-map, Attached4, RadioArc, RouterSettings, Times, is_host, name_eq, AreRouters, AreArcs, IsCount, StatedRouter, first, Identifiers, NamedInterface, joins, router_addrs, all_addrs, attaches_no_host, stated_duplicates, stated_identifiers, stated_lists, ends_of, interface_fields, RouterParts, settings_parts, stated_parts, InterfaceFields, stated_interface_fields, addr_lists}
 use Rattle.mesh_atoms.specs.declared.addr.NetAddr.{NetAddr}
-use Rattle.mesh_atoms.specs.declared.settings.Attached4.{Attached4}
-use Rattle.mesh_atoms.specs.declared.settings.RadioArc.{RadioArc}
-use Rattle.mesh_atoms.specs.declared.settings.RouterSettings.{RouterSettings}
-use Rattle.mesh_atoms.specs.declared.settings.Times.{Times}
-use Rattle.mesh_atoms.specs.Settings.{is_host, name_eq, AreRouters, AreArcs, IsCount}
-use Rattle.mesh_config.specs.declared.stated.stated.StatedRouter.{StatedRouter}
-use Rattle.mesh_config.specs.Keys.Faults.{first}
-use Rattle.mesh_config.specs.Checks.Checks.{Identifiers, NamedInterface, joins}
-use Rattle.mesh_config.specs.Checks.Compared.{router_addrs, all_addrs, attaches_no_host, stated_duplicates, stated_identifiers, stated_lists, ends_of}
-use Rattle.mesh_config.specs.Fields.{interface_fields, RouterParts, settings_parts, stated_parts}
-use Rattle.mesh_config.specs.Stated.Router.{InterfaceFields, stated_interface_fields}
-use Rattle.mesh_config.specs.Senders.{addr_lists}
 use Rattle.mesh_config.proofs.ChecksLemmas.Links.{are_distinct-map, all_same}
 use Rattle.mesh_config.proofs.JoinFacts.{joins_range, joins_distinct}
 use Rattle.mesh_config.proofs.Builds.{stated_passed}

@@ -1,30 +1,7 @@
 -- What the top calls tell.
-use Rattle.std.proofs.Common.{◌≡◌, ℕ, List, [], map, Option, None, Result, Ok, Err, sym, ap, ◌∙◌, subst}
-use Rattle.toml.specs.Data.{Data, Members}
-use Rattle.mesh_atoms.specs.declared.settings.Interface.{Interface}
-use Rattle.mesh_atoms.specs.declared.settings.RadioArc.{RadioArc}
-use Rattle.mesh_atoms.specs.declared.settings.RouterSettings.{RouterSettings}
+use Rattle.mesh_config.proofs.Common.{◌≡◌, ℕ, List, [], map, Option, None, Result, Ok, Err, sym, ap, ◌∙◌, subst, Data, Members, Interface, RadioArc, RouterSettings, Times, StatedArc, StatedInterface, StatedRouter, ConfigFault, Fault, first, listed, ValueOrFault, Each, StepsAre, AreThresholds, TimesIs, interfaces, InterfaceIs, RouterIs, AreInterfaceFields, AreRouterFields, stated_interface_fields, ArcIs, AreArcFields, ScenarioIs, scenario_table_visits, routers, arcs, sub_times, arc_ends, scenario_visits, joins, stated_identifiers, arc_places, stated_arc_fields, arc_fields, interface_fields, RouterParts, settings_parts, stated_parts, thresholds_of, threshold_pair, stated_visits, BuiltFrom, stated_steps}
 use Rattle.mesh_atoms.specs.declared.settings.Scenario.{Scenario}
-use Rattle.mesh_atoms.specs.declared.settings.Times.{Times}
-use Rattle.mesh_config.specs.declared.stated.stated.StatedArc.{StatedArc}
-use Rattle.mesh_config.specs.declared.stated.stated.StatedInterface.{StatedInterface}
-use Rattle.mesh_config.specs.declared.stated.stated.StatedRouter.{StatedRouter}
 use Rattle.mesh_config.specs.declared.stated.stated.StatedScenario.{StatedScenario}
-use Rattle.mesh_config.specs.declared.keys.fault.ConfigFault.{ConfigFault}
-use Rattle.mesh_config.specs.Keys.Faults.{Fault, first, listed, ValueOrFault}
-use Rattle.mesh_config.specs.Stated.Tables.{Each}
-use Rattle.mesh_config.specs.Stated.Steps.{StepsAre}
-use Rattle.mesh_config.specs.Stated.Rules.{AreThresholds}
-use Rattle.mesh_config.specs.Stated.Times.{TimesIs}
-use Rattle.mesh_config.specs.Stated.Router.{interfaces, InterfaceIs, RouterIs, AreInterfaceFields, AreRouterFields, stated_interface_fields}
-use Rattle.mesh_config.specs.Stated.Scenario.{ArcIs, AreArcFields, ScenarioIs, scenario_table_visits, routers, arcs, sub_times}
-use Rattle.mesh_config.specs.Checks.Checks.{arc_ends, scenario_visits, joins}
-use Rattle.mesh_config.specs.Checks.Compared.{stated_identifiers, arc_places}
-use Rattle.mesh_config.specs.Stated.Scenario.{stated_arc_fields}
-use Rattle.mesh_config.specs.Checks.Compared.{arc_fields}
-use Rattle.mesh_config.specs.Fields.{interface_fields, RouterParts, settings_parts, stated_parts, thresholds_of, threshold_pair}
-use Rattle.mesh_config.specs.Built.{stated_visits, BuiltFrom}
-use Rattle.mesh_config.specs.Senders.{stated_steps}
 use Rattle.mesh_config.specs.Settings.{InterfaceSays, RouterSays, ArcSays, ScenarioSays}
 use Rattle.mesh_config.proofs.Builds.{all_have}
 use Rattle.mesh_config.proofs.Said.{all_named_same, places_same}

@@ -1,24 +1,6 @@
 -- What the clauses of an event say of a core to which all is kept, put together.
-use Rattle.std.proofs.Common.{◌≡◌, ◌<◌, ◌≤◌, ◌++◌, ℕ, List, Result, Ok, Err, Bool, true, sym, subst, ap, ◌∙◌}
-use Rattle.std.specs.Prelude.{All, IfOk, OnOk, OnErr}
-use Rattle.mesh_atoms.specs.declared.graphs.Route.{Route}
-use Rattle.mesh_atoms.specs.declared.tuples.Relays.{Relays}
-use Rattle.mesh_atoms.specs.Sound.{Sound}
-use Rattle.mesh_atoms.specs.State.{State}
-use Rattle.mesh_machine.specs.declared.arrival.Arrival.{Arrival}
-use Rattle.mesh_machine.specs.declared.fate.Heard.{Heard}
+use Rattle.mesh_core.proofs.Common.{◌≡◌, ◌<◌, ◌≤◌, ◌++◌, ℕ, List, Result, Ok, Err, Bool, true, sym, subst, ap, ◌∙◌, All, IfOk, OnOk, OnErr, Route, Relays, Sound, State, Arrival, Heard, Frame, sent_since, Hear, Tick, Step, Heard_frame, Ticked, Hears, TicksAt, due, IsSendable, since_same, step_sound, EventWants, Outdated, IsKeptFor, KeepsWanted, HearsAndKeeps, HearsTo, TicksTo, kept_answer, CoreValue}
 use Rattle.mesh_machine.specs.declared.fate.Heard.TheVariants as heard
-use Rattle.mesh_machine.specs.declared.frame.Frame.{Frame}
-use Rattle.mesh_machine.specs.Frames.{sent_since}
-use Rattle.mesh_machine.specs.Machine.{Hear, Tick, Step, Heard_frame, Ticked, Hears, TicksAt, due}
-use Rattle.mesh_machine.specs.Sendable.{IsSendable}
-use Rattle.mesh_machine.proofs.Effects.{since_same}
-use Rattle.mesh_machine.proofs.Soundness.{step_sound}
-use Rattle.mesh_core.specs.declared.event.outdated.EventWants.{EventWants}
-use Rattle.mesh_core.specs.declared.event.outdated.Outdated.{Outdated}
-use Rattle.mesh_core.specs.Event.Outdated.{IsKeptFor, KeepsWanted}
-use Rattle.mesh_core.specs.Event.Promises.{HearsAndKeeps, HearsTo, TicksTo, kept_answer}
-use Rattle.mesh_core.specs.Holding.{CoreValue}
 
 -- a core has heard a frame, or met an allocation failure
 pub record HearClauses {E : Type 0} (came : Result Heard E) (fates : Bool) (old : State) (arrival : Arrival) (bytes : List ℕ) (before after : List Frame) (new : State) : Type 0 where

@@ -1,7 +1,5 @@
 -- What is sent where the outbox was empty before.
-use Rattle.std.proofs.Common.{◌≡◌, List, [], subst}
-use Rattle.mesh_machine.specs.declared.frame.Frame.{Frame}
-use Rattle.mesh_machine.specs.Frames.{sent_since}
+use Rattle.mesh_core.proofs.Common.{◌≡◌, List, [], subst, Frame, sent_since}
 
 -- what is sent since then is all
 pub alone : (P : List Frame → Type 0) (before sent : List Frame) → before ≡ [] → P (sent_since before sent) → P sent

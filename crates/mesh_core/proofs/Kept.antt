@@ -1,17 +1,8 @@
 -- What is kept of a router, and its steps: a step looks at no relays and routes of the state before it, so that what happens to what is kept of a
 -- router happens to it too.
-use Rattle.std.proofs.Common.{◌≡◌, ℕ, ◌∙◌, List, refl, sym, ap, subst, arith}
-use Rattle.mesh_atoms.specs.State.{State, Bases}
-use Rattle.mesh_atoms.specs.declared.tuples.Relays.{Relays}
-use Rattle.mesh_atoms.specs.declared.graphs.Route.{Route}
-use Rattle.mesh_machine.specs.declared.arrival.Arrival.{Arrival}
-use Rattle.mesh_machine.specs.declared.fate.Fate.{Fate}
+use Rattle.mesh_core.proofs.Common.{◌≡◌, ℕ, ◌∙◌, List, refl, sym, ap, subst, arith, State, Bases, Relays, Route, Arrival, Fate, Frame, Event, Step, Heard_frame, Ticked, HearsPacket, TicksAt, due, Renews, IsKeptOf}
 use Rattle.mesh_machine.specs.declared.fate.Heard.TheVariants as heard
-use Rattle.mesh_machine.specs.declared.frame.Frame.{Frame}
-use Rattle.mesh_machine.specs.Machine.{Event, Step, Heard_frame, Ticked, HearsPacket, TicksAt, due}
-use Rattle.mesh_machine.specs.Renewal.{Renews}
 use Rattle.mesh_machine.specs.Sending.{SendsHellos, Hellos_early, Hellos_due, SendsTcs, Tcs_early, Tcs_silent, Tcs_due}
-use Rattle.mesh_core.specs.Deferred.{IsKeptOf}
 
 -- all of a router is kept of it
 pub kept_whole : (until : ℕ) (s : State) → IsKeptOf until s s

@@ -6,3 +6,4 @@ mod Emptied
 mod EventLemmas
 mod Spent
 mod Until
+mod Common

@@ -1,20 +1,5 @@
 -- What the clauses of an event say of a router that may put off relays and routes, put together.
-use Rattle.std.proofs.Common.{◌≡◌, ◌<◌, ◌≤◌, ℕ, List, [], Result, Ok, Err, true, subst, arith}
-use Rattle.std.specs.Prelude.{All, OnOk}
-use Rattle.mesh_atoms.specs.Sound.{Sound}
-use Rattle.mesh_atoms.specs.State.{State}
-use Rattle.mesh_machine.specs.declared.arrival.Arrival.{Arrival}
-use Rattle.mesh_machine.specs.declared.fate.Heard.{Heard}
-use Rattle.mesh_machine.specs.declared.frame.Frame.{Frame}
-use Rattle.mesh_machine.specs.Machine.{Hear, Tick, Step, Heard_frame, Ticked, due}
-use Rattle.mesh_machine.specs.Sendable.{IsSendable}
-use Rattle.mesh_machine.proofs.Soundness.{step_sound}
-use Rattle.mesh_core.specs.declared.event.outdated.EventWants.{EventWants}
-use Rattle.mesh_core.specs.declared.event.outdated.Outdated.{Outdated}
-use Rattle.mesh_core.specs.Deferred.{IsKeptOf, IsSoundButForDerived}
-use Rattle.mesh_core.specs.Event.Outdated.{IsCurrent, IsKeptFor}
-use Rattle.mesh_core.specs.Event.Promises.{HearsTo, TicksTo}
-use Rattle.mesh_core.specs.Holding.{CoreValue}
+use Rattle.mesh_core.proofs.Common.{◌≡◌, ◌<◌, ◌≤◌, ℕ, List, [], Result, Ok, Err, true, subst, arith, All, OnOk, Sound, State, Arrival, Heard, Frame, Hear, Tick, Step, Heard_frame, Ticked, due, IsSendable, step_sound, EventWants, Outdated, IsKeptOf, IsSoundButForDerived, IsCurrent, IsKeptFor, HearsTo, TicksTo, CoreValue}
 use Rattle.mesh_core.proofs.Clauses.{all_kept}
 
 -- a router has heard a frame, or met an allocation failure

@@ -1,18 +1,6 @@
 -- A router attaches a network once.
-use Rattle.std.proofs.Common.{◌≡◌, ℕ, sym, ◌∙◌, ap, subst, List, [], ◌∷◌, Contains, true, Some, inl, inr}
-use Rattle.std.specs.Prelude.{map}
-use Rattle.mesh_atoms.specs.declared.addr.NetAddr.{NetAddr}
-use Rattle.mesh_atoms.specs.declared.settings.Attached4.{Attached4}
-use Rattle.mesh_atoms.specs.declared.settings.RouterSettings.{RouterSettings}
-use Rattle.mesh_atoms.specs.declared.settings.Scenario.{Scenario}
-use Rattle.mesh_atoms.specs.Base.{net_eq}
-use Rattle.mesh_atoms.specs.Codes.Codes.{metric_value}
-use Rattle.mesh_atoms.specs.Radio.{Attaches}
+use Rattle.mesh_data.proofs.Common.{◌≡◌, ℕ, sym, ◌∙◌, ap, subst, List, [], ◌∷◌, Contains, true, Some, inl, inr, map, NetAddr, Attached4, RouterSettings, Scenario, net_eq, metric_value, Attaches, any_of, net_itself, and_parts, contains_cases, contains_map, contains_none as none_of}
 use Rattle.mesh_atoms.specs.Settings.{are_distinct}
-use Rattle.mesh_paths.proofs.Scenarios.{any_of}
-use Rattle.mesh_atoms.proofs.Values.{net_itself}
-use Rattle.std.proofs.lemmas.Bool.{and_parts}
-use Rattle.mesh_atoms.proofs.Lists.{contains_cases, contains_map, contains_none as none_of}
 use Rattle.mesh_atoms.proofs.Options.{not_both}
 
 one_attached : (xs : List Attached4) (t u : Attached4) → are_distinct net_eq (map (λ a. a.net) xs) ≡ true → Contains xs t → Contains xs u → net_eq t.net u.net ≡ true → net_eq u.net t.net ≡ true → t ≡ u

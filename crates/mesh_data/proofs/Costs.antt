@@ -1,23 +1,6 @@
 -- What the law of settled routes says of a packet on its way.
-use Rattle.std.proofs.Common.{◌≡◌, ◌≢◌, ℕ, ◌+◌, ◌-◌, ◌*◌, ◌/◌, ◌^◌, ◌<◌, ◌⊎◌, inl, inr, refl, sym, ◌∙◌, ap, subst, arith, List, length}
-use Rattle.std.proofs.lemmas.Option.{slice_get_within}
-use Rattle.mesh_atoms.specs.declared.addr.Addr4.{Addr4}
-use Rattle.mesh_atoms.specs.declared.addr.NetAddr.{NetAddr}
-use Rattle.mesh_atoms.specs.declared.codes.metric.Metric.{Metric}
-use Rattle.mesh_atoms.specs.declared.graphs.Route.{Route}
-use Rattle.mesh_atoms.specs.declared.settings.Scenario.{Scenario}
-use Rattle.mesh_atoms.specs.Base.{host}
-use Rattle.mesh_atoms.specs.Codes.Codes.{metric_value}
-use Rattle.mesh_atoms.specs.Radio.{Leads, HopCosts, Joined, By, IsWillingRouter, AddressOf, Attaches, RadioLeast, To_router, To_network}
-use Rattle.mesh_atoms.specs.Settled.{At}
-use Rattle.mesh_atoms.specs.State.{State}
-use Rattle.mesh_atoms.specs.Walk.{WillingWalk, Here, Direct, Further, LeastWilling, LeastToNet}
+use Rattle.mesh_data.proofs.Common.{◌≡◌, ◌≢◌, ℕ, ◌+◌, ◌-◌, ◌*◌, ◌/◌, ◌^◌, ◌<◌, ◌⊎◌, inl, inr, refl, sym, ◌∙◌, ap, subst, arith, List, length, slice_get_within, Addr4, NetAddr, Metric, Route, Scenario, host, metric_value, Leads, HopCosts, Joined, By, IsWillingRouter, AddressOf, Attaches, RadioLeast, To_router, To_network, At, State, WillingWalk, Here, Direct, Further, LeastWilling, LeastToNet, IsSettledNetwork, HopsTo, owner, Holds, LeadsToNext, same_addr, same_host}
 use Rattle.mesh_atoms.proofs.Nets.{same_net}
-use Rattle.mesh_paths.specs.SettledRoutes.{IsSettledNetwork, HopsTo}
-use Rattle.mesh_paths.proofs.SettledNeighbours.{owner}
-use Rattle.mesh_atoms.specs.NextHop.{Holds}
-use Rattle.mesh_data.specs.Trips.{LeadsToNext}
-use Rattle.mesh_atoms.proofs.Values.{same_addr, same_host}
 
 -- Networks and addresses
 

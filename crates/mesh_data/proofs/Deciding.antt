@@ -1,37 +1,10 @@
 -- What one router does.
-use Rattle.std.proofs.Common.{◌≡◌, ◌↔◌, ℕ, ◌+◌, ◌<◌, ◌≤◌, ◌⊎◌, inl, inr, refl, sym, ◌∙◌, ap, subst, arith, Bool, true, false, IsTrue, List, length, Contains, Option, Some, None, Bor, slice_index_or, slice_get}
+use Rattle.mesh_data.proofs.Common.{◌≡◌, ◌↔◌, ℕ, ◌+◌, ◌<◌, ◌≤◌, ◌⊎◌, inl, inr, refl, sym, ◌∙◌, ap, subst, arith, Bool, true, false, IsTrue, List, length, Contains, Option, Some, None, Bor, slice_index_or, slice_get, AllWithin, AllWithin-more, at_read, slice_get_within, Addr4, RouterSettings, HasAddress, of_each, NetAddr, Attached4, Holds, IfSome, IfNone, map, nat_lt, option_map, cond, ltb-true, ltb-false, length-map, slice_get-map, slice_get_read, Metric, Route, RadioArc, Scenario, metric_value, Router, AddressOf, Attaches, At, AreStates, State, IsLongest, HasNoRouteTo, Arrived, NoArc, End, Delivers, TakesRoute, LeadsToNext, EndsWith, At_network, Without_arc, IsLongestOf, IsLongerOf, longer_of, IsDecisionBy, IsDecision, IsAddressAt, IsArcOf, IsMoveBy, IsMove}
 use Rattle.std.specs.Option.{option_copied}
-use Rattle.std.specs.List.{AllWithin}
-use Rattle.std.proofs.lemmas.List.Elements.{AllWithin-more, at_read}
-use Rattle.std.proofs.lemmas.Option.{slice_get_within}
-use Rattle.mesh_atoms.specs.declared.addr.Addr4.{Addr4}
-use Rattle.mesh_atoms.specs.declared.settings.RouterSettings.{RouterSettings}
-use Rattle.mesh_atoms.specs.State.{HasAddress}
-use Rattle.mesh_paths.proofs.Rows.{of_each}
-use Rattle.mesh_atoms.specs.declared.addr.NetAddr.{NetAddr}
-use Rattle.mesh_atoms.specs.declared.settings.Attached4.{Attached4}
-use Rattle.mesh_atoms.specs.NextHop.{Holds}
-use Rattle.std.specs.Prelude.{IfSome, IfNone, map, nat_lt, option_map, cond}
-use Rattle.std.proofs.lemmas.Bool.{ltb-true, ltb-false}
-use Rattle.std.proofs.lemmas.List.{length-map}
-use Rattle.std.proofs.lemmas.Option.{slice_get-map, slice_get_read}
-use Rattle.mesh_atoms.specs.declared.codes.metric.Metric.{Metric}
-use Rattle.mesh_atoms.specs.declared.graphs.Route.{Route}
-use Rattle.mesh_atoms.specs.declared.settings.RadioArc.{RadioArc}
-use Rattle.mesh_atoms.specs.declared.settings.Scenario.{Scenario}
-use Rattle.mesh_atoms.specs.Codes.Codes.{metric_value}
-use Rattle.mesh_atoms.specs.Radio.{Router, AddressOf, Attaches}
-use Rattle.mesh_atoms.specs.Settled.{At, AreStates}
-use Rattle.mesh_atoms.specs.State.{State}
-use Rattle.mesh_atoms.specs.NextHop.{IsLongest, HasNoRouteTo}
-use Rattle.mesh_data.specs.declared.trip.End.TheVariants.{Arrived, NoArc}
-use Rattle.mesh_data.specs.declared.trip.End.{End}
 use Rattle.mesh_data.specs.declared.decisions.Decision.{Decision}
 use Rattle.mesh_data.specs.declared.decisions.Decision.TheVariants.{Here, Network, Nowhere, Via}
 use Rattle.mesh_data.specs.declared.decisions.Move.{Move}
 use Rattle.mesh_data.specs.declared.decisions.Move.TheVariants.{Stops, Hops}
-use Rattle.mesh_data.specs.Trips.{Delivers, TakesRoute, LeadsToNext, EndsWith, At_network, Without_arc}
-use Rattle.mesh_data.specs.Decisions.{IsLongestOf, IsLongerOf, longer_of, IsDecisionBy, IsDecision, IsAddressAt, IsArcOf, IsMoveBy, IsMove}
 
 -- a test of what stands at a place
 pub at_place : {A : Type 0} (P : A → Type 0) (o : Option (Bor A)) (got : Option A) (x : Bor A) (b : Bool) → option_copied o ≡ got → o ≡ Some x → IsTrue b ↔ P x.now →

@@ -1,12 +1,7 @@
 -- A chain of hops on which what is left of the cost falls never comes to a router twice.
-use Rattle.std.proofs.Common.{◌≡◌, ℕ, ◌+◌, ◌<◌, ◌≤◌, ◌⊎◌, inl, inr, refl, sym, subst, arith, List, [], ◌∷◌, length, Contains, Bool, true, false, eqb}
-use Rattle.std.specs.List.{IsDistinct, AllByRecursion, list_any, sum_by}
-use Rattle.std.proofs.lemmas.Bool.{eqb-true, cases_Bool, or_cases, or_parts as neither}
-use Rattle.std.proofs.lemmas.List.Sums.{sum_by-append}
+use Rattle.mesh_data.proofs.Common.{◌≡◌, ℕ, ◌+◌, ◌<◌, ◌≤◌, ◌⊎◌, inl, inr, refl, sym, subst, arith, List, [], ◌∷◌, length, Contains, Bool, true, false, eqb, AllByRecursion, list_any, sum_by, eqb-true, cases_Bool, or_cases, or_parts as neither, sum_by-append, Hop, AreChained, contains_tail as in_tail}
+use Rattle.std.specs.List.{IsDistinct}
 use Rattle.std.proofs.lemmas.Map.Steps.{length-le_from_distinct_below}
-use Rattle.mesh_data.specs.declared.trip.Hop.{Hop}
-use Rattle.mesh_data.specs.Trips.{AreChained}
-use Rattle.mesh_atoms.proofs.Lists.{contains_tail as in_tail}
 
 abbrev pub total : List Hop → ℕ
 total hops = sum_by (λ h. h.metric) hops

@@ -1,25 +1,7 @@
 -- The hops of a trip, one after another.
-use Rattle.std.proofs.Common.{◌≡◌, ℕ, ◌+◌, ◌<◌, ◌≤◌, inl, inr, refl, sym, ◌∙◌, subst, arith, List, [], ◌∷◌, ◌++◌, length, length-append}
-use Rattle.std.specs.Prelude.{map}
-use Rattle.std.specs.List.{sum_by}
-use Rattle.std.specs.Prelude.{Result, IfOk}
-use Rattle.std.proofs.lemmas.List.{length-map}
+use Rattle.mesh_data.proofs.Common.{◌≡◌, ℕ, ◌+◌, ◌<◌, ◌≤◌, inl, inr, refl, sym, ◌∙◌, subst, arith, List, [], ◌∷◌, ◌++◌, length, length-append, map, sum_by, Result, IfOk, length-map, Contains-append_cases, sum_by-append, slice_get_within, Addr4, RouterSettings, Scenario, State, End, Hop, Trip, OfEachTrip, IsHop, AreChained, EndsWith, IsTrip, IsOnTheWay, contains_none as none_of}
 use Rattle.std.proofs.lemmas.Result.{IfOk-weaker}
-use Rattle.std.proofs.lemmas.List.Elements.{Contains-append_cases}
-use Rattle.std.proofs.lemmas.List.Sums.{sum_by-append}
-use Rattle.std.proofs.lemmas.Option.{slice_get_within}
-use Rattle.mesh_atoms.specs.declared.addr.Addr4.{Addr4}
-use Rattle.mesh_atoms.specs.declared.settings.RouterSettings.{RouterSettings}
-use Rattle.mesh_atoms.specs.declared.settings.Scenario.{Scenario}
-use Rattle.mesh_atoms.specs.State.{State}
 use Rattle.mesh_paths.proofs.ShortLists.{only}
-use Rattle.mesh_data.specs.declared.trip.End.{End}
-use Rattle.mesh_data.specs.declared.trip.Hop.{Hop}
-use Rattle.mesh_data.specs.declared.trip.Trip.{Trip}
-use Rattle.mesh_data.specs.Laws.{OfEachTrip}
-use Rattle.mesh_data.specs.Trips.{IsHop, AreChained, EndsWith, IsTrip}
-use Rattle.mesh_data.specs.Decisions.{IsOnTheWay}
-use Rattle.mesh_atoms.proofs.Lists.{contains_none as none_of}
 
 chain_on : (hops : List Hop) (from x : ℕ) (hop : Hop) → AreChained from hops x → hop.from ≡ x → AreChained from (hops ++ hop ∷ []) hop.to
 chain_on [] from x hop e at = (at ∙ sym e, refl)

@@ -7,3 +7,4 @@ mod Longest
 mod NetworkTrips
 mod OneTrip
 mod RouterTrips
+mod Common

@@ -1,24 +1,5 @@
 -- Of the networks that have an address, a trip's first router names the longest.
-use Rattle.std.proofs.Common.{◌≡◌, ℕ, zero, suc, ◌+◌, ◌<◌, ◌≤◌, inl, inr, refl, sym, ap, subst, arith, List, [], ◌∷◌, length, Contains}
-use Rattle.std.proofs.lemmas.Bool.{cases_lt}
-use Rattle.mesh_atoms.specs.declared.addr.Addr4.{Addr4}
-use Rattle.mesh_atoms.specs.declared.addr.NetAddr.{NetAddr}
-use Rattle.mesh_atoms.specs.declared.codes.metric.Metric.{Metric}
-use Rattle.mesh_atoms.specs.declared.graphs.Route.{Route}
-use Rattle.mesh_atoms.specs.declared.settings.RouterSettings.{RouterSettings}
-use Rattle.mesh_atoms.specs.declared.settings.Scenario.{Scenario}
-use Rattle.mesh_atoms.specs.Codes.Codes.{metric_value}
-use Rattle.mesh_atoms.specs.Radio.{Joins, Adjacent, HopCosts as RadioHop, Joined, Itself, By, Router, IsWillingRouter, AddressOf, Attaches, IsSoundScenario, RadioLeast, To_network}
-use Rattle.mesh_atoms.specs.Settled.{At}
-use Rattle.mesh_atoms.specs.State.{State}
-use Rattle.mesh_atoms.specs.Walk.{WillingWalk, Here, Further}
-use Rattle.mesh_paths.specs.SettledRoutes.{IsSettledNetwork, RowsAreLeast}
-use Rattle.mesh_atoms.specs.NextHop.{Holds}
-use Rattle.mesh_data.specs.declared.trip.End.{End}
-use Rattle.mesh_data.specs.declared.trip.Hop.{Hop}
-use Rattle.mesh_data.specs.declared.trip.Trip.{Trip}
-use Rattle.mesh_data.specs.Laws.{IsNetworkOf, HasNetwork}
-use Rattle.mesh_data.specs.Trips.{TakesRoute, Delivers, HasNoWay, IsHop, AreChained, EndsWith, At_address, At_network, Without_route, After_all, Without_arc, IsTrip}
+use Rattle.mesh_data.proofs.Common.{◌≡◌, ℕ, zero, suc, ◌+◌, ◌<◌, ◌≤◌, inl, inr, refl, sym, ap, subst, arith, List, [], ◌∷◌, length, Contains, cases_lt, Addr4, NetAddr, Metric, Route, RouterSettings, Scenario, metric_value, Joins, Adjacent, HopCosts as RadioHop, Joined, Itself, By, Router, IsWillingRouter, AddressOf, Attaches, IsSoundScenario, RadioLeast, To_network, At, State, WillingWalk, Here, Further, IsSettledNetwork, RowsAreLeast, Holds, End, Hop, Trip, IsNetworkOf, HasNetwork, TakesRoute, Delivers, HasNoWay, IsHop, AreChained, EndsWith, At_address, At_network, Without_route, After_all, Without_arc, IsTrip}
 use Rattle.mesh_data.proofs.Costs.{host_held, either, walk_joined}
 
 -- That something least exists cannot be denied

@@ -1,24 +1,5 @@
 -- A trip to an attached network arrives at a router that attaches it.
-use Rattle.std.proofs.Common.{◌≡◌, ◌≢◌, ℕ, ◌+◌, ◌<◌, ◌≤◌, ◌⊎◌, inl, inr, refl, sym, ◌∙◌, ap, subst, arith, List, [], ◌∷◌, length, Contains}
-use Rattle.std.proofs.lemmas.Bool.{cases_lt}
-use Rattle.mesh_atoms.specs.declared.addr.Addr4.{Addr4}
-use Rattle.mesh_atoms.specs.declared.addr.NetAddr.{NetAddr}
-use Rattle.mesh_atoms.specs.declared.graphs.Route.{Route}
-use Rattle.mesh_atoms.specs.declared.settings.Scenario.{Scenario}
-use Rattle.mesh_atoms.specs.Codes.Codes.{metric_value}
-use Rattle.mesh_atoms.specs.Radio.{HopCosts as RadioHop, Joined, Itself, IsWillingRouter, AddressOf, Attaches, RadioLeast}
-use Rattle.mesh_atoms.specs.Settled.{At}
-use Rattle.mesh_atoms.specs.State.{State}
-use Rattle.mesh_atoms.specs.Walk.{LeastWilling}
-use Rattle.mesh_paths.specs.SettledRoutes.{IsSettledNetwork, RowsAreLeast, NextHopsLead, Arrives, Goes_on, At_gateway}
-use Rattle.mesh_atoms.specs.NextHop.{Holds}
-use Rattle.mesh_atoms.proofs.CodesLemmas.CodeLaws.{metric_above_zero}
-use Rattle.mesh_data.specs.declared.trip.End.{End}
-use Rattle.mesh_data.specs.declared.trip.End.TheVariants.{Arrived, NoArc, TooFar}
-use Rattle.mesh_data.specs.declared.trip.Hop.{Hop}
-use Rattle.mesh_data.specs.declared.trip.Trip.{Trip}
-use Rattle.mesh_data.specs.Laws.{IsNetworkOf, HasOneGateway, ArrivesAt, OfEachTrip, ReachesNetwork, NeverStrays}
-use Rattle.mesh_data.specs.Trips.{TakesRoute, Delivers, HasNoWay, IsHop, AreChained, EndsWith, At_address, At_network, Without_route, After_all, Without_arc, IsTrip}
+use Rattle.mesh_data.proofs.Common.{◌≡◌, ◌≢◌, ℕ, ◌+◌, ◌<◌, ◌≤◌, ◌⊎◌, inl, inr, refl, sym, ◌∙◌, ap, subst, arith, List, [], ◌∷◌, length, Contains, cases_lt, Addr4, NetAddr, Route, Scenario, metric_value, HopCosts as RadioHop, Joined, Itself, IsWillingRouter, AddressOf, Attaches, RadioLeast, At, State, LeastWilling, IsSettledNetwork, RowsAreLeast, NextHopsLead, Arrives, Goes_on, At_gateway, Holds, metric_above_zero, End, Arrived, NoArc, TooFar, Hop, Trip, IsNetworkOf, HasOneGateway, ArrivesAt, OfEachTrip, ReachesNetwork, NeverStrays, TakesRoute, Delivers, HasNoWay, IsHop, AreChained, EndsWith, At_address, At_network, Without_route, After_all, Without_arc, IsTrip}
 use Rattle.mesh_data.proofs.Costs.{host_held, holds_one, at_one, either, radio_one, willing_one, walk_joined, reached, reaches, within}
 use Rattle.mesh_data.proofs.Attached.{one_metric}
 use Rattle.mesh_data.proofs.Longest.{least_exists, longest}

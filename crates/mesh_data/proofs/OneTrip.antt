@@ -1,28 +1,9 @@
 -- Over sound routers one trip alone leads from a router to an address.
-use Rattle.std.proofs.Common.{◌≡◌, ℕ, ◌+◌, ◌<◌, ◌≤◌, inl, inr, refl, sym, ◌∙◌, ap, subst, arith, List, [], ◌∷◌, length, Contains, slice_index_or}
-use Rattle.std.specs.List.{AllPairs}
-use Rattle.std.proofs.lemmas.Bool.{cases_order}
-use Rattle.std.proofs.lemmas.List.{get_or_default}
-use Rattle.mesh_atoms.specs.declared.addr.Addr4.{Addr4}
-use Rattle.mesh_atoms.specs.declared.addr.NetAddr.{NetAddr}
-use Rattle.mesh_atoms.specs.declared.graphs.Route.{Route}
-use Rattle.mesh_atoms.specs.declared.settings.Scenario.{Scenario}
-use Rattle.mesh_atoms.specs.Codes.Codes.{metric_value}
+use Rattle.mesh_data.proofs.Common.{◌≡◌, ℕ, ◌+◌, ◌<◌, ◌≤◌, inl, inr, refl, sym, ◌∙◌, ap, subst, arith, List, [], ◌∷◌, length, Contains, slice_index_or, AllPairs, cases_order, get_or_default, Addr4, NetAddr, Route, Scenario, metric_value, Leads, AddressOf, Attaches, IsSoundScenario, State, sound_scenario, End, Arrived, NoRoute, NoArc, TooFar, Hop, Trip, AreSound, IsOnly, OfEachTrip, Delivers, TakesRoute, HasNoWay, LeadsToNext, IsHop, AreChained, EndsWith, At_address, At_network, Without_route, After_all, Without_arc, not_before_itself, contains_tail as in_tail, contains_head as front}
 use Rattle.mesh_atoms.specs.Nodes.{IsBefore}
-use Rattle.mesh_atoms.specs.Radio.{Leads, AddressOf, Attaches, IsSoundScenario}
-use Rattle.mesh_atoms.specs.State.{State}
-use Rattle.mesh_paths.proofs.Scenarios.{sound_scenario}
-use Rattle.mesh_data.specs.declared.trip.End.{End}
-use Rattle.mesh_data.specs.declared.trip.End.TheVariants.{Arrived, NoRoute, NoArc, TooFar}
-use Rattle.mesh_data.specs.declared.trip.Hop.{Hop}
-use Rattle.mesh_data.specs.declared.trip.Trip.{Trip}
-use Rattle.mesh_data.specs.Laws.{AreSound, IsOnly, OfEachTrip}
-use Rattle.mesh_data.specs.Trips.{Delivers, TakesRoute, HasNoWay, LeadsToNext, IsHop, AreChained, EndsWith, At_address, At_network, Without_route, After_all, Without_arc}
 use Rattle.mesh_data.proofs.Attached.{one_metric}
 use Rattle.mesh_data.proofs.Costs.{holds_one, at_one}
 use Rattle.mesh_data.proofs.Falling.{total}
-use Rattle.mesh_atoms.proofs.Values.{not_before_itself}
-use Rattle.mesh_atoms.proofs.Lists.{contains_tail as in_tail, contains_head as front}
 
 -- Of ascending routes one leads to a destination
 

@@ -1,27 +1,7 @@
 -- A trip to a router's address arrives there at the least cost.
-use Rattle.std.proofs.Common.{◌≡◌, ◌≢◌, ℕ, ◌+◌, ◌<◌, ◌≤◌, inl, inr, refl, sym, ◌∙◌, ap, subst, arith, List, [], ◌∷◌, length, Contains}
-use Rattle.mesh_atoms.specs.declared.addr.Addr4.{Addr4}
-use Rattle.mesh_atoms.specs.declared.addr.NetAddr.{NetAddr}
-use Rattle.mesh_atoms.specs.declared.graphs.Route.{Route}
-use Rattle.mesh_atoms.specs.declared.settings.Scenario.{Scenario}
-use Rattle.mesh_atoms.specs.Base.{host}
-use Rattle.mesh_atoms.specs.Codes.Codes.{metric_value}
-use Rattle.mesh_atoms.specs.Radio.{AddressOf, RadioLeast}
-use Rattle.mesh_atoms.specs.Settled.{At}
-use Rattle.mesh_atoms.specs.State.{State}
-use Rattle.mesh_paths.specs.SettledRoutes.{IsSettledNetwork, HasRow, RowsAreLeast, NextHopsLead, Arrives, Goes_on, At_gateway}
-use Rattle.mesh_atoms.specs.NextHop.{Holds}
-use Rattle.mesh_paths.proofs.SettledNeighbours.{owner}
-use Rattle.mesh_atoms.proofs.CodesLemmas.CodeLaws.{metric_above_zero}
-use Rattle.mesh_data.specs.declared.trip.End.{End}
-use Rattle.mesh_data.specs.declared.trip.End.TheVariants.{Arrived}
-use Rattle.mesh_data.specs.declared.trip.Hop.{Hop}
-use Rattle.mesh_data.specs.declared.trip.Trip.{Trip}
-use Rattle.mesh_data.specs.Laws.{OfEachTrip, ReachesRouter}
-use Rattle.mesh_data.specs.Trips.{TakesRoute, IsHop, AreChained, EndsWith, At_address, At_network, Without_route, After_all, Without_arc, IsTrip}
+use Rattle.mesh_data.proofs.Common.{◌≡◌, ◌≢◌, ℕ, ◌+◌, ◌<◌, ◌≤◌, inl, inr, refl, sym, ◌∙◌, ap, subst, arith, List, [], ◌∷◌, length, Contains, Addr4, NetAddr, Route, Scenario, host, metric_value, AddressOf, RadioLeast, At, State, IsSettledNetwork, HasRow, RowsAreLeast, NextHopsLead, Arrives, Goes_on, At_gateway, Holds, owner, metric_above_zero, End, Arrived, Hop, Trip, OfEachTrip, ReachesRouter, TakesRoute, IsHop, AreChained, EndsWith, At_address, At_network, Without_route, After_all, Without_arc, IsTrip, same_host}
 use Rattle.mesh_data.proofs.Costs.{host_holds, holds_one, at_one, either, radio_one, reached, reaches, within}
 use Rattle.mesh_data.proofs.Falling.{Step, Falls, Wandered, Came, falls, few, total}
-use Rattle.mesh_atoms.proofs.Values.{same_host}
 
 module _ (R : RowsAreLeast) (N : NextHopsLead) (s : Scenario) (states : List State) (now : ℕ) (S : IsSettledNetwork s states now) (a : Addr4) (z : ℕ) (is_z : AddressOf s z a) where
   -- router x has a row of the address, at that metric

@@ -1,16 +1,11 @@
 -- The listing of an empty line, made anew and from that of the line before.
-use Rattle.std.proofs.Common.{◌≡◌, ℕ, ◌+◌, ◌-◌, ◌<◌, ◌≤◌, ◌^◌, ◌/◌, ◌%◌, ◌⊎◌, inl, inr, List, [], ◌∷◌, ◌++◌, length, take, drop, set, codes, decimal, Bool, Err, refl, sym, ap, ◌∙◌, arith, length-append, append_assoc}
+use Rattle.mesh_dump.proofs.Common.{◌≡◌, ℕ, ◌+◌, ◌-◌, ◌<◌, ◌≤◌, ◌^◌, ◌/◌, ◌%◌, ◌⊎◌, inl, inr, List, [], ◌∷◌, ◌++◌, length, take, drop, set, codes, decimal, Bool, Err, refl, sym, ap, ◌∙◌, arith, length-append, append_assoc, cases_lt, decimal_digit, decimal_step, drop-drop, drop_at, set_at, length-take-le, take-append-drop, Refusal, empty_line, IsListing}
 use Rattle.std.proofs.Math.Seq.{drop-append_seam}
-use Rattle.std.proofs.lemmas.Bool.{cases_lt}
-use Rattle.std.proofs.lemmas.Fmt.{decimal_digit, decimal_step}
-use Rattle.std.proofs.lemmas.List.{drop-drop, drop_at, set_at, length-take-le, take-append-drop}
 use Rattle.std.proofs.lemmas.Slice.{drop-put_mid}
 use borrow.Rule.Slice.PartMut.{put_mid}
-use Rattle.mesh_atoms.specs.declared.refusal.Refusal.{Refusal}
 use Rattle.mesh_report.specs.Lines.{refused_line}
 use Rattle.mesh_report.specs.Pieces.{numbered, named, reason_name}
-use Rattle.mesh_dump.specs.Empty.{empty_line, HoldsEmptyLine}
-use Rattle.mesh_dump.specs.Lines.{IsListing}
+use Rattle.mesh_dump.specs.Empty.{HoldsEmptyLine}
 use Rattle.mesh_dump.proofs.Listed.{empty_reads}
 
 abbrev label : List ℕ

@@ -1,15 +1,5 @@
 -- Hexadecimal text, and why a text is none.
-use Rattle.std.proofs.Common.{◌≡◌, ℕ, ◌+◌, ◌<◌, ◌%◌, Bool, true, false, ltb, ◌⊎◌, inl, inr, List, length, take, get_or, Result, Ok, Err, refl, sym, ap, subst, ◌∙◌, arith}
-use Rattle.std.specs.Prelude.{slice_index}
-use Rattle.std.specs.List.{AllPass}
-use Rattle.std.proofs.lemmas.Bool.{ltb-true, ltb-false, cases_eq, both_ways}
-use Rattle.std.proofs.lemmas.List.{get_or-take, length-take-le}
-use Rattle.hex.specs.Hex.{decode_of, is_hex_digit}
-use Rattle.hex.specs.declared.error.FromHexError.{FromHexError}
-use Rattle.hex.specs.declared.error.FromHexError.TheVariants.{InvalidHexCharacter, OddLength, InvalidStringLength}
-use Rattle.hex.proofs.HexLemmas.{decode_of-ok, decode_of-err, decode_of-odd}
-use Rattle.mesh_atoms.specs.declared.refusal.Refusal.{Refusal}
-use Rattle.mesh_dump.specs.Lines.{IsFirstOther, IsNotHex}
+use Rattle.mesh_dump.proofs.Common.{◌≡◌, ℕ, ◌+◌, ◌<◌, ◌%◌, Bool, true, false, ltb, ◌⊎◌, inl, inr, List, length, take, get_or, Result, Ok, Err, refl, sym, ap, subst, ◌∙◌, arith, slice_index, AllPass, ltb-true, ltb-false, cases_eq, both_ways, get_or-take, length-take-le, decode_of, is_hex_digit, FromHexError, InvalidHexCharacter, OddLength, InvalidStringLength, decode_of-ok, decode_of-err, decode_of-odd, Refusal, IsFirstOther, IsNotHex}
 
 -- what an error tells of a text
 abbrev Told : List ℕ → FromHexError → Type 0

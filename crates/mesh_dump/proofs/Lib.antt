@@ -7,3 +7,4 @@ mod OneText
 mod Pairs
 mod Wide
 mod Written
+mod Common

@@ -1,12 +1,7 @@
 -- A line that is refused, as it is listed.
-use Rattle.std.proofs.Common.{◌≡◌, ℕ, List, [], ◌∷◌, length, Result, Ok, Err, Bool, inl, refl, sym, subst, arith}
-use Rattle.std.specs.Prelude.{OnOk, IfOk}
-use Rattle.hex.specs.Hex.{decode_pairs}
-use Rattle.mesh_atoms.specs.declared.refusal.Refusal.{Refusal}
+use Rattle.mesh_dump.proofs.Common.{◌≡◌, ℕ, List, [], ◌∷◌, length, Result, Ok, Err, Bool, inl, refl, sym, subst, arith, OnOk, IfOk, decode_pairs, Refusal, IsLineText, ReadsAs, IsListing}
 use Rattle.mesh_packet.specs.Grammar.{FirstFault, no_octet}
 use Rattle.mesh_packet.specs.Least.{Wrote}
-use Rattle.mesh_report.specs.Packets.{IsLineText}
-use Rattle.mesh_dump.specs.Lines.{ReadsAs, IsListing}
 
 pub puts : {E : Type 0} (r : Result ℕ E) (recode : Bool) (number : ℕ) (line : List ℕ) (refusal : Refusal) (old new : List ℕ) → ReadsAs line (Err refusal)
     → OnOk r (Wrote (IsLineText recode number (Err refusal)) old new) → IfOk r (λ count. count ≡ 1) → IfOk r (λ count. Wrote (IsListing recode number line count) old new)

@@ -1,15 +1,7 @@
 -- Each line says one thing, and the listing of an input is one list of pieces.
-use Rattle.std.proofs.Common.{◌≡◌, ℕ, ◌+◌, inl, inr, List, [], ◌∷◌, ◌++◌, length, Some, Result, Ok, Err, Bool, refl, sym, ap, subst, ◌∙◌}
-use Rattle.std.specs.Str.Lines.{lines}
-use Rattle.hex.proofs.HexLemmas.{decode_of-same}
-use Rattle.mesh_atoms.specs.declared.refusal.Refusal.{Refusal}
-use Rattle.mesh_packet.specs.declared.packet.Span.{Span}
-use Rattle.mesh_packet.specs.Fields.{PacketFields}
+use Rattle.mesh_dump.proofs.Common.{◌≡◌, ℕ, ◌+◌, inl, inr, List, [], ◌∷◌, ◌++◌, length, Some, Result, Ok, Err, Bool, refl, sym, ap, subst, ◌∙◌, lines, decode_of-same, Refusal, Span, PacketFields, IsLineText, AreListings, DumpMakes, total_text, FrameSays, ReadsAs, refusals}
 use Rattle.mesh_packet.proofs.OneReading.{one_packet, one_fault, spells_or_faults, not_both}
-use Rattle.mesh_report.specs.Packets.{IsLineText}
 use Rattle.mesh_report.proofs.OneListing.{one_listing}
-use Rattle.mesh_dump.specs.Dump.{AreListings, DumpMakes, total_text}
-use Rattle.mesh_dump.specs.Lines.{FrameSays, ReadsAs, refusals}
 use Rattle.mesh_dump.proofs.Hex.{written_or_not, not_hex_once, not_hex_too}
 
 -- what a line says

@@ -1,15 +1,5 @@
 -- Octets by pairs of hexadecimal digits.
-use Rattle.std.proofs.Common.{◌≡◌, ℕ, suc, ◌+◌, ◌*◌, ◌<◌, ◌≤◌, inl, inr, List, [], ◌∷◌, length, refl, sym, ap, subst, ◌∙◌, arith, Option, Some, None, Ok}
-use Rattle.std.specs.Prelude.{◌%◌, Bool, true, false, ◌&&◌, ◌||◌, nat_le, nat_lt, nat_eq, slice_index, slice_set, bit_or}
-use Rattle.std.specs.Option.{option_eq, option_map}
-use Rattle.std.proofs.lemmas.Bool.{cases_eq, le-ltb, leb-true, eqb-true, and_parts as both}
-use Rattle.std.proofs.lemmas.List.{get_or-set_same, get_or-set_other}
-use Rattle.std.proofs.lemmas.Nat.{le_or_l, le_or_r}
-use Rattle.hex.specs.Hex.{hex_digit_value, decode_pairs, decode_of}
-use Rattle.hex.proofs.HexLemmas.{decode_of-even}
-use Rattle.mesh_dump.specs.declared.digits.TheConstants.{HIGH, LOW}
-use Rattle.mesh_dump.specs.Pairs.{IsPair, AreHexPairs}
-use Rattle.mesh_report.proofs.Tables.{all_below, below}
+use Rattle.mesh_dump.proofs.Common.{◌≡◌, ℕ, suc, ◌+◌, ◌*◌, ◌<◌, ◌≤◌, inl, inr, List, [], ◌∷◌, length, refl, sym, ap, subst, ◌∙◌, arith, Option, Some, None, Ok, ◌%◌, Bool, true, false, ◌&&◌, ◌||◌, nat_le, nat_lt, nat_eq, slice_index, slice_set, bit_or, option_eq, option_map, cases_eq, le-ltb, leb-true, eqb-true, and_parts as both, get_or-set_same, get_or-set_other, le_or_l, le_or_r, hex_digit_value, decode_pairs, decode_of, decode_of-even, HIGH, LOW, IsPair, AreHexPairs, all_below, below}
 
 -- ---- the tables
 

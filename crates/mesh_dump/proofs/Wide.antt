@@ -1,14 +1,5 @@
 -- Digits and their octets in the lanes of vectors.
-use Rattle.std.proofs.Common.{◌≡◌, ℕ, ◌+◌, ◌-◌, ◌*◌, ◌%◌, ◌<◌, ◌≤◌, Bool, true, inl, inr, List, [], ◌∷◌, length, refl, ap, subst, ◌∙◌, arith}
-use Rattle.std.specs.Prelude.{◌||◌, ◌&&◌, nat_eq, nat_lt, slice_index, Some, bit_or}
-use Rattle.std.specs.Option.{option_eq}
-use Rattle.std.specs.Simd.Lanes.{put_chunk}
-use Rattle.std.proofs.lemmas.Bool.{cases_lt, le-ltb, eqb-true, and_parts as both}
-use Rattle.std.proofs.lemmas.Nat.{le_or_l, le_or_r}
-use Rattle.std.proofs.lemmas.Simd.{get_or-put_chunk_below, get_or-put_chunk_at}
-use Rattle.hex.specs.Hex.{hex_digit_value}
-use Rattle.mesh_report.proofs.Tables.{all_below, below}
-use Rattle.mesh_dump.specs.Pairs.{IsPair, AreHexPairs}
+use Rattle.mesh_dump.proofs.Common.{◌≡◌, ℕ, ◌+◌, ◌-◌, ◌*◌, ◌%◌, ◌<◌, ◌≤◌, Bool, true, inl, inr, List, [], ◌∷◌, length, refl, ap, subst, ◌∙◌, arith, ◌||◌, ◌&&◌, nat_eq, nat_lt, slice_index, Some, bit_or, option_eq, put_chunk, cases_lt, le-ltb, eqb-true, and_parts as both, le_or_l, le_or_r, get_or-put_chunk_below, get_or-put_chunk_at, hex_digit_value, all_below, below, IsPair, AreHexPairs}
 use Rattle.mesh_dump.specs.Values.{digit_value}
 use Rattle.mesh_dump.proofs.Pairs.{one_of, same_value}
 

@@ -1,15 +1,5 @@
 -- The listings of some first lines, of one line more, and of all with the line that counts.
-use Rattle.std.proofs.Common.{◌≡◌, ℕ, ◌+◌, ◌≤◌, Bool, List, [], ◌∷◌, ◌++◌, length, take, Option, Some, None, Result, Ok, Err, refl, sym, ap, subst, ◌∙◌, arith, append_assoc, length-append}
-use Rattle.std.specs.Prelude.{option_map}
-use Rattle.std.specs.Str.Lines.{lines}
-use Rattle.std.proofs.lemmas.List.{append-nil, take_all, take_at}
-use Rattle.mesh_atoms.specs.declared.refusal.Refusal.{Refusal}
-use Rattle.mesh_packet.specs.declared.packet.Span.{Span}
-use Rattle.mesh_packet.specs.Fields.{PacketFields}
-use Rattle.mesh_io.specs.Pieces.{MakesOne}
-use Rattle.mesh_dump.specs.Dump.{AreListings, AreFirstListings, LinesMake, DumpMakes, total_text}
-use Rattle.mesh_dump.specs.Lines.{IsListing, refusals}
-use Rattle.mesh_dump.specs.declared.listing.LineCounts.{LineCounts}
+use Rattle.mesh_dump.proofs.Common.{◌≡◌, ℕ, ◌+◌, ◌≤◌, Bool, List, [], ◌∷◌, ◌++◌, length, take, Option, Some, None, Result, Ok, Err, refl, sym, ap, subst, ◌∙◌, arith, append_assoc, length-append, option_map, lines, append-nil, take_all, take_at, Refusal, Span, PacketFields, MakesOne, AreListings, AreFirstListings, LinesMake, DumpMakes, total_text, IsListing, refusals, LineCounts}
 
 -- these are the listings of so many lines, after which the rest comes
 pub record Listed (recode : Bool) (all rest : List (List ℕ)) (number refused : ℕ) (pieces : List (List ℕ)) : Type 0 where

@@ -1,29 +1,13 @@
 -- The pieces of an emulation, from the pieces of its parts.
-use Rattle.std.proofs.Common.{◌≡◌, ℕ, Bool, List, [], ◌∷◌, ◌++◌, Option, Some, None, Result, Err, refl, sym, ap, ◌∙◌, subst, append_assoc}
-use Rattle.std.specs.List.{concat}
-use Rattle.std.specs.Prelude.{IsSome}
-use Rattle.std.proofs.lemmas.List.{append-nil}
-use Rattle.mesh_atoms.specs.declared.addr.Addr4.{Addr4}
-use Rattle.mesh_atoms.specs.State.{State}
-use Rattle.mesh_data.specs.Text.{text_of}
+use Rattle.mesh_emulate.proofs.Common.{◌≡◌, ℕ, Bool, List, [], ◌∷◌, ◌++◌, Option, Some, None, Result, Err, refl, sym, ap, ◌∙◌, subst, append_assoc, concat, IsSome, append-nil, Addr4, State, text_of, Stop, IsPacketSent, IsProbed, TellsWanted, piece_if, TellsEvents, IsEndSummary, Emulation, IsRefused, without_both, IsFirstPart, Of_nothing, Of_first_events, But_the_trip, But_the_probe, EmulationMakes, In_first, In_next, MakesWanted, RunWithPieces, EventsMake, IsTripText, EndMakes, WholeRunMakes, IsProbedText, ErrandMakes, Unopened, Opened, MakesOne, PutsPieces, WantedPacket, Wants, IsNamed, Agree, Departs, Departure, NetState, IsOpeningNet, IfSettingRefused, ConfigFault}
 use Rattle.mesh_data.specs.Trips.{IsTrip}
-use Rattle.mesh_io.specs.declared.stop.Stop.{Stop}
 use Rattle.mesh_io.specs.declared.stop.Stop.TheVariants as stop
-use Rattle.mesh_emulate.specs.Emulation.{IsPacketSent, IsProbed, TellsWanted, piece_if, TellsEvents, IsEndSummary, Emulation, IsRefused, without_both, IsFirstPart, Of_nothing, Of_first_events, But_the_trip, But_the_probe, EmulationMakes}
-use Rattle.mesh_emulate.specs.Parts.{In_first, In_next, MakesWanted, RunWithPieces, EventsMake, IsTripText, EndMakes, WholeRunMakes, IsProbedText, ErrandMakes, Unopened, Opened}
-use Rattle.mesh_io.specs.Pieces.{MakesOne, PutsPieces}
 use Rattle.mesh_emulate.specs.Prepared.{IsPrepared, IsUnbegun}
-use Rattle.mesh_emulate.specs.Wants.{WantedPacket, Wants, IsNamed, Agree, Departs}
 use Rattle.mesh_emulate.specs.declared.emulation.EmulateFault.{EmulateFault}
 use Rattle.mesh_emulate.specs.declared.emulation.EmulateFault.TheVariants.{Refused, Stopped}
 use Rattle.mesh_emulate.specs.declared.prepared.Prepared.{Prepared}
-use Rattle.mesh_emulate.specs.declared.wanted.Departure.{Departure}
 use Rattle.mesh_emulate.proofs.Parts.{whole_run}
 use Rattle.mesh_emulate.proofs.Putting.{puts_as, both_made}
-use Rattle.mesh_texts.specs.machine.Net.{NetState}
-use Rattle.mesh_texts.specs.machine.NetRun.{IsOpeningNet}
-use Rattle.mesh_config.specs.Keys.Faults.{IfSettingRefused}
-use Rattle.mesh_config.specs.declared.keys.fault.ConfigFault.{ConfigFault}
 use Rattle.mesh_config.specs.declared.keys.fault.ConfigFault.TheVariants as faults
 
 same_stop : (a b : Stop) → ◌≡◌ {A = Result (Unit {0}) EmulateFault} (Err (Stopped a)) (Err (Stopped b)) → a ≡ b

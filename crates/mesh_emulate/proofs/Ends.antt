@@ -1,16 +1,5 @@
 -- The end of a run.
-use Rattle.std.proofs.Common.{◌≡◌, ℕ, List, get_or, All}
-use Rattle.std.proofs.lemmas.Option.{slice_get-get_or}
-use Rattle.mesh_atoms.specs.declared.graphs.RadioGraph.{RadioGraph}
-use Rattle.mesh_atoms.specs.declared.settings.Scenario.{Scenario}
-use Rattle.mesh_atoms.specs.Settled.{At}
-use Rattle.mesh_atoms.specs.Sound.{Sound}
-use Rattle.mesh_atoms.specs.State.{State}
-use Rattle.mesh_probe.specs.Probes.{AreRoutersAt}
-use Rattle.mesh_texts.proofs.machine.Through.{end_together}
-use Rattle.mesh_settled.specs.Gaps.Network.{IsNetwork}
-use Rattle.mesh_texts.proofs.RunStates.{run_states}
-use Rattle.mesh_texts.specs.Runs.{WholeRun}
+use Rattle.mesh_emulate.proofs.Common.{◌≡◌, ℕ, List, get_or, All, slice_get-get_or, RadioGraph, Scenario, At, Sound, State, AreRoutersAt, end_together, IsNetwork, run_states, WholeRun}
 
 -- the states at the end of a run are sound, all at the scenario's end
 pub at_end : (s : Scenario) (run : WholeRun s) (x : ℕ) (p : State) → At run.final.routers x p → Sound p × (p.last ≡ s.end)

@@ -1,14 +1,5 @@
 -- The pieces of an emulation, joined.
-use Rattle.std.proofs.Common.{◌≡◌, ℕ, Bool, true, false, List, [], ◌∷◌, ◌++◌, Option, Some, None, refl, sym, ap, ◌∙◌, subst, append_assoc}
-use Rattle.std.specs.List.{concat}
-use Rattle.std.proofs.lemmas.List.{append-nil}
-use Rattle.std.proofs.lemmas.List.Folds.{concat-append}
-use Rattle.mesh_atoms.specs.declared.network.NetEvent.{NetEvent}
-use Rattle.mesh_atoms.specs.declared.settings.Scenario.{Scenario}
-use Rattle.mesh_texts.specs.machine.Net.{NetState, NetStep}
-use Rattle.mesh_texts.specs.Runs.{IsTraced, Traces, WholeRun, IsTrace, IsRunText}
-use Rattle.mesh_emulate.specs.Emulation.{TellsWanted, piece_if, AreEventTexts, TellsEvents, Emulation}
-use Rattle.mesh_emulate.specs.Wants.{Wants}
+use Rattle.mesh_emulate.proofs.Common.{◌≡◌, ℕ, Bool, true, false, List, [], ◌∷◌, ◌++◌, Option, Some, None, refl, sym, ap, ◌∙◌, subst, append_assoc, concat, append-nil, concat-append, NetEvent, Scenario, NetState, NetStep, IsTraced, Traces, WholeRun, IsTrace, IsRunText, TellsWanted, piece_if, AreEventTexts, TellsEvents, Emulation, Wants}
 
 -- the texts with one event's text more
 pub texts_more : (old : NetState) (events : List NetEvent) (mid new : NetState) (pieces : List (List ℕ)) (event : NetEvent) (last : List ℕ) →

@@ -15,3 +15,4 @@ mod ToldProbes
 mod ToldRoutes
 mod TraceFacts
 mod TripLines
+mod Common

@@ -1,18 +1,8 @@
 -- The scenario that an input states has one list of names.
-use Rattle.std.proofs.Common.{◌≡◌, ℕ, zero, suc, List, [], ◌∷◌, refl, sym, ap, ◌∙◌, subst}
-use Rattle.std.specs.Prelude.{codes}
-use Rattle.toml.specs.Data.{Data, Members}
-use Rattle.mesh_atoms.specs.declared.settings.RouterSettings.{RouterSettings}
-use Rattle.mesh_atoms.specs.declared.settings.Scenario.{Scenario}
-use Rattle.mesh_atoms.proofs.Options.{same_ok}
-use Rattle.mesh_config.specs.Settings.{RouterSays}
-use Rattle.mesh_emulate.specs.Emulation.{States}
-use Rattle.mesh_emulate.specs.Wants.{Wants, HasName, IsNamed, IsUnknownName, FirstUnknown, Of_send, Of_probe}
-use Rattle.mesh_config.specs.Stated.Router.{name}
+use Rattle.mesh_emulate.proofs.Common.{◌≡◌, ℕ, zero, suc, List, [], ◌∷◌, refl, sym, ap, ◌∙◌, subst, codes, Data, Members, RouterSettings, Scenario, same_ok, RouterSays, States, Wants, HasName, IsNamed, IsUnknownName, FirstUnknown, Of_send, Of_probe, name, listed}
 use Rattle.mesh_config.specs.Stated.Scenario.{sub_times, routers}
 use Rattle.mesh_config.specs.Stated.Tables.{Each, table_of}
 use Rattle.mesh_config.specs.Keys.Document.{document}
-use Rattle.mesh_config.specs.Keys.Faults.{listed}
 
 -- of two readings of the same tables, each router has the same name in both
 named_in_both : (times times' : Members) (ds : List Data) (rs qs : List RouterSettings) → Each (RouterSays times) ds rs → Each (RouterSays times') ds qs →

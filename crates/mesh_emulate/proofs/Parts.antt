@@ -1,11 +1,6 @@
 -- A run from its parts, before its first event and at its end.
-use Rattle.std.proofs.Common.{◌≡◌, Bool, true, false, List, [], ℕ, Some, refl}
-use Rattle.mesh_atoms.specs.declared.settings.Scenario.{Scenario}
-use Rattle.mesh_texts.specs.machine.Net.{NetState}
-use Rattle.mesh_texts.specs.machine.NetRun.{IsOpeningNet, IsOver}
-use Rattle.mesh_texts.specs.Runs.{WholeRun}
+use Rattle.mesh_emulate.proofs.Common.{◌≡◌, Bool, true, false, List, [], ℕ, Some, refl, Scenario, NetState, IsOpeningNet, IsOver, WholeRun, RunWithPieces, EventsMake, EndMakes, WholeRunMakes}
 use Rattle.mesh_emulate.specs.declared.wanted.Errand.{Errand}
-use Rattle.mesh_emulate.specs.Parts.{RunWithPieces, EventsMake, EndMakes, WholeRunMakes}
 use Rattle.mesh_emulate.proofs.Putting.{both_made}
 
 -- a run from the opening that is over

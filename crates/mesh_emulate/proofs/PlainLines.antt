@@ -1,14 +1,6 @@
 -- Texts of lines that are neither headings nor routes, nor `settled yes`, and the parts of such lines.
-use Rattle.std.proofs.Common.{◌≡◌, ℕ, true, false, ltb, List, [], ◌∷◌, ◌++◌, length, get_or, nat_eq, codes, sym, ap, ◌∙◌, arith}
-use Rattle.std.specs.List.{AllByRecursion as Each, flat_map}
+use Rattle.mesh_emulate.proofs.Common.{◌≡◌, ℕ, true, false, ltb, List, [], ◌∷◌, ◌++◌, length, get_or, nat_eq, codes, sym, ap, ◌∙◌, arith, AllByRecursion as Each, flat_map, All-append, Scenario, router_name, IsLine, IsPlain, ArePlain, lacks, lacks_both, begins_otherwise, router_name_lacks}
 use Rattle.std.proofs.lemmas.Grind.{flat_map-append}
-use Rattle.std.proofs.lemmas.List.Elements.{All-append}
-use Rattle.mesh_atoms.specs.declared.settings.Scenario.{Scenario}
-use Rattle.mesh_texts.specs.machine.Names.{router_name}
-use Rattle.mesh_texts.specs.Printed.{IsLine, IsPlain, ArePlain}
-use Rattle.mesh_texts.proofs.Cuts.{lacks, lacks_both}
-use Rattle.mesh_texts.proofs.LineTexts.{begins_otherwise}
-use Rattle.mesh_texts.proofs.Marked.{router_name_lacks}
 
 -- Parts without a line feed
 

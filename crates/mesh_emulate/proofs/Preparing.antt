@@ -1,18 +1,6 @@
 -- What is known before the first event, from its parts.
-use Rattle.std.proofs.Common.{◌≡◌, refl, ◌<◌, ℕ, true, false, List, length, get_or, Option, Some, None, sym, ap, ◌∙◌, subst}
-use Rattle.std.specs.Prelude.{codes}
-use Rattle.std.specs.Cmp.Lexicographic.{bytes_decides}
-use Rattle.std.proofs.lemmas.Option.{slice_get_read}
-use Rattle.mesh_atoms.specs.declared.settings.RouterSettings.{RouterSettings}
-use Rattle.mesh_atoms.specs.declared.settings.Scenario.{Scenario}
-use Rattle.mesh_atoms.specs.Settings.{name_eq}
-use Rattle.mesh_atoms.proofs.Options.{same_some}
-use Rattle.mesh_emulate.specs.declared.wanted.Departure.{Departure}
-use Rattle.mesh_emulate.specs.Emulation.{States, IsRefused, By_name}
-use Rattle.mesh_emulate.specs.Wants.{WantedPacket, Wants, HasName, IsNamed, Agree, Departs, IsUnknownName, NamesUnknown, NamesKnown, start_of, FirstUnknown, Of_probe}
+use Rattle.mesh_emulate.proofs.Common.{◌≡◌, refl, ◌<◌, ℕ, true, false, List, length, get_or, Option, Some, None, sym, ap, ◌∙◌, subst, codes, bytes_decides, slice_get_read, RouterSettings, Scenario, name_eq, same_some, Departure, States, IsRefused, By_name, WantedPacket, Wants, HasName, IsNamed, Agree, Departs, IsUnknownName, NamesUnknown, NamesKnown, start_of, FirstUnknown, Of_probe, Fault, fault, FailsAt, IfSettingRefused, ConfigFault}
 use Rattle.mesh_emulate.proofs.Names.{unknown_as}
-use Rattle.mesh_config.specs.Keys.Faults.{Fault, fault, FailsAt, IfSettingRefused}
-use Rattle.mesh_config.specs.declared.keys.fault.ConfigFault.{ConfigFault}
 use Rattle.mesh_config.specs.declared.keys.fault.ConfigFault.TheVariants as faults
 
 -- What is wanted, by numbers

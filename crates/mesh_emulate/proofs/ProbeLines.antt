@@ -1,23 +1,6 @@
 -- The lines of a probe are neither headings nor routes, nor `settled yes`.
-use Rattle.std.proofs.Common.{◌≡◌, ℕ, true, List, [], ◌∷◌, ◌++◌, length, map, Option, Some, None, not, refl, sym, ap, ◌∙◌, subst, append_assoc, codes, decimal}
-use Rattle.std.specs.Prelude.{filter}
-use Rattle.std.specs.List.{flat_map}
-use Rattle.std.proofs.lemmas.List.{append-nil}
-use Rattle.std.proofs.lemmas.List.Elements.{All-from_recursion}
-use Rattle.std.proofs.lemmas.List.Folds.{flat_map-map}
-use Rattle.mesh_atoms.specs.declared.settings.Scenario.{Scenario}
-use Rattle.mesh_atoms.specs.State.{State}
-use Rattle.mesh_emulate.specs.Emulation.{IsProbed, TellsWanted}
+use Rattle.mesh_emulate.proofs.Common.{◌≡◌, ℕ, true, List, [], ◌∷◌, ◌++◌, length, map, Option, Some, None, not, refl, sym, ap, ◌∙◌, subst, append_assoc, codes, decimal, filter, flat_map, append-nil, All-from_recursion, flat_map-map, Scenario, State, IsProbed, TellsWanted, router_name, Coverage, Probe, NoNumber, Done, is_reached, probe_start, probe_counts, probe_end, unreached_line, IsLine, IsPlain, ArePlain, lacks, each_map, line_end, line_after, number, nothing_plain}
 use Rattle.mesh_emulate.proofs.PlainLines.{router_lacks, behind, behind_lacks, plain_line}
-use Rattle.mesh_texts.specs.machine.Names.{router_name}
-use Rattle.mesh_probe.specs.declared.coverage.Coverage.{Coverage}
-use Rattle.mesh_probe.specs.declared.coverage.Probe.{Probe}
-use Rattle.mesh_probe.specs.declared.coverage.Probe.TheVariants.{NoNumber, Done}
-use Rattle.mesh_probe.specs.Text.{is_reached, probe_start, probe_counts, probe_end, unreached_line}
-use Rattle.mesh_texts.specs.Printed.{IsLine, IsPlain, ArePlain}
-use Rattle.mesh_texts.proofs.Cuts.{lacks}
-use Rattle.mesh_texts.proofs.LineLists.{each_map}
-use Rattle.mesh_texts.proofs.LineTexts.{line_end, line_after, number, nothing_plain}
 
 start_lacks : (s : Scenario) (origin : ℕ) → lacks 10 (probe_start s origin) ≡ true
 start_lacks s origin = behind_lacks (codes "probe ") (router_name s.routers origin ∷ []) refl (router_lacks s origin, tt)

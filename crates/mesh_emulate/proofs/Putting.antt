@@ -1,11 +1,5 @@
 -- Pieces that are put on out, one part after the other.
-use Rattle.std.proofs.Common.{◌≡◌, ℕ, ◌≤◌, List, [], ◌++◌, Option, Some, None, Result, Ok, Err, refl, sym, subst}
-use Rattle.std.specs.Prelude.{OnOk}
-use Rattle.std.proofs.lemmas.List.{append-nil}
-use Rattle.mesh_io.specs.declared.stop.Stop.{Stop}
-use Rattle.mesh_io.specs.Pieces.{MakesOne, PutsAll, PutsPieces}
-use Rattle.mesh_io.proofs.Pieces.{all_behind, stops_behind, stops_in}
-use Rattle.mesh_emulate.specs.Parts.{MakesBoth, In_first, In_next, MakesWanted}
+use Rattle.mesh_emulate.proofs.Common.{◌≡◌, ℕ, ◌≤◌, List, [], ◌++◌, Option, Some, None, Result, Ok, Err, refl, sym, subst, OnOk, append-nil, Stop, MakesOne, PutsAll, PutsPieces, all_behind, stops_behind, stops_in, MakesBoth, In_first, In_next, MakesWanted}
 
 -- the same pieces, by a weaker relation
 pub puts_as : (Makes Makes' : List (List ℕ) → Option (Unit {0}) → Type 0) (a b : Option (List ℕ)) (f g : ℕ) (r : Result (Unit {0}) Stop) →

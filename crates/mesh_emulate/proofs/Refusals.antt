@@ -1,12 +1,5 @@
 -- What is refused isn't emulated.
-use Rattle.std.proofs.Common.{◌≡◌, ℕ, List, Option, Some, None, subst}
-use Rattle.mesh_atoms.specs.declared.settings.Scenario.{Scenario}
-use Rattle.mesh_atoms.specs.State.{State}
-use Rattle.mesh_atoms.proofs.Options.{none_not}
-use Rattle.mesh_config.specs.Settings.{refusals}
-use Rattle.mesh_emulate.specs.Emulation.{IsPacketSent, IsProbed, TellsWanted, Emulation, IsRefused, By_settings, By_name}
-use Rattle.mesh_emulate.specs.Wants.{WantedPacket, Wants, IsNamed, start_of, FirstUnknown, Of_send, Of_probe}
-use Rattle.mesh_config.specs.Keys.Faults.{fault, first}
+use Rattle.mesh_emulate.proofs.Common.{◌≡◌, ℕ, List, Option, Some, None, subst, Scenario, State, none_not, refusals, IsPacketSent, IsProbed, TellsWanted, Emulation, IsRefused, By_settings, By_name, WantedPacket, Wants, IsNamed, start_of, FirstUnknown, Of_send, Of_probe, fault, first}
 
 -- what is told is of routers that have the names
 start_named : (s : Scenario) (states : List State) (send : Option WantedPacket) (text name : List ℕ) → TellsWanted (IsPacketSent s states) send text → start_of send ≡ Some name → (x : ℕ) × IsNamed s name x

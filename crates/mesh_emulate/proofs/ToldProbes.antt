@@ -1,22 +1,9 @@
 -- What the text of an emulation tells of the probe of its network.
-use Rattle.std.proofs.Common.{◌≡◌, ℕ, ◌≤◌, true, not, List, [], ◌∷◌, ◌++◌, length, get_or, refl, sym, ap, ◌∙◌, subst}
-use Rattle.std.specs.Prelude.{filter, Bool}
-use Rattle.std.specs.List.{AllByRecursion as Each, flat_map}
+use Rattle.mesh_emulate.proofs.Common.{◌≡◌, ℕ, ◌≤◌, true, not, List, [], ◌∷◌, ◌++◌, length, get_or, refl, sym, ap, ◌∙◌, subst, filter, Bool, AllByRecursion as Each, flat_map, append-nil, Contains-get_or, recursion_from_All, RouterSettings, Scenario, probing, ReachesJoined, reached_counts, TellsAllReached, ProbesReachJoined, ProbesTellAll, EmulatedProbesSendOnce, Coverage, Probe, NoNumber, Done, IfDone, ProbesReach, ArePeers, is_reached, probe_start, unreached_line, IsProbeText, run_states}
 use Rattle.std.proofs.lemmas.Cmp.{nat_eq_equiv}
-use Rattle.std.proofs.lemmas.List.{append-nil}
-use Rattle.std.proofs.lemmas.List.Elements.{Contains-get_or, recursion_from_All}
 use Rattle.std.proofs.lemmas.Map.Views.{list_any-from_Contains}
-use Rattle.mesh_atoms.specs.declared.settings.RouterSettings.{RouterSettings}
-use Rattle.mesh_atoms.specs.declared.settings.Scenario.{Scenario}
-use Rattle.mesh_emulate.specs.Laws.{probing, ReachesJoined, reached_counts, TellsAllReached, ProbesReachJoined, ProbesTellAll, EmulatedProbesSendOnce}
 use Rattle.mesh_emulate.proofs.ToldRoutes.{network, state_of}
-use Rattle.mesh_probe.specs.declared.coverage.Coverage.{Coverage}
-use Rattle.mesh_probe.specs.declared.coverage.Probe.{Probe}
-use Rattle.mesh_probe.specs.declared.coverage.Probe.TheVariants.{NoNumber, Done}
-use Rattle.mesh_probe.specs.Probes.{IfDone, ProbesReach}
 use Rattle.mesh_probe.specs.Probes as probes
-use Rattle.mesh_probe.specs.Text.{ArePeers, is_reached, probe_start, unreached_line, IsProbeText}
-use Rattle.mesh_texts.proofs.RunStates.{run_states}
 
 if_done : (P Q : Coverage → Type 0) → ((c : Coverage) → P c → Q c) → (probe : Probe) → IfDone P probe → IfDone Q probe
 if_done P Q turn NoNumber is = tt

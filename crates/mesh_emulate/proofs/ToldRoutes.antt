@@ -1,27 +1,9 @@
 -- What the text of an emulation tells: each router a run of the machine, whether the network is settled, and then its routes.
-use Rattle.std.proofs.Common.{◌≡◌, ℕ, ◌<◌, ◌^◌, ◌↔◌, List, ◌++◌, Some, sym, ap, subst, arith}
-use Rattle.std.specs.Prelude.{slice_get, Contains}
-use Rattle.mesh_atoms.specs.declared.addr.Addr4.{Addr4}
-use Rattle.mesh_atoms.specs.declared.addr.NetAddr.{NetAddr}
-use Rattle.mesh_atoms.specs.declared.graphs.Route.{Route}
-use Rattle.mesh_atoms.specs.declared.settings.Interface.{Interface}
-use Rattle.mesh_atoms.specs.declared.settings.RouterSettings.{RouterSettings}
-use Rattle.mesh_atoms.specs.Radio.{Router, RadioLeast}
-use Rattle.mesh_atoms.specs.Settled.{At}
-use Rattle.mesh_atoms.specs.State.{State}
+use Rattle.mesh_emulate.proofs.Common.{◌≡◌, ℕ, ◌<◌, ◌^◌, ◌↔◌, List, ◌++◌, Some, sym, ap, subst, arith, slice_get, Contains, Addr4, NetAddr, Route, Interface, RouterSettings, Router, RadioLeast, At, State, IsSettledNetwork, LeadsOn, settled_rows, settled_next_hops, SaysSettled, ArePlain, Prints, PrintsBy, LeadsOnwards, Arrives, Goes_on, At_gateway, LeadsThere, TellsWhetherSettled, ends_settled, tells_whether, prints_rows, prints_rows_by, run_states, routers_are_runs, end_is_settled, Emulation, RunsMachines, TellsSettled, PrintsLeastRoutes, PrintsNextHops, sending, TripsAreOnly, TripsReachRouters, TripsReachNetworks, TripsNeverStray, Wants}
 use Rattle.mesh_data.specs.Laws.{OfEachTrip, IsOnly, ReachesRouter, ReachesNetwork, NeverStrays}
-use Rattle.mesh_paths.specs.SettledRoutes.{IsSettledNetwork, LeadsOn}
 use Rattle.mesh_paths.specs.SettledRoutes as rows
-use Rattle.mesh_paths.proofs.SettledLaw.{settled_rows, settled_next_hops}
 use Rattle.mesh_settled.proofs.GapsLemmas.FaceLemmas.{end_has_least}
 use Rattle.mesh_texts.specs.Lines.Marks.{face_name, name_of_face}
-use Rattle.mesh_texts.specs.Printed.{SaysSettled, ArePlain, Prints, PrintsBy, LeadsOnwards, Arrives, Goes_on, At_gateway, LeadsThere}
-use Rattle.mesh_texts.specs.Runs.{TellsWhetherSettled}
-use Rattle.mesh_texts.proofs.ReadBack.{ends_settled, tells_whether, prints_rows, prints_rows_by}
-use Rattle.mesh_texts.proofs.RunStates.{run_states, routers_are_runs, end_is_settled}
-use Rattle.mesh_emulate.specs.Emulation.{Emulation}
-use Rattle.mesh_emulate.specs.Laws.{RunsMachines, TellsSettled, PrintsLeastRoutes, PrintsNextHops, sending, TripsAreOnly, TripsReachRouters, TripsReachNetworks, TripsNeverStray}
-use Rattle.mesh_emulate.specs.Wants.{Wants}
 use Rattle.mesh_emulate.proofs.Ends.{at_end}
 use Rattle.mesh_emulate.proofs.EventTexts.{run_text, is_run_text, text_is}
 use Rattle.mesh_emulate.proofs.PlainLines.{both_plain}

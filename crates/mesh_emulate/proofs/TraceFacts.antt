@@ -1,24 +1,8 @@
 -- Traces of the network of a scenario, event by event.
-use Rattle.std.proofs.Common.{◌≡◌, ℕ, ◌<◌, ◌≤◌, true, List, [], ◌∷◌, ◌++◌, length, get_or, map, Option, Some, None, Result, Ok, Err, refl, sym, ap, ◌∙◌, subst, arith, length-set}
-use Rattle.std.specs.Io.KnownBytes.{Appends}
-use Rattle.std.specs.List.{concat}
-use Rattle.std.specs.Prelude.{slice_get, OnOk}
-use Rattle.std.proofs.lemmas.List.{append-nil, length-map, get_or-map}
-use Rattle.std.proofs.lemmas.Option.{slice_get_within, slice_get-get_or}
-use Rattle.mesh_atoms.specs.declared.settings.Scenario.{Scenario}
-use Rattle.mesh_atoms.specs.State.{State}
-use Rattle.mesh_io.specs.declared.stop.Stop.{Stop}
-use Rattle.mesh_io.specs.Pieces.{MakesOne, PutsAll, PutsPieces}
-use Rattle.mesh_io.proofs.Pieces.{pieces_more, stops_behind}
+use Rattle.mesh_emulate.proofs.Common.{◌≡◌, ℕ, ◌<◌, ◌≤◌, true, List, [], ◌∷◌, ◌++◌, length, get_or, map, Option, Some, None, Result, Ok, Err, refl, sym, ap, ◌∙◌, subst, arith, length-set, Appends, concat, slice_get, OnOk, append-nil, length-map, get_or-map, slice_get_within, slice_get-get_or, Scenario, State, Stop, MakesOne, PutsAll, PutsPieces, pieces_more, stops_behind, NetEvent, moves_of, NetState, NetStep, IsOfPackets, IsTraced, IsLastEvent, RunWithPieces, EventsMake}
 use Rattle.mesh_texts.specs.machine.packet.Least.{Wrote}
-use Rattle.mesh_atoms.specs.declared.network.NetEvent.{NetEvent}
-use Rattle.mesh_texts.proofs.machine.Through.{moves_of}
-use Rattle.mesh_texts.specs.machine.Net.{NetState, NetStep}
-use Rattle.mesh_texts.specs.machine.NetRun.{IsOfPackets}
 use Rattle.mesh_texts.proofs.TraceSteps.{traces_run}
 use Rattle.mesh_texts.specs.Trace.{IsEventText}
-use Rattle.mesh_texts.specs.Runs.{IsTraced}
-use Rattle.mesh_emulate.specs.Parts.{IsLastEvent, RunWithPieces, EventsMake}
 use Rattle.mesh_emulate.proofs.EventTexts.{texts_more, joined_trace}
 
 -- a step that the network takes is one whose text can be told

@@ -1,27 +1,10 @@
 -- The lines of a trip are neither headings nor routes, nor `settled yes`.
-use Rattle.std.proofs.Common.{◌≡◌, ℕ, ◌/◌, ◌%◌, true, List, [], ◌∷◌, ◌++◌, length, map, Option, Some, None, refl, sym, ap, subst, arith, codes, decimal}
-use Rattle.std.specs.Prelude.{slice_get}
-use Rattle.std.proofs.lemmas.List.Elements.{All-from_recursion}
-use Rattle.std.proofs.lemmas.List.Folds.{flat_map-map}
-use Rattle.mesh_atoms.specs.declared.addr.Addr4.{Addr4}
-use Rattle.mesh_atoms.specs.declared.settings.Interface.{Interface}
-use Rattle.mesh_atoms.specs.declared.settings.RouterSettings.{RouterSettings}
-use Rattle.mesh_atoms.specs.declared.settings.Scenario.{Scenario}
-use Rattle.mesh_atoms.specs.State.{State}
+use Rattle.mesh_emulate.proofs.Common.{◌≡◌, ℕ, ◌/◌, ◌%◌, true, List, [], ◌∷◌, ◌++◌, length, map, Option, Some, None, refl, sym, ap, subst, arith, codes, decimal, slice_get, All-from_recursion, flat_map-map, Addr4, Interface, RouterSettings, Scenario, State, interface_name, interface_in, end_name, hop_start, hop_end, hop_line, trip_start, trip_end, text_of, IsPacketSent, TellsWanted, WantedPacket, router_name, IsLine, IsPlain, ArePlain, lacks, each_map, line_end, line_after, number, nothing_plain, name_lacks}
 use Rattle.mesh_data.specs.declared.trip.End.{End}
 use Rattle.mesh_data.specs.declared.trip.End.TheVariants.{Arrived, NoRoute, NoArc, TooFar}
 use Rattle.mesh_data.specs.declared.trip.Hop.{Hop}
 use Rattle.mesh_data.specs.declared.trip.Trip.{Trip}
 use Rattle.mesh_data.specs.Dotted.{dotted}
-use Rattle.mesh_data.specs.Text.{interface_name, interface_in, end_name, hop_start, hop_end, hop_line, trip_start, trip_end, text_of}
-use Rattle.mesh_emulate.specs.Emulation.{IsPacketSent, TellsWanted}
-use Rattle.mesh_emulate.specs.Wants.{WantedPacket}
-use Rattle.mesh_texts.specs.machine.Names.{router_name}
-use Rattle.mesh_texts.specs.Printed.{IsLine, IsPlain, ArePlain}
-use Rattle.mesh_texts.proofs.Cuts.{lacks}
-use Rattle.mesh_texts.proofs.LineLists.{each_map}
-use Rattle.mesh_texts.proofs.LineTexts.{line_end, line_after, number, nothing_plain}
-use Rattle.mesh_texts.proofs.Marked.{name_lacks}
 use Rattle.mesh_emulate.proofs.PlainLines.{router_lacks, behind, behind_lacks, plain_line}
 
 -- Parts without a line feed

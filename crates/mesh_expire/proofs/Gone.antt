@@ -1,15 +1,6 @@
 -- Expired tuples go one by one.
-use Rattle.std.proofs.Common.{◌≡◌, ℕ, Bool, true, false, cond, Option, Some, None, refl, sym, ap, ◌∙◌}
-use Rattle.std.specs.Prelude.{is_some}
-use Rattle.std.proofs.lemmas.Bool.{le-ltb}
-use Rattle.std.specs.Cmp.{IsEquivalence}
-use Rattle.std.specs.Ordering.{is_eq}
-use Rattle.std.specs.declared.cmp.Ordering.{Ordering}
-use Rattle.std.specs.BTreeMap.{is_at}
+use Rattle.mesh_expire.proofs.Common.{◌≡◌, ℕ, Bool, true, false, cond, Option, Some, None, refl, sym, ap, ◌∙◌, is_some, le-ltb, IsEquivalence, is_eq, Ordering, is_at, Base, find, if_live, Expires, IsFresh, SetsOnly, AreKeys, TakesExpired}
 use Rattle.std.specs.BTreeSet.{BTreeSet, contains, Updates}
-use Rattle.mesh_atoms.specs.Base.{Base, find, if_live, Expires, IsFresh, SetsOnly}
-use Rattle.mesh_expire.specs.Keyed.{AreKeys}
-use Rattle.mesh_expire.specs.Table.{TakesExpired}
 use Rattle.mesh_expire.proofs.Laws.{find_same}
 
 module _ {K V : Type 0} (eq : K → K → Bool) where

@@ -1,19 +1,8 @@
 -- What follows from the laws of a table.
-use Rattle.std.proofs.Common.{◌≡◌, ℕ, zero, suc, ◌+◌, ◌-◌, ◌<◌, ◌≤◌, ◌++◌, inl, inr, take, drop, map, add-one, arith, Bool, true, false, cond, List, [], ◌∷◌, length, get_or, length-take, get_or-take, get_or-set_same, get_or-set_other, Option, Some, None, refl, sym, ap, subst, ◌∙◌}
-use Rattle.std.specs.Prelude.{option_map, slice_get, slice_set, swap_remove}
-use Rattle.std.specs.List.{IsDistinct, AllByRecursion}
+use Rattle.mesh_expire.proofs.Common.{◌≡◌, ℕ, zero, suc, ◌+◌, ◌-◌, ◌<◌, ◌≤◌, ◌++◌, inl, inr, take, drop, map, add-one, arith, Bool, true, false, cond, List, [], ◌∷◌, length, get_or, length-take, get_or-take, get_or-set_same, get_or-set_other, Option, Some, None, refl, sym, ap, subst, ◌∙◌, option_map, slice_get, slice_set, swap_remove, IsDistinct, AllByRecursion, IsEquivalence, keys_of, set_value, lookup-none, cases_order, IsDistinct-head, IsDistinct-tail, IsDistinct-IsPermutation, none_past_head, place_from_lookup, slice_get-map, slice_get_within, slice_get_read, slice_get-get_or, get_or_from_slice_get, Base, find, HasDistinctKeys, SetsOnly, changed_at}
 use Rattle.std.specs.List.Sorted.{IsPermutation}
-use Rattle.std.specs.Cmp.{IsEquivalence}
-use Rattle.std.specs.Map.{keys_of, set_value}
-use Rattle.std.proofs.lemmas.Map.{lookup-none}
-use Rattle.std.proofs.lemmas.Bool.{cases_order}
 use Rattle.std.proofs.lemmas.List.Sorted.{IsPermutation-map, IsPermutation-swap_remove}
-use Rattle.std.proofs.lemmas.Map.Keys.{IsDistinct-head, IsDistinct-tail, IsDistinct-IsPermutation}
-use Rattle.std.proofs.lemmas.Map.Entries.{none_past_head, place_from_lookup}
-use Rattle.std.proofs.lemmas.Option.{slice_get-map, slice_get_within, slice_get_read, slice_get-get_or, get_or_from_slice_get}
 use Rattle.indexmap.proofs.MapLemmas.{lookup_permutation}
-use Rattle.mesh_atoms.specs.Base.{Base, find, HasDistinctKeys, SetsOnly}
-use Rattle.mesh_expire.specs.Table.{changed_at}
 
 -- no key stands twice where there is none
 pub distinct_none : {K : Type 0} (eq : K → K → Bool) → IsDistinct eq []

@@ -1,20 +1,7 @@
 -- A base that is changed by the place of a key.
-use Rattle.std.proofs.Common.{◌≡◌, ℕ, zero, suc, ◌+◌, ◌<◌, ◌≤◌, inl, inr, subst, Bool, true, false, cond, List, [], ◌∷◌, ◌++◌, length, drop, get_or, Option, Some, None, is_some, refl, sym, ap, ◌∙◌, arith}
-use Rattle.std.specs.Prelude.{remove, insert, slice_get, slice_set, option_map, IsSome, nat_lt}
-use Rattle.std.proofs.lemmas.Bool.{cases_order, lt-ltb}
-use Rattle.std.specs.List.{IsDistinct, AllByRecursion, list_any, filter}
-use Rattle.std.specs.Cmp.{IsEquivalence}
-use Rattle.std.specs.Map.{lookup, remove_entry, keys_of}
-use Rattle.std.proofs.lemmas.Map.{none_passes_from_lookup, lookup-insert, lookup-remove_entry}
-use Rattle.std.proofs.lemmas.Map.Made.{is_some-lookup}
-use Rattle.std.proofs.lemmas.Map.Keys.{IsDistinct-push, IsDistinct-tail}
-use Rattle.std.proofs.lemmas.Map.Entries.{lookup-filter-values, lookup_from_place, option_filter}
-use Rattle.std.proofs.lemmas.List.{map_push, take_all, drop_all, at_drop_more}
+use Rattle.mesh_expire.proofs.Common.{◌≡◌, ℕ, zero, suc, ◌+◌, ◌<◌, ◌≤◌, inl, inr, subst, Bool, true, false, cond, List, [], ◌∷◌, ◌++◌, length, drop, get_or, Option, Some, None, is_some, refl, sym, ap, ◌∙◌, arith, remove, insert, slice_get, slice_set, option_map, IsSome, nat_lt, cases_order, lt-ltb, IsDistinct, AllByRecursion, list_any, filter, IsEquivalence, lookup, remove_entry, keys_of, none_passes_from_lookup, lookup-insert, lookup-remove_entry, is_some-lookup, IsDistinct-push, IsDistinct-tail, lookup-filter-values, lookup_from_place, option_filter, map_push, take_all, drop_all, at_drop_more, slice_get_within, slice_get_read, get_or_from_slice_get, Base, find, HasDistinctKeys, SetsOnly, IsFresh, if_live, changed_at, TakesExpired}
 use Rattle.std.proofs.lemmas.List.Sums.{length-filter, count_by-le-length}
-use Rattle.std.proofs.lemmas.Option.{slice_get_within, slice_get_read, get_or_from_slice_get}
-use Rattle.mesh_atoms.specs.Base.{Base, find, HasDistinctKeys, SetsOnly, IsFresh, if_live}
 use Rattle.mesh_expire.proofs.Laws.{find_same, walked, apart_before, changed_at-place, sets-changed_at, distinct-changed_at, length-changed_at}
-use Rattle.mesh_expire.specs.Table.{changed_at, TakesExpired}
 
 -- what stands at the place of a key
 pub there : {K X : Type 0} (es : List (K × X)) (i : ℕ) (key : K) → option_map (λ (e : K × X). e.0) (slice_get es i) ≡ Some key → (x : X) × (slice_get es i ≡ Some (key, x))

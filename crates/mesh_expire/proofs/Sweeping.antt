@@ -1,14 +1,6 @@
 -- Entries that stand up to a moment, and a look over their places from the last on.
-use Rattle.std.proofs.Common.{◌≡◌, ℕ, ◌+◌, ◌<◌, ◌≤◌, arith, Bool, true, false, cond, length, Option, Some, None, refl, sym, ap, subst, ◌∙◌, inl, inr}
-use Rattle.std.specs.Prelude.{slice_get, swap_remove, if◌then◌else◌, is_some, IfSome}
-use Rattle.std.specs.Cmp.{IsEquivalence}
-use Rattle.std.proofs.lemmas.Bool.{lt-ltb, cases_order}
-use Rattle.std.proofs.lemmas.Map.Entries.{lookup_from_place}
-use Rattle.std.proofs.lemmas.Option.{slice_get_within}
-use Rattle.mesh_atoms.specs.Base.{Base, HasDistinctKeys, find, SetsOnly, IsFresh, if_live, Expires}
-use Rattle.mesh_atoms.proofs.Options.{none_is_some}
+use Rattle.mesh_expire.proofs.Common.{◌≡◌, ℕ, ◌+◌, ◌<◌, ◌≤◌, arith, Bool, true, false, cond, length, Option, Some, None, refl, sym, ap, subst, ◌∙◌, inl, inr, slice_get, swap_remove, if◌then◌else◌, is_some, IfSome, IsEquivalence, lt-ltb, cases_order, lookup_from_place, slice_get_within, Base, HasDistinctKeys, find, SetsOnly, IsFresh, if_live, Expires, none_is_some, changed_at, TakesExpired}
 use Rattle.mesh_expire.specs.Swept.{AreNotBefore}
-use Rattle.mesh_expire.specs.Table.{changed_at, TakesExpired}
 use Rattle.mesh_expire.proofs.Gone.{live_without, all_expired}
 use Rattle.mesh_expire.proofs.Laws.{walked, swapped_at, sets-changed_at}
 use Rattle.mesh_expire.proofs.Places.{all_fresh}

@@ -1,6 +1,5 @@
 -- Which of three holds.
-use Rattle.std.proofs.Common.{◌⊎◌, inl, inr}
-use Rattle.std.specs.Prelude.{◌↔◌}
+use Rattle.mesh_flood.proofs.Common.{◌⊎◌, inl, inr, ◌↔◌}
 
 -- one of three holds exactly where one of three others does, each of which is the same
 pub one_of : {T A B C P Q R : Type 0} → T ↔ (A ⊎ (B ⊎ C)) → A ↔ P → B ↔ Q → C ↔ R → T ↔ (P ⊎ (Q ⊎ R))

@@ -1,8 +1,7 @@
 -- When the keys of messages are the same.
 use Rattle.std.specs.Cmp.{IsEquivalence}
 use Rattle.std.proofs.lemmas.Cmp.{nat_eq_equiv, on_equiv, and_equiv}
-use Rattle.mesh_atoms.specs.declared.tuples.FloodKey.{FloodKey}
-use Rattle.mesh_atoms.specs.Base.{flood_eq}
+use Rattle.mesh_flood.proofs.Common.{FloodKey, flood_eq}
 
 pub flood_equiv : IsEquivalence flood_eq
 flood_equiv =

@@ -4,3 +4,4 @@ pub mod Room  -- machine
 pub mod Soundness  -- machine
 -- Lemmas of this crate alone.
 mod Choices
+mod Common

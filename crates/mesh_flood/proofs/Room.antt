@@ -1,21 +1,9 @@
 -- Where a message is noted, the set isn't full.
-use Rattle.std.proofs.Common.{◌≡◌, ◌≢◌, ◌<◌, ◌≤◌, ◌+◌, ◌++◌, ◌∷◌, zero, suc, arith, ℕ, List, [], length, Option, Some, None, Bool, true, false, cond, not, nat_eq, refl, subst, sym, ap, ◌∙◌, inl, inr, get_or}
-use Rattle.std.specs.Prelude.{OnOk, Result, Ok, Err, slice_set}
-use Rattle.std.proofs.lemmas.Bool.{false≢true, cases_Bool, cases_lt, eqb-true, eq-eqb}
-use Rattle.std.proofs.lemmas.List.{get_or_default, get_or_past, get_or-set_same, get_or-set_other}
-use Rattle.mesh_atoms.specs.declared.addr.Addr4.{Addr4}
-use Rattle.mesh_atoms.specs.declared.tuples.FloodKey.{FloodKey}
-use Rattle.mesh_atoms.specs.declared.tuples.Noted.{Noted}
+use Rattle.mesh_flood.proofs.Common.{◌≡◌, ◌≢◌, ◌<◌, ◌≤◌, ◌+◌, ◌++◌, ◌∷◌, zero, suc, arith, ℕ, List, [], length, Option, Some, None, Bool, true, false, cond, not, nat_eq, refl, subst, sym, ap, ◌∙◌, inl, inr, get_or, OnOk, Result, Ok, Err, slice_set, false≢true, cases_Bool, cases_lt, eqb-true, eq-eqb, get_or_default, get_or_past, get_or-set_same, get_or-set_other, Addr4, FloodKey, Noted, Base, base_of, addr_eq, find, flood_eq, NotedMessages, Heading, Forward, Notes, key_of, if_noted, if_linked, is_full, has_no_hops, process_of, forward_by, is_received, is_forwarded}
 use Rattle.mesh_atoms.specs.declared.tuples.Base.TheVariants.{Received, Forwarded}
-use Rattle.mesh_atoms.specs.Base.{Base, base_of, addr_eq, find, flood_eq}
-use Rattle.mesh_atoms.specs.State.{NotedMessages}
-use Rattle.mesh_flood.specs.declared.verdict.Heading.{Heading}
 use Rattle.mesh_flood.specs.declared.verdict.Process.{Process}
 use Rattle.mesh_flood.specs.declared.verdict.Process.TheVariants as process
-use Rattle.mesh_flood.specs.declared.verdict.Forward.{Forward}
 use Rattle.mesh_flood.specs.declared.verdict.Forward.TheVariants as forward
-use Rattle.mesh_flood.specs.Noting.{Notes}
-use Rattle.mesh_flood.specs.Verdict.{key_of, if_noted, if_linked, is_full, has_no_hops, process_of, forward_by, is_received, is_forwarded}
 
 -- the answers by what was found
 abbrev process_when : Bool → Option (Noted × ℕ) → Bool → Process

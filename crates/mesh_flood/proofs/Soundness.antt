@@ -1,20 +1,6 @@
 -- The sets stay sound: what is noted is not expired, and expiry leaves nothing that is.
-use Rattle.std.proofs.Common.{◌≡◌, ◌<◌, ◌+◌, ℕ, [], length, Option, Some, None, Bool, true, false, cond, refl, sym, ap, subst, ◌∙◌, arith}
-use Rattle.std.specs.Prelude.{nat_lt, nat_eq}
-use Rattle.std.proofs.lemmas.Bool.{eqb-true, eqb-false, lt-ltb}
-use Rattle.mesh_atoms.specs.declared.tuples.FloodKey.{FloodKey}
-use Rattle.mesh_atoms.specs.declared.tuples.Noted.{Noted}
-use Rattle.mesh_atoms.specs.declared.settings.RouterSettings.{RouterSettings}
+use Rattle.mesh_flood.proofs.Common.{◌≡◌, ◌<◌, ◌+◌, ℕ, [], length, Option, Some, None, Bool, true, false, cond, refl, sym, ap, subst, ◌∙◌, arith, nat_lt, nat_eq, eqb-true, eqb-false, lt-ltb, FloodKey, Noted, RouterSettings, Base, base_of, find, flood_eq, if_live, Expires, IsFresh, NotedMessages, LiveNoted, SoundNoted, IsWithin, distinct_none, Heading, Forward, key_of, is_received, is_forwarded, Notes, AfterNote, AreWithin}
 use Rattle.mesh_atoms.specs.declared.settings.Times.{Times}
-use Rattle.mesh_atoms.specs.Base.{Base, base_of, find, flood_eq, if_live, Expires, IsFresh}
-use Rattle.mesh_atoms.specs.State.{NotedMessages}
-use Rattle.mesh_atoms.specs.Live.{LiveNoted}
-use Rattle.mesh_atoms.specs.Sound.{SoundNoted, IsWithin}
-use Rattle.mesh_expire.proofs.Laws.{distinct_none}
-use Rattle.mesh_flood.specs.declared.verdict.Heading.{Heading}
-use Rattle.mesh_flood.specs.declared.verdict.Forward.{Forward}
-use Rattle.mesh_flood.specs.Verdict.{key_of, is_received, is_forwarded}
-use Rattle.mesh_flood.specs.Noting.{Notes, AfterNote, AreWithin}
 
 later : (now hold until : ℕ) (value : Noted) → 0 < hold → Some (let e : Noted × ℕ = (record {}, now + hold) in e) ≡ Some (value, until) → nat_lt now until ≡ true
 later now hold until value some is =

@@ -1,16 +1,5 @@
 -- Walks over the places of a list, and what they gather.
-use Rattle.std.proofs.Common.{◌≡◌, ℕ, ◌+◌, ◌<◌, ◌≤◌, ◌⊎◌, ◌↔◌, inl, inr, refl, sym, ◌∙◌, ap, subst, arith, List, [], ◌∷◌, ◌++◌, length, take, Contains, slice_get, get_or, Some}
-use Rattle.std.proofs.lemmas.Grind.{common_steps}
-use Rattle.std.specs.Prelude.{Bool, true}
-use Rattle.std.specs.Cmp.{IsEquivalence}
-use Rattle.std.specs.Map.{keys_of}
-use Rattle.std.proofs.lemmas.Bool.{cases_eq}
-use Rattle.std.proofs.lemmas.List.{append_assoc, take_more, take_all}
-use Rattle.std.proofs.lemmas.List.Elements.{Contains-append_cases, Contains-append_left, Contains-append_right, Contains-push, Contains-push_cases}
-use Rattle.std.proofs.lemmas.Option.{slice_get_within, get_or_from_slice_get, slice_get_cases, slice_get_read}
-use Rattle.std.proofs.lemmas.Map.Entries.{place_from_lookup, lookup_from_place}
-use Rattle.mesh_atoms.specs.Base.{Base, find, HasDistinctKeys}
-use Rattle.mesh_hello.specs.Gathers.{Gathers}
+use Rattle.mesh_hello.proofs.Common.{◌≡◌, ℕ, ◌+◌, ◌<◌, ◌≤◌, ◌⊎◌, ◌↔◌, inl, inr, refl, sym, ◌∙◌, ap, subst, arith, List, [], ◌∷◌, ◌++◌, length, take, Contains, slice_get, get_or, Some, common_steps, Bool, true, IsEquivalence, keys_of, cases_eq, append_assoc, take_more, take_all, Contains-append_cases, Contains-append_left, Contains-append_right, Contains-push, Contains-push_cases, slice_get_within, get_or_from_slice_get, slice_get_cases, slice_get_read, place_from_lookup, lookup_from_place, Base, find, HasDistinctKeys, Gathers}
 
 -- some element below a place has the property
 abbrev pub SomeBelow : {E : Type 0} → List E → ℕ → (E → Type 0) → Type 0

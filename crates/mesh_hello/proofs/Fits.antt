@@ -1,15 +1,6 @@
 -- How many addresses a list can have.
-use Rattle.std.proofs.Common.{◌≡◌, ℕ, suc, ◌≤◌, ◌↔◌, inl, inr, refl, sym, ap, arith, List, [], ◌∷◌, length, Contains, Some, IsTrue}
-use Rattle.std.specs.Prelude.{Bool, true, false, cond, IsSome, ◌||◌, nat_lt}
-use Rattle.std.specs.Cmp.{IsEquivalence}
-use Rattle.std.specs.List.{IsDistinct, list_any}
-use Rattle.std.specs.Map.{lookup}
-use Rattle.std.proofs.lemmas.Bool.{false≢true, lt-ltb, ltb-true, or_cases as either}
+use Rattle.mesh_hello.proofs.Common.{◌≡◌, ℕ, suc, ◌≤◌, ◌↔◌, inl, inr, refl, sym, ap, arith, List, [], ◌∷◌, length, Contains, Some, IsTrue, Bool, true, false, cond, IsSome, ◌||◌, nat_lt, IsEquivalence, IsDistinct, list_any, lookup, false≢true, lt-ltb, ltb-true, or_cases as either, list_any-from_Contains, Addr4, IsAscending, AreMoreThan, addr_equiv, same_addr}
 use Rattle.std.proofs.lemmas.Map.Steps.{length-le_from_keys}
-use Rattle.std.proofs.lemmas.Map.Views.{list_any-from_Contains}
-use Rattle.mesh_atoms.specs.declared.addr.Addr4.{Addr4}
-use Rattle.mesh_atoms.specs.Words.{IsAscending, AreMoreThan}
-use Rattle.mesh_atoms.proofs.Lookups.{addr_equiv, same_addr}
 use Rattle.mesh_hello.proofs.Sorted.{distinct_ascending}
 
 -- a list as a map of each element to itself

@@ -6,3 +6,4 @@ pub mod Places  -- nhdp
 pub mod SayingLemmas  -- machine, nhdp
 pub mod Sorted  -- nhdp
 pub mod ToldLemmas  -- nhdp
+mod Common

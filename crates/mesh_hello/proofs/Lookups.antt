@@ -1,11 +1,5 @@
 -- What look-ups give.
-use Rattle.std.proofs.Common.{◌≡◌, ℕ, ◌⊎◌, refl, Option, Some, None, arith}
-use Rattle.std.proofs.lemmas.Grind.{common_steps}
-use Rattle.std.specs.Prelude.{true, nat_lt}
-use Rattle.mesh_atoms.specs.declared.tuples.LinkKey.{LinkKey}
-use Rattle.mesh_atoms.specs.Base.{if_live}
-use Rattle.mesh_atoms.proofs.Options.{same_some, none_not}
-use Rattle.mesh_atoms.proofs.Values.{same_address}
+use Rattle.mesh_hello.proofs.Common.{◌≡◌, ℕ, ◌⊎◌, refl, Option, Some, None, arith, common_steps, true, nat_lt, LinkKey, if_live, same_some, none_not, same_address}
 
 -- what is there and not expired was there, and its moment is later
 pub live_from : {V : Type 0} (now : ℕ) (o : Option (V × ℕ)) (e : V × ℕ) → if_live now o ≡ Some e → (o ≡ Some e) × (nat_lt now e.1 ≡ true)

@@ -1,18 +1,9 @@
 -- Addresses in ascending order.
-use Rattle.std.proofs.Common.{◌≡◌, ◌<◌, List, Ordering, Less, get_or, sym, refl, ◌∙◌, arith}
-use Rattle.std.proofs.lemmas.Grind.{common_steps}
-use Rattle.std.specs.Prelude.{false}
-use Rattle.std.specs.List.{IsDistinct, dedup}
+use Rattle.mesh_hello.proofs.Common.{◌≡◌, ◌<◌, List, Ordering, Less, get_or, sym, refl, ◌∙◌, arith, common_steps, false, IsDistinct, dedup, IsTotalOrder, ne_eqb, eq-eqb, IsStrictlySortedBy-dedup, Addr4, addr_eq, IsAscending}
 use Rattle.std.specs.List.Sorted.{IsSorted}
-use Rattle.std.specs.Cmp.{IsTotalOrder}
 use Rattle.std.specs.Ordering.{nat_cmp, eq_by_cmp}
 use Rattle.std.proofs.lemmas.Cmp.{on_total, nat_cmp_total, ranked, by_ranked}
-use Rattle.std.proofs.lemmas.Bool.{ne_eqb, eq-eqb}
-use Rattle.std.proofs.lemmas.List.Kept.{IsStrictlySortedBy-dedup}
 use Rattle.std.proofs.lemmas.Map.Keys.{Less-from_sorted, IsDistinct-from_apart}
-use Rattle.mesh_atoms.specs.declared.addr.Addr4.{Addr4}
-use Rattle.mesh_atoms.specs.Base.{addr_eq}
-use Rattle.mesh_atoms.specs.Words.{IsAscending}
 
 abbrev pub addr_cmp : Addr4 → Addr4 → Ordering
 addr_cmp a b = nat_cmp a.0 b.0

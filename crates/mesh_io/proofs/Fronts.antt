@@ -1,9 +1,5 @@
 -- Text that is put and written in pieces.
-use Rattle.std.proofs.Common.{◌≡◌, ℕ, ◌+◌, Bool, true, false, ltb, List, [], ◌++◌, length, take, Option, Some, None, refl, sym, ap, ◌∙◌, arith, append_assoc}
-use Rattle.std.specs.Io.KnownBytes.{Appends, Keeps}
-use Rattle.std.proofs.lemmas.Bool.{ltb-true, ltb-false}
-use Rattle.std.proofs.Math.Seq.{take-append-add}
-use Rattle.std.proofs.lemmas.List.{take-append-le, take_all, take_at, append-nil}
+use Rattle.mesh_io.proofs.Common.{◌≡◌, ℕ, ◌+◌, Bool, true, false, ltb, List, [], ◌++◌, length, take, Option, Some, None, refl, sym, ap, ◌∙◌, arith, append_assoc, Appends, Keeps, ltb-true, ltb-false, take-append-add, take-append-le, take_all, take_at, append-nil}
 use Rattle.mesh_io.proofs.Steps.{appends_more}
 
 -- a piece stands at the end now

@@ -1,11 +1,6 @@
 -- Output in pieces: one piece, and what is put behind pieces that were put before.
-use Rattle.std.proofs.Common.{◌≡◌, ℕ, ◌≤◌, List, [], ◌∷◌, ◌++◌, take, Option, Some, None, Result, Ok, Err, refl, sym, subst, append_assoc}
-use Rattle.std.specs.Prelude.{IsErrAnd}
+use Rattle.mesh_io.proofs.Common.{◌≡◌, ℕ, ◌≤◌, List, [], ◌∷◌, ◌++◌, take, Option, Some, None, Result, Ok, Err, refl, sym, subst, append_assoc, IsErrAnd, Appends, append-nil, concat-append, Rose}
 use Rattle.std.specs.List.{concat}
-use Rattle.std.specs.Io.KnownBytes.{Appends}
-use Rattle.std.proofs.lemmas.List.{append-nil}
-use Rattle.std.proofs.lemmas.List.Folds.{concat-append}
-use Rattle.mesh_io.specs.Faults.{Rose}
 use Rattle.mesh_io.specs.Pieces.{MakesOne, PutsAll, PutsFront, PutsPieces}
 use Rattle.mesh_io.specs.declared.stop.Stop.{Stop}
 use Rattle.mesh_io.specs.declared.stop.Stop.TheVariants as stop

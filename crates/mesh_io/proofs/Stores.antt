@@ -1,12 +1,6 @@
 -- What is kept in stores that grow at their end.
-use Rattle.std.proofs.Common.{◌≡◌, ℕ, ◌+◌, ◌^◌, ◌<◌, ◌≤◌, min, Bool, true, false, ltb, cond, List, [], ◌∷◌, ◌++◌, length, map, take, drop, Option, Some, None, refl, sym, ap, ◌∙◌, arith}
-use Rattle.std.proofs.lemmas.Bool.{ltb-true, ltb-false}
-use Rattle.std.proofs.lemmas.List.{take-append-le, drop-append-le, take_all, take_at, length-take, length-drop, length-append}
-use Rattle.std.proofs.Math.Seq.{drop-append_seam}
-use Rattle.mesh_atoms.specs.declared.addr.Endpoint.{Endpoint}
+use Rattle.mesh_io.proofs.Common.{◌≡◌, ℕ, ◌+◌, ◌^◌, ◌<◌, ◌≤◌, min, Bool, true, false, ltb, cond, List, [], ◌∷◌, ◌++◌, length, map, take, drop, Option, Some, None, refl, sym, ap, ◌∙◌, arith, ltb-true, ltb-false, take-append-le, drop-append-le, take_all, take_at, length-take, length-drop, length-append, drop-append_seam, Endpoint, Attached_to, Handed, lying, report_of, told_more, Lies, AllLie, IsRoomy, LogState}
 use Rattle.mesh_io.specs.Airs.{Report}
-use Rattle.mesh_io.specs.Airs.Report.{Attached_to, Handed}
-use Rattle.mesh_io.specs.MemAir.{lying, report_of, told_more, Lies, AllLie, IsRoomy, LogState}
 use Rattle.mesh_io.specs.declared.air_room.AirRoom.{AirRoom}
 use Rattle.mesh_io.specs.declared.air_room.LoggedCall.{LoggedCall}
 use Rattle.mesh_io.specs.declared.air_room.LoggedCall.TheVariants as entry

@@ -29,3 +29,4 @@ mod WorkedLoss
 mod WorkedNeighbourhood
 mod WorkedQuality
 mod WrongStates
+mod Common

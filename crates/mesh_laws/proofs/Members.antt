@@ -1,7 +1,5 @@
 -- Items of short lists, and of lists that are made of others.
-use Rattle.std.proofs.Common.{◌≡◌, inl, inr, ap, subst, sym, ◌∙◌, List, [], ◌∷◌, map, Contains}
-use Rattle.mesh_atoms.specs.Base.{Base, Has}
-use Rattle.mesh_atoms.proofs.Lists.{contains_tail as there, contains_cases, contains_none as none_of, contains_head as here}
+use Rattle.mesh_laws.proofs.Common.{◌≡◌, inl, inr, ap, subst, sym, ◌∙◌, List, [], ◌∷◌, map, Contains, Base, Has, contains_tail as there, contains_cases, contains_none as none_of, contains_head as here}
 
 -- each item of a list has the property
 abbrev pub Each : {A : Type 0} → (A → Type 0) → List A → Type 0

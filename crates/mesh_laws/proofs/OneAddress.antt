@@ -1,13 +1,5 @@
 -- A HELLO of which one address alone is local, the sender's, and of the interface that it comes from.
-use Rattle.std.proofs.Common.{◌≡◌, inl, inr, sym, subst, arith, [], ◌∷◌, Contains}
-use Rattle.mesh_atoms.specs.declared.addr.Addr4.{Addr4}
-use Rattle.mesh_atoms.specs.declared.hello.Hello.{Hello}
-use Rattle.mesh_atoms.specs.declared.hello.LocalIf.{LocalIf}
-use Rattle.mesh_atoms.specs.declared.hello.LocalIf.TheVariants.{This, Other}
-use Rattle.mesh_atoms.specs.HelloTold.{TellsLocal, IsSending, IsListed}
-use Rattle.mesh_atoms.specs.Words.{Lists}
-use Rattle.mesh_paths.proofs.ShortLists.{only}
-use Rattle.mesh_atoms.proofs.Lists.{contains_head as here}
+use Rattle.mesh_laws.proofs.Common.{◌≡◌, inl, inr, sym, subst, arith, [], ◌∷◌, Contains, Addr4, Hello, LocalIf, This, Other, TellsLocal, IsSending, IsListed, Lists, only, contains_head as here}
 
 module _ (hello : Hello) (sender : Addr4) (there : TellsLocal hello sender This)
     (local_is : (a : Addr4) (local : LocalIf) → TellsLocal hello a local → (a ≡ sender) × (local ≡ This)) where

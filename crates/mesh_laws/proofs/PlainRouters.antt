@@ -1,17 +1,7 @@
 -- Routers of one interface with one address, which admits whatever it hears, and what is held of a neighbour whose HELLOs are heard.
-use Rattle.std.proofs.Common.{ℕ, refl, List, [], ◌∷◌, map, Some, true, false, Bool}
-use Rattle.mesh_atoms.specs.declared.addr.Addr4.{Addr4}
-use Rattle.mesh_atoms.specs.declared.codes.metric.Metric.{Metric}
+use Rattle.mesh_laws.proofs.Common.{ℕ, refl, List, [], ◌∷◌, map, Some, true, false, Bool, Addr4, Metric, Link, Neighbour, Attached4, Interface, RouterSettings, RadioArc, admits_all, IsInterface, IsRouter}
 use Rattle.mesh_atoms.specs.declared.hello.Willing.{Willing as Wills}
-use Rattle.mesh_atoms.specs.declared.tuples.Link.{Link}
-use Rattle.mesh_atoms.specs.declared.tuples.Neighbour.{Neighbour}
-use Rattle.mesh_atoms.specs.declared.settings.Attached4.{Attached4}
-use Rattle.mesh_atoms.specs.declared.settings.Interface.{Interface}
-use Rattle.mesh_atoms.specs.declared.settings.RouterSettings.{RouterSettings}
-use Rattle.mesh_atoms.specs.declared.settings.RadioArc.{RadioArc}
 use Rattle.mesh_atoms.specs.declared.settings.Times.{Times}
-use Rattle.mesh_atoms.specs.Quality.{admits_all}
-use Rattle.mesh_atoms.specs.Settings.{IsInterface, IsRouter}
 use Rattle.mesh_laws.proofs.TwoRoutersInRange.{code_fits, seven_within, no_senders, no_near_holds, all_rows, are_times, none_lost, some_delay, short_delay}
 
 abbrev pub one : Metric

@@ -1,11 +1,5 @@
 -- What the quality rule makes of a link.
-use Rattle.std.proofs.Common.{◌≡◌, ℕ, ◌+◌, ◌<◌, ◌≤◌, refl, arith, min, Bool, true, false, cond}
-use Rattle.std.specs.Prelude.{not, nat_le, nat_lt, ◌&&◌, ◌||◌}
-use Rattle.std.proofs.Math.Nat.{le_refl, min-le_left, min-le_right}
-use Rattle.std.proofs.lemmas.Bool.{leb-true, lt-leb, lt-ltb, and_parts}
-use Rattle.mesh_atoms.specs.declared.admit.Admit.{Admit}
-use Rattle.mesh_atoms.specs.declared.tuples.Link.{Link}
-use Rattle.mesh_atoms.specs.Quality.{by_quality}
+use Rattle.mesh_laws.proofs.Common.{◌≡◌, ℕ, ◌+◌, ◌<◌, ◌≤◌, refl, arith, min, Bool, true, false, cond, not, nat_le, nat_lt, ◌&&◌, ◌||◌, le_refl, min-le_left, min-le_right, leb-true, lt-leb, lt-ltb, and_parts, Admit, Link, by_quality}
 
 abbrev entry : Link → ℕ → Link × ℕ
 entry link until = (link, until)

@@ -1,26 +1,8 @@
 -- The definitions refuse spoiled links, qualities, limits and metrics of 2-hop tuples.
-use Rattle.std.proofs.Common.{◌≡◌, ℕ, ◌+◌, ◌≤◌, ◌⊎◌, inl, inr, refl, sym, ◌∙◌, ap, subst, arith, Option, Some, None}
-use Rattle.std.specs.Prelude.{Contains, Bool, true, false, cond, nat_lt}
-use Rattle.std.proofs.lemmas.Bool.{lt-ltb}
-use Rattle.mesh_atoms.specs.declared.addr.Addr4.{Addr4}
-use Rattle.mesh_atoms.specs.declared.codes.metric.Metric.{Metric}
-use Rattle.mesh_atoms.specs.declared.hello.LinkStatus.{LinkStatus}
-use Rattle.mesh_atoms.specs.declared.hello.LinkStatus.TheVariants.{Lost as Down, Symmetric, Heard}
+use Rattle.mesh_laws.proofs.Common.{◌≡◌, ℕ, ◌+◌, ◌≤◌, ◌⊎◌, inl, inr, refl, sym, ◌∙◌, ap, subst, arith, Option, Some, None, Contains, Bool, true, false, cond, nat_lt, lt-ltb, Addr4, Metric, LinkStatus, Heard, Link, GoesOn, LinkKeptOrMade, Stood, Made, by_status, renewed, if_live, Says, IsSaid, Near_in, Near_out, Link_in, Link_out, or_else, trim, trimmed, quality_at, rule_of, admitted, admit_on, link_at, is_symmetric, IsHeld, Takes, Overfull_two_hops, IsKept, none_is_some, none_not, same_some, some_equal, few_of_one, RefusesLinksTogether, RefusesLinkOfUnlisted, RefusesLinkOfSharedAddress, RefusesLinkGone, RefusesOtherQuality, RefusesLostLinkKept, RefusesMadeUnadmitted, RefusesFullOfOne, RefusesTakenThoughFull, RefusesTakenThoughManyRows, RefusesFullThoughFits, RefusesLinkMetricFirst, RefusesMetricUnsaid, RefusesRowByLinkMetric, RefusesRowWithoutMetric}
+use Rattle.mesh_atoms.specs.declared.hello.LinkStatus.TheVariants.{Lost as Down, Symmetric}
 use Rattle.mesh_atoms.specs.declared.hello.Shown.{Shown}
-use Rattle.mesh_atoms.specs.declared.tuples.Link.{Link}
-use Rattle.mesh_atoms.specs.AfterHello.{GoesOn, LinkKeptOrMade, Stood, Made, by_status, renewed}
-use Rattle.mesh_atoms.specs.Base.{if_live}
-use Rattle.mesh_atoms.specs.Hello.{Says, IsSaid, Near_in, Near_out, Link_in, Link_out}
-use Rattle.mesh_atoms.specs.HelloTold.{or_else}
-use Rattle.mesh_atoms.specs.Live.{trim, trimmed}
-use Rattle.mesh_atoms.specs.Quality.{quality_at, rule_of, admitted, admit_on}
-use Rattle.mesh_atoms.specs.State.{link_at, is_symmetric}
-use Rattle.mesh_atoms.specs.TakesHello.{IsHeld, Takes, Overfull_two_hops}
-use Rattle.mesh_atoms.specs.Words.{IsKept}
-use Rattle.mesh_atoms.proofs.Options.{none_is_some, none_not, same_some, some_equal}
-use Rattle.mesh_paths.proofs.ShortLists.{few_of_one}
 use Rattle.mesh_laws.proofs.Qualities.{quality_by, cut}
-use Rattle.mesh_laws.specs.Spoiled.{RefusesLinksTogether, RefusesLinkOfUnlisted, RefusesLinkOfSharedAddress, RefusesLinkGone, RefusesOtherQuality, RefusesLostLinkKept, RefusesMadeUnadmitted, RefusesFullOfOne, RefusesTakenThoughFull, RefusesTakenThoughManyRows, RefusesFullThoughFits, RefusesLinkMetricFirst, RefusesMetricUnsaid, RefusesRowByLinkMetric, RefusesRowWithoutMetric}
 
 -- Links
 

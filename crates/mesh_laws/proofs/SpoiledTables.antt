@@ -1,26 +1,9 @@
 -- The definitions refuse spoiled topologies and noted messages.
-use Rattle.std.proofs.Common.{◌≡◌, ℕ, ◌+◌, refl, sym, ◌∙◌, ap, subst, Option, Some, None}
-use Rattle.std.specs.Prelude.{Bool, true, false, cond, nat_eq, not, ◌&&◌}
-use Rattle.std.proofs.lemmas.Bool.{eqb-true, eq-eqb}
-use Rattle.mesh_atoms.specs.declared.addr.Addr4.{Addr4}
-use Rattle.mesh_atoms.specs.declared.codes.metric.Metric.{Metric}
-use Rattle.mesh_atoms.specs.declared.tc.Tc.{Tc}
-use Rattle.mesh_atoms.specs.declared.tuples.AddressKey.{AddressKey}
-use Rattle.mesh_atoms.specs.declared.tuples.Advertiser.{Advertiser}
-use Rattle.mesh_atoms.specs.declared.tuples.RouterTuple.{RouterTuple}
-use Rattle.mesh_atoms.specs.declared.tuples.AddressTuple.{AddressTuple}
-use Rattle.mesh_atoms.specs.declared.tuples.NetworkTuple.{NetworkTuple}
-use Rattle.mesh_atoms.specs.declared.tuples.Noted.{Noted}
+use Rattle.mesh_laws.proofs.Common.{◌≡◌, ℕ, ◌+◌, refl, sym, ◌∙◌, ap, subst, Option, Some, None, Bool, true, false, cond, nat_eq, not, ◌&&◌, eqb-true, eq-eqb, Addr4, Metric, Tc, AddressKey, Advertiser, RouterTuple, AddressTuple, NetworkTuple, Noted, AfterTc, Becomes, Given, Left, GivesAddress, if_not_dropped, Base, base_of, find, addr_eq, address_eq, flood_eq, TopologyBase, key_of, is_received, is_forwarded, RefusesNumberUnnoted, RefusesNumberAtAnotherMoment, RefusesGivenOtherwise, RefusesGivenAtAnotherMoment, RefusesRouterUntaken, RefusesNetworkUntaken, RefusesRouterOfOldNumber, RefusesNetworkOfOldNumber, RefusesTupleGoneByPart, RefusesTupleGoneOfAnother, RefusesProcessedUnnoted, RefusesProcessedOutOfNothing, RefusesProcessedAtAnotherMoment, RefusesReceivedOutOfNothing, RefusesReceivedAtAnotherMoment, RefusesReceivedElsewhere, RefusesForwardedUnsent, RefusesForwardedAtAnotherMoment, cond_true, none_not, none_is_some, same_some}
 use Rattle.mesh_atoms.specs.declared.tuples.FloodKey.{FloodKey}
-use Rattle.mesh_atoms.specs.AfterTc.{AfterTc, Becomes, Given, Left, GivesAddress, if_not_dropped}
-use Rattle.mesh_atoms.specs.Base.{Base, base_of, find, addr_eq, address_eq, flood_eq}
-use Rattle.mesh_atoms.specs.State.{TopologyBase}
 use Rattle.mesh_flood.specs.Noting.{Notes}
-use Rattle.mesh_flood.specs.Verdict.{key_of, is_received, is_forwarded}
 use Rattle.mesh_laws.proofs.Members.{both_same}
 use Rattle.mesh_laws.proofs.TcSets.{given_so, numbered_so}
-use Rattle.mesh_laws.specs.Spoiled.{RefusesNumberUnnoted, RefusesNumberAtAnotherMoment, RefusesGivenOtherwise, RefusesGivenAtAnotherMoment, RefusesRouterUntaken, RefusesNetworkUntaken, RefusesRouterOfOldNumber, RefusesNetworkOfOldNumber, RefusesTupleGoneByPart, RefusesTupleGoneOfAnother, RefusesProcessedUnnoted, RefusesProcessedOutOfNothing, RefusesProcessedAtAnotherMoment, RefusesReceivedOutOfNothing, RefusesReceivedAtAnotherMoment, RefusesReceivedElsewhere, RefusesForwardedUnsent, RefusesForwardedAtAnotherMoment}
-use Rattle.mesh_atoms.proofs.Options.{cond_true, none_not, none_is_some, same_some}
 
 -- TCs
 

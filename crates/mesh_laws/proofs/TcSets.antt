@@ -1,12 +1,5 @@
 -- What a TC leaves of one set of tuples.
-use Rattle.std.proofs.Common.{◌≡◌, ℕ, refl, sym, ◌∙◌, ap, Option, Some, None}
-use Rattle.std.specs.Prelude.{Bool, true, false, cond, nat_eq, not, ◌&&◌}
-use Rattle.std.proofs.lemmas.Bool.{eqb-true, eq-eqb}
-use Rattle.mesh_atoms.specs.declared.addr.Addr4.{Addr4}
-use Rattle.mesh_atoms.specs.declared.tc.Tc.{Tc}
-use Rattle.mesh_atoms.specs.AfterTc.{Becomes, Given, Left, if_not_dropped}
-use Rattle.mesh_atoms.specs.Base.{addr_eq}
-use Rattle.mesh_atoms.proofs.Options.{true_false, none_not, same_some}
+use Rattle.mesh_laws.proofs.Common.{◌≡◌, ℕ, refl, sym, ◌∙◌, ap, Option, Some, None, Bool, true, false, cond, nat_eq, not, ◌&&◌, eqb-true, eq-eqb, Addr4, Tc, Becomes, Given, Left, if_not_dropped, addr_eq, true_false, none_not, same_some}
 
 -- a complete TC leaves of its originator's tuples those of its number
 left_by : {A : Type 0} (mine complete same : Bool) (e f : A) → mine ≡ true → complete ≡ true → cond (mine && (complete && not same)) None (Some e) ≡ Some f → (same ≡ true) × (e ≡ f)

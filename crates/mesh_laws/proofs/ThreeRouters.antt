@@ -1,28 +1,6 @@
 -- Three routers in a row: the middle one relays for the other two, and the last one attaches a network. Their settings, their scenario
 -- and their states.
-use Rattle.std.proofs.Common.{◌≡◌, ℕ, zero, suc, refl, ap, subst, arith, List, [], ◌∷◌, map, Contains, Some, None, Bool, true, false, IsTrue}
-use Rattle.mesh_atoms.specs.declared.addr.Addr4.{Addr4}
-use Rattle.mesh_atoms.specs.declared.addr.NetAddr.{NetAddr}
-use Rattle.mesh_atoms.specs.declared.tc.TcRow.{TcRow}
-use Rattle.mesh_atoms.specs.declared.tuples.LinkKey.{LinkKey}
-use Rattle.mesh_atoms.specs.declared.tuples.Link.{Link}
-use Rattle.mesh_atoms.specs.declared.tuples.TwoHopKey.{TwoHopKey}
-use Rattle.mesh_atoms.specs.declared.tuples.TwoHop.{TwoHop}
-use Rattle.mesh_atoms.specs.declared.tuples.Neighbour.{Neighbour}
-use Rattle.mesh_atoms.specs.declared.tuples.Advertiser.{Advertiser}
-use Rattle.mesh_atoms.specs.declared.tuples.RouterKey.{RouterKey}
-use Rattle.mesh_atoms.specs.declared.tuples.RouterTuple.{RouterTuple}
-use Rattle.mesh_atoms.specs.declared.tuples.AddressKey.{AddressKey}
-use Rattle.mesh_atoms.specs.declared.tuples.AddressTuple.{AddressTuple}
-use Rattle.mesh_atoms.specs.declared.tuples.NetworkKey.{NetworkKey}
-use Rattle.mesh_atoms.specs.declared.tuples.NetworkTuple.{NetworkTuple}
-use Rattle.mesh_atoms.specs.declared.settings.Interface.{Interface}
-use Rattle.mesh_atoms.specs.declared.settings.RouterSettings.{RouterSettings}
-use Rattle.mesh_atoms.specs.declared.settings.Scenario.{Scenario}
-use Rattle.mesh_atoms.specs.declared.graphs.Route.{Route}
-use Rattle.mesh_atoms.specs.Base.{host}
-use Rattle.mesh_atoms.specs.State.{State, HasLink, HasTwoHop, HasSymmetric, HasAddressOn}
-use Rattle.mesh_paths.proofs.ShortLists.{only, first_of}
+use Rattle.mesh_laws.proofs.Common.{◌≡◌, ℕ, zero, suc, refl, ap, subst, arith, List, [], ◌∷◌, map, Contains, Some, None, Bool, true, false, IsTrue, Addr4, NetAddr, TcRow, LinkKey, Link, TwoHopKey, TwoHop, Neighbour, Advertiser, RouterKey, RouterTuple, AddressKey, AddressTuple, NetworkKey, NetworkTuple, Interface, RouterSettings, Scenario, Route, host, State, HasLink, HasTwoHop, HasSymmetric, HasAddressOn, only, first_of, contains_map, contains_none as none_of, contains_head as here}
 pub use Rattle.mesh_laws.proofs.TwoRoutersInRange.{addr}
 pub use Rattle.mesh_laws.proofs.PlainRouters.{one, arc}
 use Rattle.mesh_laws.proofs.PlainRouters.{face_of, settings_of, link_of, neighbour_of}
@@ -30,7 +8,6 @@ use Rattle.mesh_laws.proofs.TwoRoutersInRange.{is_end, small_seed, no_loss}
 use Rattle.mesh_laws.proofs.Members.{each, unmapped}
 use Rattle.mesh_laws.proofs.ThreeRoutersInRange.{letter, is_interface, is_router, are_routers, are_arcs}
 pub use Rattle.mesh_laws.proofs.ThreeRoutersInRange.{net, attached, given}
-use Rattle.mesh_atoms.proofs.Lists.{contains_map, contains_none as none_of, contains_head as here}
 
 -- Who knows whom
 

@@ -1,16 +1,7 @@
 -- The settings of three routers in a row are in their ranges.
-use Rattle.std.proofs.Common.{◌≡◌, ℕ, zero, suc, ◌%◌, ◌-◌, ◌^◌, ◌≤◌, refl, arith, List, [], ◌∷◌, map, length, Contains, IsTrue}
-use Rattle.std.specs.Prelude.{nat_lt, true}
-use Rattle.std.specs.List.{list_all}
-use Rattle.std.proofs.lemmas.Bool.{lt-ltb}
-use Rattle.mesh_atoms.specs.declared.addr.NetAddr.{NetAddr}
-use Rattle.mesh_atoms.specs.declared.settings.Attached4.{Attached4}
-use Rattle.mesh_atoms.specs.Settings.{IsName, is_name_octet, IsInterface, IsRouter, AreRouters, AreArcs, Ends, are_distinct, are_no_hosts}
-use Rattle.mesh_atoms.specs.Base.{net_eq}
-use Rattle.mesh_paths.proofs.ShortLists.{only}
+use Rattle.mesh_laws.proofs.Common.{◌≡◌, ℕ, zero, suc, ◌%◌, ◌-◌, ◌^◌, ◌≤◌, refl, arith, List, [], ◌∷◌, map, length, Contains, IsTrue, nat_lt, true, list_all, lt-ltb, NetAddr, Attached4, IsName, is_name_octet, IsInterface, IsRouter, AreRouters, AreArcs, Ends, are_distinct, are_no_hosts, net_eq, only, contains_none as none_of}
 use Rattle.mesh_laws.proofs.TwoRoutersInRange.{addr}
 use Rattle.mesh_laws.proofs.PlainRouters.{one}
-use Rattle.mesh_atoms.proofs.Lists.{contains_none as none_of}
 
 -- the names are a, b and c
 abbrev pub letter : ℕ → ℕ

@@ -1,16 +1,7 @@
 -- The radio graph of three routers in a row.
-use Rattle.std.proofs.Common.{◌≡◌, ℕ, zero, suc, ◌≢◌, refl, sym, ◌∙◌, ap, subst, arith, [], ◌∷◌, Contains, Some, None}
-use Rattle.mesh_atoms.specs.declared.codes.metric.Metric.{Metric}
-use Rattle.mesh_atoms.specs.declared.settings.RadioArc.{RadioArc}
-use Rattle.mesh_atoms.specs.declared.settings.RouterSettings.{RouterSettings}
-use Rattle.mesh_atoms.specs.Codes.Codes.{metric_value}
-use Rattle.mesh_atoms.specs.Radio.{Leads, IsAdmitted, Joins, Adjacent, IsMetric, Itself, By, Router}
-use Rattle.mesh_atoms.specs.Settled.{At, IsPeer, AreStates}
-use Rattle.mesh_atoms.specs.State.{State}
+use Rattle.mesh_laws.proofs.Common.{◌≡◌, ℕ, zero, suc, ◌≢◌, refl, sym, ◌∙◌, ap, subst, arith, [], ◌∷◌, Contains, Some, None, Metric, RadioArc, RouterSettings, metric_value, Leads, IsAdmitted, Joins, Adjacent, IsMetric, Itself, By, Router, At, IsPeer, AreStates, State, contains_head as here, some_equal}
 use Rattle.mesh_laws.proofs.Members.{each, Each}
 use Rattle.mesh_laws.proofs.ThreeRouters.{one, arc, peers, each_pair, peers_back, face, settings, scenario, state, states}
-use Rattle.mesh_atoms.proofs.Lists.{contains_head as here}
-use Rattle.mesh_atoms.proofs.Options.{some_equal}
 
 -- Arcs
 

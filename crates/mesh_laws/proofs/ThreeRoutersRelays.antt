@@ -1,29 +1,11 @@
 -- The relays of three routers in a row: the outer ones need the middle one, which needs none.
-use Rattle.std.proofs.Common.{◌≡◌, ℕ, zero, suc, ◌↔◌, ◌≢◌, inl, inr, refl, sym, ◌∙◌, ap, subst, arith, [], ◌∷◌, map, Contains, Option, Some}
-use Rattle.mesh_atoms.specs.declared.addr.Addr4.{Addr4}
-use Rattle.mesh_atoms.specs.declared.codes.metric.Metric.{Metric}
-use Rattle.mesh_atoms.specs.declared.tuples.LinkKey.{LinkKey}
-use Rattle.mesh_atoms.specs.declared.tuples.Link.{Link}
-use Rattle.mesh_atoms.specs.declared.tuples.TwoHopKey.{TwoHopKey}
-use Rattle.mesh_atoms.specs.declared.tuples.TwoHop.{TwoHop}
-use Rattle.mesh_atoms.specs.declared.tuples.Neighbour.{Neighbour}
-use Rattle.mesh_atoms.specs.declared.graphs.Near.{Near}
-use Rattle.mesh_atoms.specs.declared.graphs.Direct.{Direct}
+use Rattle.mesh_laws.proofs.Common.{◌≡◌, ℕ, zero, suc, ◌↔◌, ◌≢◌, inl, inr, refl, sym, ◌∙◌, ap, subst, arith, [], ◌∷◌, map, Contains, Option, Some, Addr4, Metric, LinkKey, Link, TwoHopKey, TwoHop, Neighbour, Near, Direct, NeighbourGraph, metric_value, IsRoutingGraph, IsFloodingGraph, IsMetricOver, AreRelays, AreRelaysOf, Symmetric as Is_symmetric, HasLink, HasTwoHop, HasSymmetric, HasSymmetricWith, state_of, IsAscending, only, first_of, contains_map, contains_head as here, some_equal}
 use Rattle.mesh_atoms.specs.declared.graphs.Far.{Far}
-use Rattle.mesh_atoms.specs.declared.graphs.NeighbourGraph.{NeighbourGraph}
-use Rattle.mesh_atoms.specs.Codes.Codes.{metric_value}
-use Rattle.mesh_atoms.specs.RelayGraphs.{IsRoutingGraph, IsFloodingGraph, IsMetricOver, AreRelays, AreRelaysOf}
 use Rattle.mesh_atoms.specs.Relays.{Offers, IsWilling, IsRelay, IsOtherRelay}
-use Rattle.mesh_atoms.specs.declared.tuples.LinkState.TheVariants.{Symmetric as Is_symmetric}
-use Rattle.mesh_atoms.specs.State.{HasLink, HasTwoHop, HasSymmetric, HasSymmetricWith, state_of}
-use Rattle.mesh_atoms.specs.Words.{IsAscending}
-use Rattle.mesh_paths.proofs.ShortLists.{only, first_of}
 use Rattle.mesh_laws.proofs.Members.{unmapped, both_same}
 use Rattle.mesh_laws.proofs.ThreeRouters.{one, addr, peers, beyond, relays, key, link, neighbour, two_hop_key, far, state, each_beyond, each_relay, same_number, link_is, link_has, symmetric_is, symmetric_has, two_hop_is, two_hop_has}
 use Rattle.mesh_laws.proofs.ThreeRoutersSay.{near, near_has}
 use Rattle.mesh_laws.proofs.ThreeRoutersSettled.{behind}
-use Rattle.mesh_atoms.proofs.Lists.{contains_map, contains_head as here}
-use Rattle.mesh_atoms.proofs.Options.{some_equal}
 
 -- The graph, for routing and for flooding
 

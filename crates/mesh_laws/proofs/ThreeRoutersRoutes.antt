@@ -1,38 +1,11 @@
 -- The routes of three routers in a row.
-use Rattle.std.proofs.Common.{◌≡◌, ℕ, zero, suc, ◌+◌, ◌≤◌, ◌≢◌, inl, inr, refl, sym, ◌∙◌, ap, subst, arith, List, [], ◌∷◌, Contains, Some}
-use Rattle.std.specs.Prelude.{AllPairs}
+use Rattle.mesh_laws.proofs.Common.{◌≡◌, ℕ, zero, suc, ◌+◌, ◌≤◌, ◌≢◌, inl, inr, refl, sym, ◌∙◌, ap, subst, arith, List, [], ◌∷◌, Contains, Some, AllPairs, Contains-from_lookup, Addr4, NetAddr, Attached4, Link, Neighbour, RouterKey, RouterTuple, AddressKey, AddressTuple, NetworkKey, NetworkTuple, TwoHopKey, TwoHop, Route, more_ascend, one_ascends, host, net_eq, metric_value, IsBefore, RouteArc, To_neighbour, To_two_hop, By_router, By_address, By_network, IsOutside, IsParent, IsNextHop, AreRoutes, Walk, Stay, Onward, Least, FirstNode, AtSelf, Through, same_net, only, at_most_itself, contains_map, contains_none as none_of, contains_head as here, some_equal}
 use Rattle.std.specs.Map.{lookup}
-use Rattle.std.proofs.lemmas.Map.Views.{Contains-from_lookup}
-use Rattle.mesh_atoms.specs.declared.addr.Addr4.{Addr4}
-use Rattle.mesh_atoms.specs.declared.addr.NetAddr.{NetAddr}
-use Rattle.mesh_atoms.specs.declared.settings.Attached4.{Attached4}
-use Rattle.mesh_atoms.specs.declared.tuples.Link.{Link}
-use Rattle.mesh_atoms.specs.declared.tuples.Neighbour.{Neighbour}
-use Rattle.mesh_atoms.specs.declared.tuples.RouterKey.{RouterKey}
-use Rattle.mesh_atoms.specs.declared.tuples.RouterTuple.{RouterTuple}
-use Rattle.mesh_atoms.specs.declared.tuples.AddressKey.{AddressKey}
-use Rattle.mesh_atoms.specs.declared.tuples.AddressTuple.{AddressTuple}
-use Rattle.mesh_atoms.specs.declared.tuples.NetworkKey.{NetworkKey}
-use Rattle.mesh_atoms.specs.declared.tuples.NetworkTuple.{NetworkTuple}
-use Rattle.mesh_atoms.specs.declared.tuples.TwoHopKey.{TwoHopKey}
-use Rattle.mesh_atoms.specs.declared.tuples.TwoHop.{TwoHop}
-use Rattle.mesh_atoms.specs.declared.graphs.Route.{Route}
-use Rattle.mesh_atoms.specs.Ascends.{more_ascend, one_ascends}
-use Rattle.mesh_atoms.specs.Base.{host, net_eq}
-use Rattle.mesh_atoms.specs.Codes.Codes.{metric_value}
-use Rattle.mesh_atoms.specs.Nodes.{IsBefore}
-use Rattle.mesh_atoms.specs.Routes.{RouteArc, To_neighbour, To_two_hop, By_router, By_address, By_network, IsOutside, IsParent, IsNextHop, AreRoutes}
-use Rattle.mesh_atoms.specs.Walk.{Walk, Stay, Onward, Least, FirstNode, AtSelf, Through}
-use Rattle.mesh_atoms.proofs.Lookups.{same_net}
-use Rattle.mesh_paths.proofs.ShortLists.{only}
 use Rattle.mesh_laws.proofs.Members.{Each, each, unmapped}
 use Rattle.mesh_laws.proofs.ThreeRouters.{one, addr, net, attached, face, peers, beyond, told, gateways, link, neighbour, router_tuple, router_entry, address_entry, network_entry, network_tuple, route, first_to_second, first_to_third, first_to_net, second_to_first, second_to_third, second_to_net, third_to_first, third_to_second, routes, state, each_pair, each_beyond, each_told, each_gateway, same_number, address_on, has_own, link_is, link_has, two_hop_is}
 use Rattle.mesh_laws.proofs.ThreeRoutersInRange.{attached_is}
 use Rattle.mesh_laws.proofs.ThreeRoutersSay.{near, near_has}
 use Rattle.mesh_laws.proofs.ThreeRoutersSettled.{own_originator}
-use Rattle.mesh_atoms.proofs.Values.{at_most_itself}
-use Rattle.mesh_atoms.proofs.Lists.{contains_map, contains_none as none_of, contains_head as here}
-use Rattle.mesh_atoms.proofs.Options.{some_equal}
 
 -- Arcs
 

@@ -1,20 +1,8 @@
 -- What the HELLOs and the TCs of three routers in a row say.
-use Rattle.std.proofs.Common.{◌≡◌, ℕ, inl, inr, refl, sym, ◌∙◌, ap, subst, arith, List, [], map, Contains, Some, IsTrue}
-use Rattle.mesh_atoms.specs.declared.addr.Addr4.{Addr4}
-use Rattle.mesh_atoms.specs.declared.codes.metric.Metric.{Metric}
-use Rattle.mesh_atoms.specs.declared.tuples.Link.{Link}
-use Rattle.mesh_atoms.specs.declared.tuples.Neighbour.{Neighbour}
-use Rattle.mesh_atoms.specs.Advertised.{GivesAsSelector, Advertises, AdvertisesOriginator, AdvertisesNetwork}
-use Rattle.mesh_atoms.specs.Codes.Codes.{metric_value}
-use Rattle.mesh_atoms.specs.Hello.{Says, SaysSymmetric, HasLinkTo, Link_symmetric, Flooding, Routing, Near_in, Near_out}
+use Rattle.mesh_laws.proofs.Common.{◌≡◌, ℕ, inl, inr, refl, sym, ◌∙◌, ap, subst, arith, List, [], map, Contains, Some, IsTrue, Addr4, Metric, Link, Neighbour, GivesAsSelector, Advertises, AdvertisesOriginator, AdvertisesNetwork, metric_value, Says, SaysSymmetric, HasLinkTo, Link_symmetric, Flooding, Routing, Near_in, Near_out, Symmetric as Is_symmetric, HasSymmetricWith, only, first_of, contains_map, contains_head as here, some_equal}
 use Rattle.mesh_atoms.specs.declared.tuples.LinkState.{LinkState}
-use Rattle.mesh_atoms.specs.declared.tuples.LinkState.TheVariants.{Symmetric as Is_symmetric}
-use Rattle.mesh_atoms.specs.State.{HasSymmetricWith}
-use Rattle.mesh_paths.proofs.ShortLists.{only, first_of}
 use Rattle.mesh_laws.proofs.Members.{unmapped}
 use Rattle.mesh_laws.proofs.ThreeRouters.{one, addr, net, given, key, link, neighbour, peers, relays, middle_is, state, same_number, link_is, link_has, symmetric_is, symmetric_has}
-use Rattle.mesh_atoms.proofs.Lists.{contains_map, contains_head as here}
-use Rattle.mesh_atoms.proofs.Options.{some_equal}
 
 -- HELLOs
 

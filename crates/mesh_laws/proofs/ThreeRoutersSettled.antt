@@ -1,34 +1,10 @@
 -- Three routers in a row hold exactly what the others say.
-use Rattle.std.proofs.Common.{◌≡◌, ℕ, suc, ◌⊎◌, ◌≢◌, inl, inr, refl, sym, ◌∙◌, ap, subst, arith, [], ◌∷◌, map, slice_get, Contains, Option, Some, None, true, false, IsTrue}
-use Rattle.mesh_atoms.specs.declared.addr.Addr4.{Addr4}
-use Rattle.mesh_atoms.specs.declared.addr.NetAddr.{NetAddr}
-use Rattle.mesh_atoms.specs.declared.codes.metric.Metric.{Metric}
-use Rattle.mesh_atoms.specs.declared.settings.Attached4.{Attached4}
-use Rattle.mesh_atoms.specs.declared.settings.Interface.{Interface}
-use Rattle.mesh_atoms.specs.declared.tuples.LinkKey.{LinkKey}
-use Rattle.mesh_atoms.specs.declared.tuples.Link.{Link}
-use Rattle.mesh_atoms.specs.declared.tuples.Neighbour.{Neighbour}
-use Rattle.mesh_atoms.specs.declared.tuples.TwoHopKey.{TwoHopKey}
-use Rattle.mesh_atoms.specs.declared.tuples.TwoHop.{TwoHop}
-use Rattle.mesh_atoms.specs.declared.tuples.RouterKey.{RouterKey}
-use Rattle.mesh_atoms.specs.declared.tuples.RouterTuple.{RouterTuple}
-use Rattle.mesh_atoms.specs.declared.tuples.AddressKey.{AddressKey}
-use Rattle.mesh_atoms.specs.declared.tuples.AddressTuple.{AddressTuple}
-use Rattle.mesh_atoms.specs.declared.tuples.NetworkKey.{NetworkKey}
-use Rattle.mesh_atoms.specs.declared.tuples.NetworkTuple.{NetworkTuple}
-use Rattle.mesh_atoms.specs.Base.{Has}
-use Rattle.mesh_atoms.specs.Advertised.{Advertises}
-use Rattle.mesh_atoms.specs.Hello.{Says, IsSaid, Near_in, Near_out, Link_in, Link_out}
-use Rattle.mesh_atoms.specs.Radio.{Joins, IsMetric}
-use Rattle.mesh_atoms.specs.Settled.{At, IsSettledAt, IsLeastAddress, IsLinkTo, IsNeighbourOf, IsTwoHopBy, IsStray, IsPeer, IsRouterBy, IsAddressBy, IsNetworkBy}
-use Rattle.mesh_atoms.specs.State.{State, HasAddress, IsOriginator, HasTwoHop}
-use Rattle.mesh_paths.proofs.ShortLists.{first_of}
+use Rattle.mesh_laws.proofs.Common.{◌≡◌, ℕ, suc, ◌⊎◌, ◌≢◌, inl, inr, refl, sym, ◌∙◌, ap, subst, arith, [], ◌∷◌, map, slice_get, Contains, Option, Some, None, true, false, IsTrue, Addr4, NetAddr, Metric, Attached4, Interface, LinkKey, Link, Neighbour, TwoHopKey, TwoHop, RouterKey, RouterTuple, AddressKey, AddressTuple, NetworkKey, NetworkTuple, Has, Advertises, Says, IsSaid, Near_in, Near_out, Link_in, Link_out, Joins, IsMetric, At, IsSettledAt, IsLeastAddress, IsLinkTo, IsNeighbourOf, IsTwoHopBy, IsStray, IsPeer, IsRouterBy, IsAddressBy, IsNetworkBy, State, HasAddress, IsOriginator, HasTwoHop, first_of, contains_map, contains_none as none_of, contains_head as here}
 use Rattle.mesh_laws.proofs.Members.{each, unmapped, both_same, has_same}
 use Rattle.mesh_laws.proofs.ThreeRouters.{one, addr, attached, face, settings, scenario, peers, beyond, relays, is_middle, told, gateways, key, link, neighbour, two_hop_key, far, router_key, router_tuple, router_entry, address_key, address_tuple, address_entry, network_key, network_tuple, network_entry, state, states, each_pair, each_beyond, each_told, each_gateway, each_relay, peers_back, same_number, address_on, has_own, link_is, link_has, symmetric_is, symmetric_has, two_hop_is, two_hop_has}
 use Rattle.mesh_laws.proofs.ThreeRoutersInRange.{attached_is}
 use Rattle.mesh_laws.proofs.ThreeRoutersSay.{symmetric_said, says_symmetric, flooding_said, says_flooding, routing_said, says_routing, near_in_said, near_out_said, says_near_in, says_near_out, advertises, advertises_is, advertises_originator, advertises_network}
 use Rattle.mesh_laws.proofs.ThreeRoutersRadio.{leads, joins, metric, each_state, state_is, state_at, next_to, two_away}
-use Rattle.mesh_atoms.proofs.Lists.{contains_map, contains_none as none_of, contains_head as here}
 
 -- Links and neighbours
 

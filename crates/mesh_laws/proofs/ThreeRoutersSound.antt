@@ -1,41 +1,12 @@
 -- Three routers in a row are sound.
-use Rattle.std.proofs.Common.{◌≡◌, ℕ, zero, suc, ◌<◌, ◌≤◌, ◌≢◌, ◌⊎◌, inl, inr, refl, sym, ◌∙◌, ap, subst, arith, List, [], ◌∷◌, map, length, Contains, Option, Some, None}
-use Rattle.std.specs.Prelude.{Bool, true, false}
-use Rattle.std.specs.List.{IsDistinct}
-use Rattle.std.proofs.lemmas.Bool.{eq-eqb}
-use Rattle.std.proofs.lemmas.Map.Views.{Contains-from_lookup}
-use Rattle.mesh_atoms.specs.declared.addr.Addr4.{Addr4}
-use Rattle.mesh_atoms.specs.declared.addr.NetAddr.{NetAddr}
-use Rattle.mesh_atoms.specs.declared.codes.metric.Metric.{Metric}
-use Rattle.mesh_atoms.specs.declared.settings.Attached4.{Attached4}
-use Rattle.mesh_atoms.specs.declared.tc.TcRow.{TcRow}
-use Rattle.mesh_atoms.specs.declared.tuples.LinkKey.{LinkKey}
-use Rattle.mesh_atoms.specs.declared.tuples.Link.{Link}
-use Rattle.mesh_atoms.specs.declared.tuples.TwoHopKey.{TwoHopKey}
-use Rattle.mesh_atoms.specs.declared.tuples.TwoHop.{TwoHop}
-use Rattle.mesh_atoms.specs.declared.tuples.Neighbour.{Neighbour}
-use Rattle.mesh_atoms.specs.declared.tuples.Lost.{Lost}
-use Rattle.mesh_atoms.specs.Advertised.{AreTcRows, IsTcRow, Of_address, Of_network, AdvertisesOriginator}
-use Rattle.mesh_atoms.specs.Ascends.{more_ascend, one_ascends, none_ascend}
-use Rattle.mesh_atoms.specs.Base.{find, base_of, host, IsFresh, HasDistinctKeys, addr_eq, link_eq, two_hop_eq, router_eq, address_eq, network_eq}
-use Rattle.mesh_atoms.specs.Codes.Codes.{metric_value}
-use Rattle.mesh_atoms.specs.Live.{HasSymmetricOf, IsByLinks, is_symmetric_at, is_symmetric_entry}
-use Rattle.mesh_atoms.specs.Quality.{admit_on}
-use Rattle.mesh_atoms.specs.Routes.{AreRoutes}
-use Rattle.mesh_atoms.specs.Sound.{IsWithin, IsSoundLink, IsSoundNeighbour, SoundNeighbourhood, SoundTopology, Sound}
-use Rattle.mesh_atoms.specs.State.{Neighbourhood, link_at, two_hop_at, neighbour_at}
-use Rattle.mesh_atoms.specs.TakesHello.{IsHeld}
-use Rattle.mesh_atoms.specs.Words.{AreMoreThan}
-use Rattle.mesh_atoms.proofs.Lookups.{same_addr, same_link, same_two_hop, same_router, same_address, same_network}
-use Rattle.mesh_paths.proofs.ShortLists.{only, two, empty_within, empties_within, empty_distinct}
+use Rattle.mesh_laws.proofs.Common.{◌≡◌, ℕ, zero, suc, ◌<◌, ◌≤◌, ◌≢◌, ◌⊎◌, inl, inr, refl, sym, ◌∙◌, ap, subst, arith, List, [], ◌∷◌, map, length, Contains, Option, Some, None, Bool, true, false, IsDistinct, eq-eqb, Contains-from_lookup, Addr4, NetAddr, Metric, Attached4, TcRow, LinkKey, Link, TwoHopKey, TwoHop, Neighbour, Lost, AreTcRows, IsTcRow, Of_address, Of_network, AdvertisesOriginator, more_ascend, one_ascends, none_ascend, find, base_of, host, IsFresh, HasDistinctKeys, addr_eq, link_eq, two_hop_eq, router_eq, address_eq, network_eq, metric_value, HasSymmetricOf, IsByLinks, is_symmetric_at, is_symmetric_entry, admit_on, AreRoutes, IsWithin, IsSoundLink, IsSoundNeighbour, SoundNeighbourhood, SoundTopology, Sound, Neighbourhood, link_at, two_hop_at, neighbour_at, IsHeld, AreMoreThan, same_addr, same_link, same_two_hop, same_router, same_network, only, two, empty_within, empties_within, empty_distinct, contains_none as none_of, contains_head as here, none_is_some, some_equal}
+use Rattle.mesh_atoms.proofs.Lookups.{same_address}
 use Rattle.mesh_laws.proofs.Members.{each, unmapped, both_same}
 use Rattle.mesh_laws.proofs.ThreeRouters.{one, addr, net, settings, peers, beyond, told, gateways, advertisers, key, link, link_entry, neighbour, neighbour_entry, two_hop_key, two_hop_entry, advertiser_entry, router_entry, address_entry, network_entry, host_row, net_row, rows, state, each_pair, same_number, address_on}
 use Rattle.mesh_laws.proofs.ThreeRoutersInRange.{attached_is}
 use Rattle.mesh_laws.proofs.ThreeRoutersSay.{advertises, advertises_is, advertises_originator, advertises_network}
 use Rattle.mesh_laws.proofs.ThreeRoutersSettled.{own_originator, behind}
 use Rattle.mesh_laws.proofs.ThreeRoutersRelays.{relays_are}
-use Rattle.mesh_atoms.proofs.Lists.{contains_none as none_of, contains_head as here}
-use Rattle.mesh_atoms.proofs.Options.{none_is_some, some_equal}
 
 -- Bases in which each tuple ends at 9
 

@@ -1,18 +1,11 @@
 -- Three routers in a row are a settled network, with the routes that are worked out by hand.
-use Rattle.std.proofs.Common.{◌≡◌, ℕ, refl, sym, subst, arith, []}
-use Rattle.mesh_atoms.specs.Settled.{At, IsSettledAt}
-use Rattle.mesh_atoms.specs.Sound.{Sound}
-use Rattle.mesh_atoms.specs.State.{State}
+use Rattle.mesh_laws.proofs.Common.{◌≡◌, ℕ, refl, sym, subst, arith, [], At, IsSettledAt, Sound, State, only, IsSettledNetwork, AreInARow, ThreeRoutersSettle, contains_head as here}
 use Rattle.mesh_paths.proofs.Scenarios.{sound_scenario}
-use Rattle.mesh_paths.proofs.ShortLists.{only}
-use Rattle.mesh_paths.specs.SettledRoutes.{IsSettledNetwork}
-use Rattle.mesh_laws.specs.Witnesses.{AreInARow, ThreeRoutersSettle}
 use Rattle.mesh_laws.proofs.ThreeRouters.{one, addr, net, given, settings, has_own, two_hop_key, far, two_hop_has, scenario, state, states}
 use Rattle.mesh_laws.proofs.ThreeRoutersRadio.{leads, metric, each_state, state_is, are_states}
 use Rattle.mesh_laws.proofs.ThreeRoutersRoutes.{first_routes, second_routes, third_routes}
 use Rattle.mesh_laws.proofs.ThreeRoutersSettled.{settled_at}
 use Rattle.mesh_laws.proofs.ThreeRoutersSound.{sound, first_rows, second_rows, third_rows}
-use Rattle.mesh_atoms.proofs.Lists.{contains_head as here}
 
 settled : (x : ℕ) (p : State) → At states x p → IsSettledAt scenario states 5 x p
 settled x p at = subst (λ q. IsSettledAt scenario states 5 x q) (sym (state_is x p at)) (settled_at x p at)

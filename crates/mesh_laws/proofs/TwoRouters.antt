@@ -1,23 +1,9 @@
 -- Two routers that hear each other: their settings, their scenario and their states.
-use Rattle.std.proofs.Common.{◌≡◌, ℕ, suc, ◌≢◌, refl, ap, subst, arith, List, [], ◌∷◌, Contains, None, false}
-use Rattle.mesh_atoms.specs.declared.addr.Addr4.{Addr4}
-use Rattle.mesh_atoms.specs.declared.tuples.LinkKey.{LinkKey}
-use Rattle.mesh_atoms.specs.declared.tuples.Link.{Link}
-use Rattle.mesh_atoms.specs.declared.tuples.TwoHopKey.{TwoHopKey}
-use Rattle.mesh_atoms.specs.declared.tuples.TwoHop.{TwoHop}
-use Rattle.mesh_atoms.specs.declared.tuples.Neighbour.{Neighbour}
-use Rattle.mesh_atoms.specs.declared.settings.Interface.{Interface}
-use Rattle.mesh_atoms.specs.declared.settings.RouterSettings.{RouterSettings}
-use Rattle.mesh_atoms.specs.declared.settings.Scenario.{Scenario}
-use Rattle.mesh_atoms.specs.declared.graphs.Route.{Route}
-use Rattle.mesh_atoms.specs.Base.{host}
-use Rattle.mesh_atoms.specs.State.{State, HasLink, HasTwoHop, HasSymmetric, HasAddressOn}
-use Rattle.mesh_paths.proofs.ShortLists.{only, first_of}
+use Rattle.mesh_laws.proofs.Common.{◌≡◌, ℕ, suc, ◌≢◌, refl, ap, subst, arith, List, [], ◌∷◌, Contains, None, false, Addr4, LinkKey, Link, TwoHopKey, TwoHop, Neighbour, Interface, RouterSettings, Scenario, Route, host, State, HasLink, HasTwoHop, HasSymmetric, HasAddressOn, only, first_of, contains_none as none_of, contains_head as here}
 pub use Rattle.mesh_laws.proofs.TwoRoutersInRange.{addr}
 pub use Rattle.mesh_laws.proofs.PlainRouters.{one, arc}
 use Rattle.mesh_laws.proofs.PlainRouters.{face_of, settings_of, link_of, neighbour_of}
 use Rattle.mesh_laws.proofs.TwoRoutersInRange.{letter, is_interface, is_router, is_end, small_seed, no_loss, are_routers, are_arcs}
-use Rattle.mesh_atoms.proofs.Lists.{contains_none as none_of, contains_head as here}
 
 abbrev pub face : ℕ → Interface
 face x = face_of (letter x ∷ []) (addr x) (is_interface x)

@@ -1,10 +1,5 @@
 -- The settings of two routers that hear each other are in their ranges.
-use Rattle.std.proofs.Common.{◌≡◌, ℕ, zero, suc, ◌<◌, ◌≤◌, ◌^◌, refl, arith, [], ◌∷◌, Option, Some, None, IsTrue}
-use Rattle.std.specs.Prelude.{nat_lt, true}
-use Rattle.std.specs.List.{list_all}
-use Rattle.std.proofs.lemmas.Bool.{lt-ltb}
-use Rattle.mesh_atoms.specs.declared.addr.Addr4.{Addr4}
-use Rattle.mesh_atoms.specs.Settings.{one_millisecond, one_hour, longest_delay, IsInterval, IsTimes, IsEnd, IsCount, IsName, is_name_octet, IsInterface, IsRouter, AreRouters, AreArcs}
+use Rattle.mesh_laws.proofs.Common.{◌≡◌, ℕ, zero, suc, ◌<◌, ◌≤◌, ◌^◌, refl, arith, [], ◌∷◌, Option, Some, None, IsTrue, nat_lt, true, list_all, lt-ltb, Addr4, one_millisecond, one_hour, longest_delay, IsInterval, IsTimes, IsEnd, IsCount, IsName, is_name_octet, IsInterface, IsRouter, AreRouters, AreArcs}
 
 -- router x has one address and one interface
 abbrev pub addr : ℕ → Addr4

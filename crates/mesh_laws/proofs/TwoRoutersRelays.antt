@@ -1,20 +1,6 @@
 -- The relays of two routers that hear each other: there is nothing beyond the other one, so none is needed.
-use Rattle.std.proofs.Common.{◌≡◌, ℕ, ◌↔◌, refl, sym, ◌∙◌, ap, subst, arith, [], ◌∷◌, Contains, Some}
-use Rattle.mesh_atoms.specs.declared.addr.Addr4.{Addr4}
-use Rattle.mesh_atoms.specs.declared.codes.metric.Metric.{Metric}
-use Rattle.mesh_atoms.specs.declared.tuples.LinkKey.{LinkKey}
-use Rattle.mesh_atoms.specs.declared.tuples.Link.{Link}
-use Rattle.mesh_atoms.specs.declared.tuples.Neighbour.{Neighbour}
-use Rattle.mesh_atoms.specs.declared.graphs.Near.{Near}
-use Rattle.mesh_atoms.specs.declared.graphs.Direct.{Direct}
-use Rattle.mesh_atoms.specs.declared.graphs.NeighbourGraph.{NeighbourGraph}
-use Rattle.mesh_atoms.specs.Codes.Codes.{metric_value}
-use Rattle.mesh_atoms.specs.RelayGraphs.{IsRoutingGraph, IsFloodingGraph, IsMetricOver, AreRelays, AreRelaysOf}
-use Rattle.mesh_atoms.specs.declared.tuples.LinkState.TheVariants.{Symmetric as Is_symmetric}
-use Rattle.mesh_atoms.specs.State.{HasLink, HasSymmetric, HasSymmetricWith, state_of}
+use Rattle.mesh_laws.proofs.Common.{◌≡◌, ℕ, ◌↔◌, refl, sym, ◌∙◌, ap, subst, arith, [], ◌∷◌, Contains, Some, Addr4, Metric, LinkKey, Link, Neighbour, Near, Direct, NeighbourGraph, metric_value, IsRoutingGraph, IsFloodingGraph, IsMetricOver, AreRelays, AreRelaysOf, Symmetric as Is_symmetric, HasLink, HasSymmetric, HasSymmetricWith, state_of, only, first_of, contains_none as none_of, contains_head as here}
 use Rattle.mesh_laws.proofs.TwoRouters.{one, addr, link, neighbour, state, symmetric_is, symmetric, link_is, no_two_hop}
-use Rattle.mesh_paths.proofs.ShortLists.{only, first_of}
-use Rattle.mesh_atoms.proofs.Lists.{contains_none as none_of, contains_head as here}
 
 abbrev pub graph_of : ℕ → NeighbourGraph
 graph_of y = record { near = record { id = addr y; cost = 1; will = 7 } ∷ []; direct = record { addr = addr y; cost = 1 } ∷ []; far = [] }

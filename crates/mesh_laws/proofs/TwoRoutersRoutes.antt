@@ -1,20 +1,6 @@
 -- The routes of two routers that hear each other.
-use Rattle.std.proofs.Common.{◌≡◌, ℕ, suc, ◌+◌, ◌⊎◌, ◌≢◌, inl, inr, refl, sym, ◌∙◌, ap, subst, arith, [], Contains, slice_get, Some}
-use Rattle.mesh_atoms.specs.declared.addr.NetAddr.{NetAddr}
-use Rattle.mesh_atoms.specs.declared.tuples.LinkKey.{LinkKey}
-use Rattle.mesh_atoms.specs.declared.tuples.Link.{Link}
-use Rattle.mesh_atoms.specs.declared.tuples.Neighbour.{Neighbour}
-use Rattle.mesh_atoms.specs.declared.settings.Interface.{Interface}
-use Rattle.mesh_atoms.specs.declared.graphs.Route.{Route}
-use Rattle.mesh_atoms.specs.Base.{host}
-use Rattle.mesh_atoms.specs.Codes.Codes.{metric_value}
-use Rattle.mesh_atoms.specs.Nodes.{IsAtMost}
-use Rattle.mesh_atoms.specs.Routes.{RouteArc, To_neighbour, To_two_hop, By_router, By_address, By_network, IsOutside, IsParent, IsNextHop, AreRoutes}
-use Rattle.mesh_atoms.specs.Walk.{Walk, Stay, Onward, Least, AtSelf}
+use Rattle.mesh_laws.proofs.Common.{◌≡◌, ℕ, suc, ◌+◌, ◌⊎◌, ◌≢◌, inl, inr, refl, sym, ◌∙◌, ap, subst, arith, [], Contains, slice_get, Some, NetAddr, LinkKey, Link, Neighbour, Interface, Route, host, metric_value, IsAtMost, RouteArc, To_neighbour, To_two_hop, By_router, By_address, By_network, IsOutside, IsParent, IsNextHop, AreRoutes, Walk, Stay, Onward, Least, AtSelf, only, first_of, same_host, contains_none as none_of, contains_head as here}
 use Rattle.mesh_laws.proofs.TwoRouters.{one, addr, face, arc, link, neighbour, route, state, address_on, has_own, apart, symmetric_is, symmetric, link_is, no_two_hop}
-use Rattle.mesh_paths.proofs.ShortLists.{only, first_of}
-use Rattle.mesh_atoms.proofs.Values.{same_host}
-use Rattle.mesh_atoms.proofs.Lists.{contains_none as none_of, contains_head as here}
 
 pub arc_is : (x y : ℕ) (m n : NetAddr) (c : ℕ) → RouteArc (state x y) m n c → (m ≡ host (addr x)) × (n ≡ host (addr y)) × (c ≡ 1)
 arc_is x y _ _ _ (To_neighbour {self = self} {a = a} {m = m} o n is has out) =

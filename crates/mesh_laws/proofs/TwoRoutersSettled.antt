@@ -1,20 +1,6 @@
 -- Two routers that hear each other hold exactly what the other says.
-use Rattle.std.proofs.Common.{◌≡◌, ℕ, zero, suc, ◌⊎◌, ◌≢◌, inl, inr, refl, sym, ap, subst, arith, List, [], ◌∷◌, Contains, slice_get, Some, None, true, false, IsTrue}
-use Rattle.mesh_atoms.specs.declared.addr.Addr4.{Addr4}
-use Rattle.mesh_atoms.specs.declared.codes.metric.Metric.{Metric}
-use Rattle.mesh_atoms.specs.declared.tuples.Link.{Link}
-use Rattle.mesh_atoms.specs.declared.tuples.Neighbour.{Neighbour}
-use Rattle.mesh_atoms.specs.declared.settings.RouterSettings.{RouterSettings}
-use Rattle.mesh_atoms.specs.Advertised.{GivesAsSelector, Advertises}
-use Rattle.mesh_atoms.specs.Codes.Codes.{metric_value}
-use Rattle.mesh_atoms.specs.Hello.{SaysSymmetric}
-use Rattle.mesh_atoms.specs.Radio.{Leads, IsAdmitted, Joins, IsMetric, Router}
-use Rattle.mesh_atoms.specs.Settled.{At, IsSettledAt, IsLinkTo, IsNeighbourOf, IsPeer}
-use Rattle.mesh_atoms.specs.State.{State, HasAddress}
-use Rattle.mesh_atoms.specs.declared.settings.Attached4.{Attached4}
+use Rattle.mesh_laws.proofs.Common.{◌≡◌, ℕ, zero, suc, ◌⊎◌, ◌≢◌, inl, inr, refl, sym, ap, subst, arith, List, [], ◌∷◌, Contains, slice_get, Some, None, true, false, IsTrue, Addr4, Metric, Link, Neighbour, RouterSettings, GivesAsSelector, Advertises, metric_value, SaysSymmetric, Leads, IsAdmitted, Joins, IsMetric, Router, At, IsSettledAt, IsLinkTo, IsNeighbourOf, IsPeer, State, HasAddress, Attached4, only, first_of, contains_none as none_of, contains_head as here}
 use Rattle.mesh_laws.proofs.TwoRouters.{one, addr, face, settings, scenario, link, neighbour, state, states, address_on, has_own, symmetric_is, symmetric, link_is, no_two_hop}
-use Rattle.mesh_paths.proofs.ShortLists.{only, first_of}
-use Rattle.mesh_atoms.proofs.Lists.{contains_none as none_of, contains_head as here}
 
 -- one router x of the two, and the other one y
 pub record Side (x y : ℕ) : Type 0 where

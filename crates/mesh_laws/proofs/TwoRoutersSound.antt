@@ -1,32 +1,9 @@
 -- Two routers that hear each other are sound.
-use Rattle.std.proofs.Common.{◌≡◌, ℕ, zero, suc, ◌≤◌, ◌≢◌, inl, inr, refl, sym, ◌∙◌, ap, subst, arith, [], ◌∷◌, Contains, Option, Some, None}
-use Rattle.std.specs.Prelude.{true, false, nat_eq}
-use Rattle.std.proofs.lemmas.Bool.{eqb-true}
-use Rattle.mesh_atoms.specs.declared.addr.Addr4.{Addr4}
-use Rattle.mesh_atoms.specs.declared.codes.metric.Metric.{Metric}
-use Rattle.mesh_atoms.specs.declared.tuples.LinkKey.{LinkKey}
-use Rattle.mesh_atoms.specs.declared.tuples.Link.{Link}
-use Rattle.mesh_atoms.specs.declared.tuples.TwoHopKey.{TwoHopKey}
-use Rattle.mesh_atoms.specs.declared.tuples.TwoHop.{TwoHop}
-use Rattle.mesh_atoms.specs.declared.tuples.Neighbour.{Neighbour}
-use Rattle.mesh_atoms.specs.declared.tuples.Lost.{Lost}
-use Rattle.mesh_atoms.specs.declared.tc.TcRow.{TcRow}
-use Rattle.mesh_atoms.specs.Advertised.{AreTcRows, IsTcRow, Of_address, Of_network}
-use Rattle.mesh_atoms.specs.Base.{base_of, IsFresh, HasDistinctKeys, addr_eq, link_eq}
-use Rattle.mesh_atoms.specs.Codes.Codes.{metric_value}
-use Rattle.mesh_atoms.specs.Live.{HasSymmetricOf, IsByLinks}
-use Rattle.mesh_atoms.specs.Quality.{admit_on}
-use Rattle.mesh_atoms.specs.Sound.{IsSoundLink, IsSoundNeighbour, SoundNeighbourhood, Sound}
-use Rattle.mesh_atoms.specs.State.{Neighbourhood, link_at, two_hop_at, neighbour_at}
-use Rattle.mesh_atoms.specs.TakesHello.{IsHeld}
-use Rattle.mesh_atoms.specs.Words.{AreMoreThan}
+use Rattle.mesh_laws.proofs.Common.{◌≡◌, ℕ, zero, suc, ◌≤◌, ◌≢◌, inl, inr, refl, sym, ◌∙◌, ap, subst, arith, [], ◌∷◌, Contains, Option, Some, None, true, false, nat_eq, eqb-true, Addr4, Metric, LinkKey, Link, TwoHopKey, TwoHop, Neighbour, Lost, TcRow, AreTcRows, IsTcRow, Of_address, Of_network, base_of, IsFresh, HasDistinctKeys, addr_eq, link_eq, metric_value, HasSymmetricOf, IsByLinks, admit_on, IsSoundLink, IsSoundNeighbour, SoundNeighbourhood, Sound, Neighbourhood, link_at, two_hop_at, neighbour_at, IsHeld, AreMoreThan, only, same_number, found_one, empty_within, empties_within, single_distinct, empty_distinct, few_of_one, contains_none as none_of, contains_head as here, none_is_some}
 use Rattle.mesh_laws.proofs.TwoRouters.{one, addr, settings, link, neighbour, state, address_on, apart}
-use Rattle.mesh_paths.proofs.ShortLists.{only, same_number, found_one, empty_within, empties_within, single_distinct, empty_distinct, few_of_one}
 use Rattle.mesh_laws.proofs.TwoRoutersRelays.{relays_are}
 use Rattle.mesh_laws.proofs.TwoRoutersRoutes.{routes_are}
 use Rattle.mesh_laws.proofs.TwoRoutersSettled.{no_selector}
-use Rattle.mesh_atoms.proofs.Lists.{contains_none as none_of, contains_head as here}
-use Rattle.mesh_atoms.proofs.Options.{none_is_some}
 
 -- The neighbourhood
 

@@ -1,38 +1,9 @@
 -- The definitions take the unspoiled states.
-use Rattle.std.proofs.Common.{◌≡◌, ◌≢◌, ℕ, zero, suc, ◌+◌, refl, sym, ◌∙◌, ap, subst, [], ◌∷◌, Contains, Some, None}
-use Rattle.std.specs.Prelude.{Bool, true, false, cond, ◌&&◌}
+use Rattle.mesh_laws.proofs.Common.{◌≡◌, ◌≢◌, ℕ, zero, suc, ◌+◌, refl, sym, ◌∙◌, ap, subst, [], ◌∷◌, Contains, Some, None, Bool, true, false, cond, ◌&&◌, Addr4, NetAddr, Metric, TcRow, LinkKey, TwoHopKey, RouterKey, AddressKey, NetworkKey, Link, TwoHop, Neighbour, Lost, Advertiser, RouterTuple, AddressTuple, NetworkTuple, Noted, Becomes, Given, Left, GivesRouter, GivesAddress, GivesNetwork, if_not_dropped, Base, HasDistinctKeys, SetsOnly, Same, find, if_live, base_of, host, addr_eq, link_eq, two_hop_eq, router_eq, address_eq, net_eq, network_eq, flood_eq, IsSymmetricAddress, Stays, trim, is_symmetric_at, admit_on, link_at, two_hop_at, addr_equiv, router_equiv, address_equiv, network_equiv, same_router, same_network, key_of, only, single_distinct, empty_distinct, peer, me, third, one, three, contains_head as here, none_is_some}
 use Rattle.std.specs.Cmp.{IsEquivalence}
-use Rattle.mesh_atoms.specs.declared.addr.Addr4.{Addr4}
-use Rattle.mesh_atoms.specs.declared.addr.NetAddr.{NetAddr}
-use Rattle.mesh_atoms.specs.declared.codes.metric.Metric.{Metric}
-use Rattle.mesh_atoms.specs.declared.tc.TcRow.{TcRow}
-use Rattle.mesh_atoms.specs.declared.tuples.LinkKey.{LinkKey}
-use Rattle.mesh_atoms.specs.declared.tuples.TwoHopKey.{TwoHopKey}
-use Rattle.mesh_atoms.specs.declared.tuples.RouterKey.{RouterKey}
-use Rattle.mesh_atoms.specs.declared.tuples.AddressKey.{AddressKey}
-use Rattle.mesh_atoms.specs.declared.tuples.NetworkKey.{NetworkKey}
-use Rattle.mesh_atoms.specs.declared.tuples.Link.{Link}
-use Rattle.mesh_atoms.specs.declared.tuples.TwoHop.{TwoHop}
-use Rattle.mesh_atoms.specs.declared.tuples.Neighbour.{Neighbour}
-use Rattle.mesh_atoms.specs.declared.tuples.Lost.{Lost}
-use Rattle.mesh_atoms.specs.declared.tuples.Advertiser.{Advertiser}
-use Rattle.mesh_atoms.specs.declared.tuples.RouterTuple.{RouterTuple}
-use Rattle.mesh_atoms.specs.declared.tuples.AddressTuple.{AddressTuple}
-use Rattle.mesh_atoms.specs.declared.tuples.NetworkTuple.{NetworkTuple}
-use Rattle.mesh_atoms.specs.declared.tuples.Noted.{Noted}
-use Rattle.mesh_atoms.specs.AfterTc.{Becomes, Given, Left, GivesRouter, GivesAddress, GivesNetwork, if_not_dropped}
-use Rattle.mesh_atoms.specs.Base.{Base, HasDistinctKeys, SetsOnly, Same, find, if_live, base_of, host, addr_eq, link_eq, two_hop_eq, router_eq, address_eq, net_eq, network_eq, flood_eq}
-use Rattle.mesh_atoms.specs.Live.{IsSymmetricAddress, Stays, trim, is_symmetric_at}
-use Rattle.mesh_atoms.specs.Quality.{admit_on}
-use Rattle.mesh_atoms.specs.State.{link_at, two_hop_at}
-use Rattle.mesh_atoms.proofs.Lookups.{addr_equiv, router_equiv, address_equiv, network_equiv, same_router, same_address, same_network}
-use Rattle.mesh_flood.specs.Verdict.{key_of}
+use Rattle.mesh_atoms.proofs.Lookups.{same_address}
 use Rattle.mesh_laws.proofs.Members.{both_same}
-use Rattle.mesh_paths.proofs.ShortLists.{only, single_distinct, empty_distinct}
-use Rattle.mesh_laws.specs.WorkedHello.{peer, me, third, one, three}
 use Rattle.mesh_laws.specs.Unspoiled.{silent, LostIsKept, heading, quiet, noted, MessageIsNoted, MessageIsPassedOver, row, tc, outdated, TcIsTaken}
-use Rattle.mesh_atoms.proofs.Lists.{contains_head as here}
-use Rattle.mesh_atoms.proofs.Options.{none_is_some}
 use Rattle.mesh_flood.proofs.Keys.{flood_equiv}
 
 -- in a base of one tuple for the key at most, one is put at the key

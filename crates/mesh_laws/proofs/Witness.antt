@@ -1,23 +1,9 @@
 -- Two routers that hear each other are a settled network: the premises of the law of settled routes can be met.
-use Rattle.std.proofs.Common.{◌≡◌, ℕ, zero, suc, ◌⊎◌, inl, inr, refl, sym, ◌∙◌, ap, subst, arith, [], Contains, slice_get, Some, None}
-use Rattle.mesh_atoms.specs.declared.addr.Addr4.{Addr4}
-use Rattle.mesh_atoms.specs.declared.codes.metric.Metric.{Metric}
-use Rattle.mesh_atoms.specs.declared.settings.RouterSettings.{RouterSettings}
-use Rattle.mesh_atoms.specs.declared.settings.RadioArc.{RadioArc}
-use Rattle.mesh_atoms.specs.Base.{host}
-use Rattle.mesh_atoms.specs.Radio.{Leads, IsSoundScenario}
-use Rattle.mesh_atoms.specs.Settled.{At}
-use Rattle.mesh_atoms.specs.State.{State, HasAddressOn, IsOriginator}
+use Rattle.mesh_laws.proofs.Common.{◌≡◌, ℕ, zero, suc, ◌⊎◌, inl, inr, refl, sym, ◌∙◌, ap, subst, arith, [], Contains, slice_get, Some, None, Addr4, Metric, RouterSettings, RadioArc, host, Leads, IsSoundScenario, At, State, HasAddressOn, IsOriginator, two, Sound, AddressOf, IsSettledNetwork, HasRow, TwoRoutersSettle, contains_none as none_of, contains_head as here}
 use Rattle.mesh_laws.proofs.TwoRouters.{one, addr, face, settings, arc, scenario, route, state, states, address_on}
-use Rattle.mesh_paths.proofs.ShortLists.{two}
 use Rattle.mesh_laws.proofs.TwoRoutersSettled.{Side, settled_at, turned, routers_of}
-use Rattle.mesh_atoms.specs.Sound.{Sound}
-use Rattle.mesh_atoms.specs.Radio.{AddressOf}
-use Rattle.mesh_paths.specs.SettledRoutes.{IsSettledNetwork, HasRow}
-use Rattle.mesh_laws.specs.Witnesses.{TwoRoutersSettle}
 use Rattle.mesh_laws.proofs.TwoRoutersSettled.{joins}
 use Rattle.mesh_laws.proofs.TwoRoutersSound.{sound}
-use Rattle.mesh_atoms.proofs.Lists.{contains_none as none_of, contains_head as here}
 
 zero_one : ◌≡◌ {A = ℕ} 0 1 → ⊥
 zero_one e = absurd (omega arith)

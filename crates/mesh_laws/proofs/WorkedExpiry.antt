@@ -1,26 +1,7 @@
 -- Between the worked HELLOs nothing is expired.
-use Rattle.std.proofs.Common.{◌≡◌, ℕ, zero, suc, ◌+◌, inl, inr, refl, sym, ap, subst, [], Contains, Option, Some, None}
-use Rattle.std.specs.Prelude.{Bool, true, false, cond, ◌&&◌}
-use Rattle.mesh_atoms.specs.declared.addr.Addr4.{Addr4}
-use Rattle.mesh_atoms.specs.declared.tuples.LinkKey.{LinkKey}
-use Rattle.mesh_atoms.specs.declared.tuples.TwoHopKey.{TwoHopKey}
-use Rattle.mesh_atoms.specs.declared.tuples.Link.{Link}
-use Rattle.mesh_atoms.specs.declared.tuples.TwoHop.{TwoHop}
-use Rattle.mesh_atoms.specs.declared.tuples.Neighbour.{Neighbour}
-use Rattle.mesh_atoms.specs.declared.tuples.Lost.{Lost}
-use Rattle.mesh_atoms.specs.declared.settings.RouterSettings.{RouterSettings}
-use Rattle.mesh_atoms.specs.Base.{HasDistinctKeys, base_of, addr_eq, link_eq, two_hop_eq}
-use Rattle.mesh_atoms.specs.Live.{IsSymmetricAddress, SettlesLost, Back, Stays, is_symmetric_at}
-use Rattle.mesh_atoms.specs.State.{link_at, two_hop_at, neighbour_at}
-use Rattle.mesh_laws.specs.WorkedHello.{peer, third, five, link, neighbour, after, IsReceiver}
-use Rattle.mesh_paths.proofs.ShortLists.{only, single_distinct, empty_distinct}
-use Rattle.mesh_atoms.specs.Live.{LiveNeighbourhood, Restores, trim, is_symmetric_entry}
-use Rattle.mesh_atoms.specs.Base.{if_live}
-use Rattle.mesh_atoms.specs.Quality.{admit_on}
+use Rattle.mesh_laws.proofs.Common.{◌≡◌, ℕ, zero, suc, ◌+◌, inl, inr, refl, sym, ap, subst, [], Contains, Option, Some, None, Bool, true, false, cond, ◌&&◌, Addr4, LinkKey, TwoHopKey, Link, TwoHop, Neighbour, Lost, RouterSettings, HasDistinctKeys, base_of, addr_eq, link_eq, two_hop_eq, IsSymmetricAddress, SettlesLost, Back, Stays, is_symmetric_at, link_at, two_hop_at, neighbour_at, peer, third, five, link, neighbour, after, IsReceiver, only, single_distinct, empty_distinct, LiveNeighbourhood, Restores, trim, is_symmetric_entry, if_live, admit_on, same_address, contains_head as here}
 use Rattle.mesh_laws.proofs.WorkedNeighbourhood.{neighbour_found, by_links}
 use Rattle.mesh_laws.proofs.WorkedQuality.{link_admitted}
-use Rattle.mesh_atoms.proofs.Values.{same_address}
-use Rattle.mesh_atoms.proofs.Lists.{contains_head as here}
 
 abbrev beyond : TwoHop
 beyond = record { metric_in = Some five; metric_out = None }

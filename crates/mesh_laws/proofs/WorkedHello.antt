@@ -1,26 +1,6 @@
 -- What the worked HELLO tells, and that it is not refused.
-use Rattle.std.proofs.Common.{◌≡◌, ℕ, zero, suc, ◌<◌, ◌⊎◌, inl, inr, refl, sym, ◌∙◌, ap, subst, arith, List, [], ◌∷◌, Contains, slice_get, slice_index_or, length, Some, None, IsTrue}
-use Rattle.std.specs.Prelude.{true, false}
-use Rattle.std.specs.List.{IsDistinct}
-use Rattle.mesh_atoms.specs.declared.addr.Addr4.{Addr4}
-use Rattle.mesh_atoms.specs.declared.addr.NetAddr.{NetAddr}
-use Rattle.mesh_atoms.specs.declared.codes.metric.Metric.{Metric}
-use Rattle.mesh_atoms.specs.declared.hello.LocalIf.{LocalIf}
-use Rattle.mesh_atoms.specs.declared.hello.LocalIf.TheVariants.{This}
-use Rattle.mesh_atoms.specs.declared.hello.LinkStatus.TheVariants.{Heard}
-use Rattle.mesh_atoms.specs.declared.hello.HelloRow.{HelloRow}
-use Rattle.mesh_atoms.specs.declared.settings.Interface.{Interface}
-use Rattle.mesh_atoms.specs.declared.settings.SenderMetric.{SenderMetric}
-use Rattle.mesh_atoms.specs.declared.settings.RouterSettings.{RouterSettings}
-use Rattle.mesh_atoms.specs.Codes.Codes.{metric_value}
-use Rattle.mesh_atoms.specs.HelloTold.{Told, Tells, HasRowOf, TellsLocal, IsHandedIn, LooksAt, tells_symmetric}
-use Rattle.mesh_atoms.specs.State.{HasAddress, HasAddressOn}
-use Rattle.mesh_atoms.specs.TakesHello.{IsOwn, Local, Originator, Sender, IsFault, IsHeld, IsFullOfAddresses, FitsTwoHops}
-use Rattle.mesh_laws.specs.WorkedHello.{peer, me, third, one, three, seven, own_row, my_row, third_row, hello, IsReceiver, nothing}
+use Rattle.mesh_laws.proofs.Common.{◌≡◌, ℕ, zero, suc, ◌<◌, ◌⊎◌, inl, inr, refl, sym, ◌∙◌, ap, subst, arith, List, [], ◌∷◌, Contains, slice_get, slice_index_or, length, Some, None, IsTrue, true, false, IsDistinct, Addr4, NetAddr, Metric, LocalIf, This, Heard, HelloRow, Interface, SenderMetric, RouterSettings, metric_value, Told, Tells, HasRowOf, TellsLocal, IsHandedIn, LooksAt, tells_symmetric, HasAddress, HasAddressOn, IsOwn, Local, Originator, Sender, IsFault, IsHeld, IsFullOfAddresses, FitsTwoHops, peer, me, third, one, three, seven, own_row, my_row, third_row, hello, IsReceiver, nothing, only, few_of_one, contains_none as none_of, contains_head as here, none_is_some}
 use Rattle.mesh_laws.proofs.OneAddress.{sending_one, listed_one}
-use Rattle.mesh_paths.proofs.ShortLists.{only, few_of_one}
-use Rattle.mesh_atoms.proofs.Lists.{contains_none as none_of, contains_head as here}
-use Rattle.mesh_atoms.proofs.Options.{none_is_some}
 
 abbrev pub told : Told
 told = record {

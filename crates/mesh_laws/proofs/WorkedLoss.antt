@@ -1,45 +1,10 @@
 -- The second worked HELLO is taken.
-use Rattle.std.proofs.Common.{◌≡◌, ◌≢◌, ℕ, zero, suc, ◌+◌, ◌<◌, ◌⊎◌, inl, inr, refl, sym, ◌∙◌, ap, subst, arith, List, [], ◌∷◌, Contains, slice_index_or, length, Some, None, IsTrue}
-use Rattle.std.specs.Prelude.{true, false}
-use Rattle.std.specs.List.{IsDistinct}
-use Rattle.mesh_atoms.specs.declared.addr.Addr4.{Addr4}
-use Rattle.mesh_atoms.specs.declared.addr.NetAddr.{NetAddr}
-use Rattle.mesh_atoms.specs.declared.codes.metric.Metric.{Metric}
-use Rattle.mesh_atoms.specs.declared.hello.LocalIf.{LocalIf}
-use Rattle.mesh_atoms.specs.declared.hello.LocalIf.TheVariants.{This}
-use Rattle.mesh_atoms.specs.declared.hello.LinkStatus.TheVariants.{Heard}
-use Rattle.mesh_atoms.specs.declared.hello.HelloRow.{HelloRow}
-use Rattle.mesh_atoms.specs.declared.tuples.LinkKey.{LinkKey}
-use Rattle.mesh_atoms.specs.declared.tuples.TwoHopKey.{TwoHopKey}
-use Rattle.mesh_atoms.specs.declared.tuples.Link.{Link}
-use Rattle.mesh_atoms.specs.declared.tuples.TwoHop.{TwoHop}
-use Rattle.mesh_atoms.specs.declared.tuples.Neighbour.{Neighbour}
-use Rattle.mesh_atoms.specs.declared.tuples.Lost.{Lost}
-use Rattle.mesh_atoms.specs.declared.settings.Interface.{Interface}
-use Rattle.mesh_atoms.specs.declared.settings.SenderMetric.{SenderMetric}
-use Rattle.mesh_atoms.specs.declared.settings.RouterSettings.{RouterSettings}
-use Rattle.mesh_atoms.specs.AfterHello.{AfterHello, renewed, Remains}
-use Rattle.mesh_atoms.specs.Base.{HasDistinctKeys, base_of, addr_eq, link_eq, two_hop_eq}
-use Rattle.mesh_atoms.specs.HelloTold.{Told, Tells, HasRowOf, TellsLocal, IsHandedIn, LooksAt}
-use Rattle.mesh_atoms.specs.Live.{HasSymmetricOf, IsByLinks, IsSymmetricAddress, SettlesLost, Stays}
-use Rattle.mesh_atoms.specs.State.{link_at, two_hop_at, neighbour_at, lost_at, is_symmetric, HasAddress, HasAddressOn}
-use Rattle.mesh_atoms.specs.TakesHello.{IsOwn, Local, Originator, Sender, IsFault, IsHeld, IsFullOfAddresses, FitsTwoHops, Takes}
-use Rattle.mesh_atoms.proofs.Lookups.{same_addr}
-use Rattle.mesh_laws.specs.WorkedHello.{peer, me, one, own_row, IsReceiver, link, neighbour, after}
+use Rattle.mesh_laws.proofs.Common.{◌≡◌, ◌≢◌, ℕ, zero, suc, ◌+◌, ◌<◌, ◌⊎◌, inl, inr, refl, sym, ◌∙◌, ap, subst, arith, List, [], ◌∷◌, Contains, slice_index_or, length, Some, None, IsTrue, true, false, IsDistinct, Addr4, NetAddr, Metric, LocalIf, This, Heard, HelloRow, LinkKey, TwoHopKey, Link, TwoHop, Neighbour, Lost, Interface, SenderMetric, RouterSettings, AfterHello, renewed, Remains, HasDistinctKeys, base_of, addr_eq, link_eq, two_hop_eq, Told, Tells, HasRowOf, TellsLocal, IsHandedIn, LooksAt, HasSymmetricOf, IsByLinks, IsSymmetricAddress, SettlesLost, Stays, link_at, two_hop_at, neighbour_at, lost_at, is_symmetric, HasAddress, HasAddressOn, IsOwn, Local, Originator, Sender, IsFault, IsHeld, IsFullOfAddresses, FitsTwoHops, Takes, same_addr, peer, me, one, own_row, IsReceiver, link, neighbour, after, only, found_one, single_distinct, empty_distinct, few_of_one, Gone, Restores, Stood, LinkStatus, TellsMe, lost_row, later_hello, heard_link, heard_neighbour, later, SecondHelloIsTaken, same_address, contains_none as none_of, contains_head as here, none_is_some}
 use Rattle.mesh_laws.proofs.OneAddress.{sending_one, listed_one}
-use Rattle.mesh_paths.proofs.ShortLists.{only, found_one, single_distinct, empty_distinct, few_of_one}
-use Rattle.mesh_atoms.specs.Live.{Gone, Restores}
-use Rattle.mesh_atoms.specs.AfterHello.{Stood}
-use Rattle.mesh_atoms.specs.declared.hello.LinkStatus.{LinkStatus}
 use Rattle.mesh_atoms.specs.declared.hello.LinkStatus.TheVariants.{Lost as Down, Symmetric}
-use Rattle.mesh_atoms.specs.HelloTold.{TellsMe}
-use Rattle.mesh_laws.specs.WorkedHello.{lost_row, later_hello, heard_link, heard_neighbour, later, SecondHelloIsTaken}
 use Rattle.mesh_laws.proofs.WorkedHello.{told, peer_not_me, face_is, mine_is, mine}
 use Rattle.mesh_laws.proofs.WorkedNeighbourhood.{same_peer, no_link, no_neighbour, no_two_hop, kept_none, either_none, neighbour_found}
 use Rattle.mesh_laws.proofs.WorkedExpiry.{was_symmetric_address, peer_symmetric, live}
-use Rattle.mesh_atoms.proofs.Values.{same_address}
-use Rattle.mesh_atoms.proofs.Lists.{contains_none as none_of, contains_head as here}
-use Rattle.mesh_atoms.proofs.Options.{none_is_some}
 
 abbrev told_loss : Told
 told_loss = record told { shown = record told.shown { status = Some Down; link_out = None } }

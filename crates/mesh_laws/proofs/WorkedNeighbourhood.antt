@@ -1,31 +1,7 @@
 -- The neighbourhood after the worked HELLO.
-use Rattle.std.proofs.Common.{◌≡◌, ◌≢◌, ℕ, zero, suc, ◌+◌, ◌≤◌, ◌⊎◌, inl, inr, refl, sym, ◌∙◌, ap, subst, arith, [], ◌∷◌, Contains, Option, Some, None}
-use Rattle.std.specs.Prelude.{Bool, true, false, cond}
-use Rattle.mesh_atoms.specs.declared.addr.Addr4.{Addr4}
-use Rattle.mesh_atoms.specs.declared.codes.metric.Metric.{Metric}
-use Rattle.mesh_atoms.specs.declared.tuples.LinkKey.{LinkKey}
-use Rattle.mesh_atoms.specs.declared.tuples.TwoHopKey.{TwoHopKey}
-use Rattle.mesh_atoms.specs.declared.tuples.Link.{Link}
-use Rattle.mesh_atoms.specs.declared.tuples.TwoHop.{TwoHop}
-use Rattle.mesh_atoms.specs.declared.tuples.Neighbour.{Neighbour}
-use Rattle.mesh_atoms.specs.declared.tuples.Lost.{Lost}
-use Rattle.mesh_atoms.specs.declared.settings.RouterSettings.{RouterSettings}
-use Rattle.mesh_atoms.specs.AfterHello.{AfterHello, Made, made, renewed, Remains, New_link, TellsTwoHop, By_row, By_none}
-use Rattle.mesh_atoms.specs.Words.{IsKept}
-use Rattle.mesh_atoms.specs.Base.{HasDistinctKeys, base_of, addr_eq, link_eq, two_hop_eq}
-use Rattle.mesh_atoms.specs.Codes.Codes.{metric_value}
-use Rattle.mesh_atoms.specs.Live.{HasSymmetricOf, IsByLinks, IsSymmetricAddress, SettlesLost, Back, Stays}
-use Rattle.mesh_atoms.specs.State.{link_at, two_hop_at, neighbour_at, is_symmetric}
-use Rattle.mesh_atoms.specs.Quality.{rule_of}
-use Rattle.mesh_atoms.specs.TakesHello.{Takes}
-use Rattle.mesh_atoms.proofs.Lookups.{same_addr}
-use Rattle.mesh_laws.specs.WorkedHello.{peer, third, one, three, five, third_row, hello, IsReceiver, nothing, link, neighbour, after, FirstHelloIsTaken}
-use Rattle.mesh_paths.proofs.ShortLists.{only, found_one, single_distinct, empty_distinct}
+use Rattle.mesh_laws.proofs.Common.{◌≡◌, ◌≢◌, ℕ, zero, suc, ◌+◌, ◌≤◌, ◌⊎◌, inl, inr, refl, sym, ◌∙◌, ap, subst, arith, [], ◌∷◌, Contains, Option, Some, None, Bool, true, false, cond, Addr4, Metric, LinkKey, TwoHopKey, Link, TwoHop, Neighbour, Lost, RouterSettings, AfterHello, Made, made, renewed, Remains, New_link, TellsTwoHop, By_row, By_none, IsKept, HasDistinctKeys, base_of, addr_eq, link_eq, two_hop_eq, metric_value, HasSymmetricOf, IsByLinks, IsSymmetricAddress, SettlesLost, Back, Stays, link_at, two_hop_at, neighbour_at, is_symmetric, rule_of, Takes, same_addr, peer, third, one, three, five, third_row, hello, IsReceiver, nothing, link, neighbour, after, FirstHelloIsTaken, only, found_one, single_distinct, empty_distinct, same_address, contains_head as here, none_is_some}
 use Rattle.mesh_laws.proofs.WorkedQuality.{begun, made_is}
 use Rattle.mesh_laws.proofs.WorkedHello.{told, looks_at, looked_at, tells, no_fault, not_full, fits}
-use Rattle.mesh_atoms.proofs.Values.{same_address}
-use Rattle.mesh_atoms.proofs.Lists.{contains_head as here}
-use Rattle.mesh_atoms.proofs.Options.{none_is_some}
 
 pub same_peer : (a : Addr4) → (a ≡ peer → ⊥) → addr_eq a peer ≡ false
 same_peer a other = by_case (addr_eq a peer) refl

@@ -1,18 +1,6 @@
 -- The receiver of the worked HELLOs is told no quality of its senders, so that it admits whatever it hears.
-use Rattle.std.proofs.Common.{◌≡◌, ℕ, refl, ◌∙◌, ap, min, List, [], ◌∷◌, map, filter, Option, Some, None, Bool, true, false}
-use Rattle.std.specs.Prelude.{nat_le, nat_lt}
-use Rattle.std.specs.List.{fold, list_any}
-use Rattle.std.proofs.lemmas.Bool.{le-leb, le-ltb}
-use Rattle.mesh_atoms.specs.declared.addr.Addr4.{Addr4}
-use Rattle.mesh_atoms.specs.declared.admit.Admit.{Admit}
+use Rattle.mesh_laws.proofs.Common.{◌≡◌, ℕ, refl, ◌∙◌, ap, min, List, [], ◌∷◌, map, filter, Option, Some, None, Bool, true, false, nat_le, nat_lt, fold, list_any, le-leb, le-ltb, Addr4, Admit, SenderMetric, RouterSettings, Link, made, addr_eq, quality_of, quality_at, rule_in, rule_of, by_quality, admit_on, peer, one, link, IsReceiver}
 use Rattle.mesh_atoms.specs.declared.admit.SenderQuality.{SenderQuality}
-use Rattle.mesh_atoms.specs.declared.settings.SenderMetric.{SenderMetric}
-use Rattle.mesh_atoms.specs.declared.settings.RouterSettings.{RouterSettings}
-use Rattle.mesh_atoms.specs.declared.tuples.Link.{Link}
-use Rattle.mesh_atoms.specs.AfterHello.{made}
-use Rattle.mesh_atoms.specs.Base.{addr_eq}
-use Rattle.mesh_atoms.specs.Quality.{quality_of, quality_at, rule_in, rule_of, by_quality, admit_on}
-use Rattle.mesh_laws.specs.WorkedHello.{peer, one, link, IsReceiver}
 use Rattle.mesh_laws.proofs.Qualities.{below_all}
 use Rattle.mesh_laws.proofs.WorkedHello.{told, face_at}
 

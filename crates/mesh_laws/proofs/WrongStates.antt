@@ -1,31 +1,8 @@
 -- The definitions of a router refuse wrong states.
-use Rattle.std.proofs.Common.{◌≡◌, ℕ, ◌+◌, ◌<◌, ◌≤◌, inl, inr, refl, sym, ◌∙◌, ap, subst, arith, slice_index_or, length, Option, Some, None, IsTrue}
-use Rattle.std.specs.Prelude.{Bool, false, cond, nat_lt, Contains}
-use Rattle.std.proofs.lemmas.Bool.{cases_Bool, le-ltb}
+use Rattle.mesh_laws.proofs.Common.{◌≡◌, ℕ, ◌+◌, ◌<◌, ◌≤◌, inl, inr, refl, sym, ◌∙◌, ap, subst, arith, slice_index_or, length, Option, Some, None, IsTrue, Bool, false, cond, nat_lt, Contains, cases_Bool, le-ltb, Addr4, NetAddr, Hello, LinkStatus, Heard, TcRow, LinkKey, Pending as Is_pending, Symmetric as Is_symmetric, Link, TwoHop, Route, RouterSettings, GivesAsSelector, IsTcRow, Of_address, Of_network, AfterHello, StoodOn, Same_link, New_link, TellsTwoHop, By_row, By_none, host, if_live, Says, Link_symmetric, Other_symmetric, link_part, Told, trim, is_symmetric_at, IsBefore, IsAtMost, quality_at, rule_of, admitted, admit_on, State, Neighbourhood, link_at, two_hop_at, state_of, HasLink, IsValue, true_false, none_not}
 use Rattle.std.proofs.lemmas.Option.{slice_get_within, get_or_from_slice_get}
-use Rattle.mesh_atoms.specs.declared.addr.Addr4.{Addr4}
-use Rattle.mesh_atoms.specs.declared.addr.NetAddr.{NetAddr}
-use Rattle.mesh_atoms.specs.declared.hello.Hello.{Hello}
-use Rattle.mesh_atoms.specs.declared.hello.LinkStatus.{LinkStatus}
-use Rattle.mesh_atoms.specs.declared.hello.LinkStatus.TheVariants.{Lost as Down, Symmetric, Heard}
-use Rattle.mesh_atoms.specs.declared.tc.TcRow.{TcRow}
-use Rattle.mesh_atoms.specs.declared.tuples.LinkKey.{LinkKey}
-use Rattle.mesh_atoms.specs.declared.tuples.LinkState.TheVariants.{Pending as Is_pending, Lost as Is_lost, Symmetric as Is_symmetric, Heard as Is_heard}
-use Rattle.mesh_atoms.specs.declared.tuples.Link.{Link}
-use Rattle.mesh_atoms.specs.declared.tuples.TwoHop.{TwoHop}
-use Rattle.mesh_atoms.specs.declared.graphs.Route.{Route}
-use Rattle.mesh_atoms.specs.declared.settings.RouterSettings.{RouterSettings}
-use Rattle.mesh_atoms.specs.Advertised.{GivesAsSelector, IsTcRow, Of_address, Of_network}
-use Rattle.mesh_atoms.specs.AfterHello.{AfterHello, StoodOn, Same_link, New_link, TellsTwoHop, By_row, By_none}
-use Rattle.mesh_atoms.specs.Base.{host, if_live}
-use Rattle.mesh_atoms.specs.Hello.{Says, Link_symmetric, Other_symmetric, link_part}
-use Rattle.mesh_atoms.specs.HelloTold.{Told}
-use Rattle.mesh_atoms.specs.Live.{trim, is_symmetric_at}
-use Rattle.mesh_atoms.specs.Nodes.{IsBefore, IsAtMost}
-use Rattle.mesh_atoms.specs.Quality.{quality_at, rule_of, admitted, admit_on}
-use Rattle.mesh_atoms.specs.State.{State, Neighbourhood, link_at, two_hop_at, state_of, HasLink}
-use Rattle.mesh_atoms.specs.Words.{IsValue}
-use Rattle.mesh_atoms.proofs.Options.{true_false, none_not}
+use Rattle.mesh_atoms.specs.declared.hello.LinkStatus.TheVariants.{Lost as Down, Symmetric}
+use Rattle.mesh_atoms.specs.declared.tuples.LinkState.TheVariants.{Lost as Is_lost, Heard as Is_heard}
 use Rattle.mesh_laws.proofs.Qualities.{no_later}
 use Rattle.mesh_laws.proofs.TcSets.{numbered_so}
 use Rattle.mesh_laws.specs.WrongStates.{RefusesExpiredLink, RefusesOwnTwoHop, RefusesTwoHopOfEndedLink, RefusesTupleOfOldNumber, RefusesHiddenNeighbour, RefusesPendingTold, RefusesRowOfNoSelector, RefusesTwoHopOnHeardLink, RefusesNeighbourWithoutLink, RefusesDearerRelays, RefusesGreaterParent, RefusesRouteTwice, RefusesTupleTooMany, RefusesStaleTuple}

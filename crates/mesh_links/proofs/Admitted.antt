@@ -1,26 +1,7 @@
 -- What quality makes of links, one after the other.
-use Rattle.std.proofs.Common.{◌≡◌, ℕ, ◌<◌, ◌≤◌, ◌++◌, ◌+◌, take, drop, map, min, arith, inl, inr, refl, sym, ap, subst, ◌∙◌, Bool, true, false, cond, List, [], ◌∷◌, length, Some}
-use Rattle.std.specs.Prelude.{slice_get, nat_eq, nat_le, nat_lt, not, ◌&&◌, ◌||◌}
-use Rattle.std.specs.List.{fold, filter, list_all, list_any}
-use Rattle.std.proofs.lemmas.Bool.{eqb-true, and_parts}
-use Rattle.std.proofs.lemmas.Map.Entries.{lookup_from_place}
-use Rattle.std.proofs.lemmas.Map.Made.{lookup-map_values}
-use Rattle.std.proofs.lemmas.Option.{slice_get_cases}
-use Rattle.std.proofs.lemmas.List.{append-nil, length-drop, nil_from_length, take_all}
-use Rattle.mesh_atoms.specs.declared.addr.Addr4.{Addr4}
-use Rattle.mesh_atoms.specs.declared.admit.Admit.{Admit}
+use Rattle.mesh_links.proofs.Common.{◌≡◌, ℕ, ◌<◌, ◌≤◌, ◌++◌, ◌+◌, take, drop, map, min, arith, inl, inr, refl, sym, ap, subst, ◌∙◌, Bool, true, false, cond, List, [], ◌∷◌, length, Some, slice_get, nat_eq, nat_le, nat_lt, not, ◌&&◌, ◌||◌, fold, filter, list_all, list_any, eqb-true, and_parts, lookup_from_place, lookup-map_values, slice_get_cases, append-nil, length-drop, nil_from_length, take_all, Addr4, Admit, LinkKey, Link, Base, HasDistinctKeys, find, link_eq, addr_eq, quality_of, quality_at, by_quality, admitted, link_equiv, changed_at, changed_at-agrees, distinct-changed_at, walk_at, walk_changed, AdmitsLinks, HasRoom, IsFewer, is_steady, ruled}
 use Rattle.mesh_atoms.specs.declared.admit.QualityStep.{QualityStep}
 use Rattle.mesh_atoms.specs.declared.admit.SenderQuality.{SenderQuality}
-use Rattle.mesh_atoms.specs.declared.tuples.LinkKey.{LinkKey}
-use Rattle.mesh_atoms.specs.declared.tuples.Link.{Link}
-use Rattle.mesh_atoms.specs.Base.{Base, HasDistinctKeys, find, link_eq, addr_eq}
-use Rattle.mesh_atoms.specs.Quality.{quality_of, quality_at, by_quality, admitted}
-use Rattle.mesh_atoms.proofs.Lookups.{link_equiv}
-use Rattle.mesh_expire.specs.Table.{changed_at}
-use Rattle.mesh_expire.proofs.Laws.{changed_at-agrees, distinct-changed_at, walk_at, walk_changed}
-use Rattle.mesh_links.specs.Links.{AdmitsLinks, HasRoom}
-use Rattle.mesh_links.specs.Owners.{IsFewer}
-use Rattle.mesh_links.specs.Rulings.{is_steady, ruled}
 use Rattle.mesh_links.specs.declared.admittance.Ruling.{Ruling}
 use Rattle.mesh_links.proofs.Room.{room_changed}
 use Rattle.mesh_links.proofs.Tied.{fewer_changed, fewer_twice}

@@ -1,12 +1,5 @@
 -- What is left where some links are taken out.
-use Rattle.std.proofs.Common.{◌≡◌, ℕ, inl, inr, refl, sym, subst, ◌∙◌, Bool, true, false, Option, Some, None}
-use Rattle.mesh_atoms.specs.declared.tuples.Link.{Link}
-use Rattle.mesh_atoms.specs.declared.tuples.LinkKey.{LinkKey}
-use Rattle.mesh_atoms.specs.Base.{Base, find, link_eq, SetsOnly}
-use Rattle.mesh_atoms.specs.Words.{IsKept}
-use Rattle.mesh_atoms.proofs.Lookups.{link_equiv}
-use Rattle.mesh_expire.proofs.Laws.{find_same}
-use Rattle.mesh_links.specs.Owners.{IsKeptOrGone}
+use Rattle.mesh_links.proofs.Common.{◌≡◌, ℕ, inl, inr, refl, sym, subst, ◌∙◌, Bool, true, false, Option, Some, None, Link, LinkKey, Base, find, link_eq, SetsOnly, IsKept, link_equiv, find_same, IsKeptOrGone}
 
 -- one more is taken out
 pub left_without : (Goes : Link × ℕ → Type 0) (first before after : Base LinkKey Link) (gone : LinkKey) (e : Link × ℕ)

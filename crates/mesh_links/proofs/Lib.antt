@@ -4,3 +4,4 @@ pub mod Renewed
 mod Room
 mod Tables
 pub mod Tied
+mod Common

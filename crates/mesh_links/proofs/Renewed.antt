@@ -1,12 +1,7 @@
 -- What the steps of a HELLO leave of a link.
-use Rattle.std.proofs.Common.{◌≡◌, ℕ, refl, ◌∙◌, Bool, true, false, cond, Option, Some, None}
+use Rattle.mesh_links.proofs.Common.{◌≡◌, ℕ, refl, ◌∙◌, Bool, true, false, cond, Option, Some, None, Shown, Link, is_symmetric, trimmed, by_status, renewed}
 use Rattle.mesh_atoms.specs.declared.hello.LinkStatus.{LinkStatus}
 use Rattle.mesh_atoms.specs.declared.hello.LinkStatus.TheVariants.{Lost, Heard, Symmetric}
-use Rattle.mesh_atoms.specs.declared.hello.Shown.{Shown}
-use Rattle.mesh_atoms.specs.declared.tuples.Link.{Link}
-use Rattle.mesh_atoms.specs.State.{is_symmetric}
-use Rattle.mesh_atoms.specs.Live.{trimmed}
-use Rattle.mesh_atoms.specs.AfterHello.{by_status, renewed}
 
 -- A link that is renewed keeps its addresses
 

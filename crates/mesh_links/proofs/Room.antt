@@ -1,15 +1,5 @@
 -- Links that leave room for a hold time still do after each change.
-use Rattle.std.proofs.Common.{◌≡◌, ℕ, ◌<◌, ◌^◌, refl, sym, subst, ◌∙◌, Bool, true, false, cond, Option, Some, None}
-use Rattle.std.specs.Prelude.{nat_lt, option_map}
-use Rattle.mesh_atoms.specs.declared.tuples.Link.{Link}
-use Rattle.mesh_atoms.specs.declared.tuples.LinkKey.{LinkKey}
-use Rattle.mesh_atoms.specs.Base.{Base, find, if_live, link_eq, SetsOnly}
-use Rattle.mesh_atoms.specs.State.{is_symmetric}
-use Rattle.mesh_atoms.specs.Live.{trim, trimmed}
-use Rattle.mesh_atoms.proofs.Lookups.{link_equiv}
-use Rattle.mesh_expire.specs.Table.{changed_at}
-use Rattle.mesh_expire.proofs.Laws.{find-changed_at}
-use Rattle.mesh_links.specs.Links.{HasRoom, ExpiresLinks}
+use Rattle.mesh_links.proofs.Common.{◌≡◌, ℕ, ◌<◌, ◌^◌, refl, sym, subst, ◌∙◌, Bool, true, false, cond, Option, Some, None, nat_lt, option_map, Link, LinkKey, Base, find, if_live, link_eq, SetsOnly, is_symmetric, trim, trimmed, link_equiv, changed_at, find-changed_at, HasRoom, ExpiresLinks}
 
 -- a link with its moment
 abbrev pub IsLow : Link × ℕ → Type 0

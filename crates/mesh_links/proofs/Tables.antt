@@ -1,7 +1,5 @@
 -- What a table has after two changes, and what stood where something of it was lent.
-use Rattle.std.proofs.Common.{◌≡◌, ℕ, refl, ◌∙◌, Bool, true, false, cond, Option, Some, None}
-use Rattle.std.specs.Prelude.{option_map}
-use Rattle.mesh_atoms.specs.Base.{Base, find, SetsOnly}
+use Rattle.mesh_links.proofs.Common.{◌≡◌, ℕ, refl, ◌∙◌, Bool, true, false, cond, Option, Some, None, option_map, Base, find, SetsOnly}
 
 -- what stood there
 pub stood : {A B : Type 0} (f : A → B) (o : Option A) (y : B) → Some y ≡ option_map f o → (x : A) × (o ≡ Some x) × (y ≡ f x)

@@ -1,28 +1,7 @@
 -- The map from addresses to links after each change.
-use Rattle.std.proofs.Common.{◌≡◌, ◌≢◌, ◌⊎◌, ℕ, inl, inr, refl, sym, ap, subst, ◌∙◌, Bool, true, false, cond, List, Option, Some, None}
-use Rattle.std.specs.Prelude.{Contains, slice_get, nat_lt, option_map, IsSome}
-use Rattle.std.proofs.lemmas.List.Elements.{All-contains}
-use Rattle.mesh_atoms.specs.declared.addr.Addr4.{Addr4}
-use Rattle.mesh_atoms.specs.declared.admit.Admit.{Admit}
-use Rattle.mesh_atoms.specs.declared.tuples.Link.{Link}
-use Rattle.mesh_atoms.specs.declared.tuples.LinkKey.{LinkKey}
-use Rattle.mesh_atoms.specs.Base.{Base, find, if_live, link_eq, addr_eq, SetsOnly}
-use Rattle.mesh_atoms.specs.Live.{trim, trimmed}
-use Rattle.mesh_atoms.specs.AfterHello.{IsApart, LinkKeptOrMade, Stood, Made, renewed}
-use Rattle.mesh_atoms.specs.Words.{IsKept, Meets}
-use Rattle.mesh_atoms.specs.declared.hello.Shown.{Shown}
-use Rattle.mesh_links.specs.Links.{ExpiresLinks, HearsOn}
-use Rattle.mesh_links.specs.Owners.{owner_of, HasLinkOwners, OwnsAll, OwnsMore, IsFewer, IsKeptOrGone}
-use Rattle.mesh_expire.specs.Table.{changed_at}
-use Rattle.mesh_expire.proofs.Laws.{find_same, find-changed_at}
+use Rattle.mesh_links.proofs.Common.{◌≡◌, ◌≢◌, ◌⊎◌, ℕ, inl, inr, refl, sym, ap, subst, ◌∙◌, Bool, true, false, cond, List, Option, Some, None, Contains, slice_get, nat_lt, option_map, IsSome, All-contains, Addr4, Admit, Link, LinkKey, Base, find, if_live, link_eq, addr_eq, SetsOnly, trim, trimmed, IsApart, LinkKeptOrMade, Stood, Made, renewed, IsKept, Meets, Shown, ExpiresLinks, HearsOn, owner_of, HasLinkOwners, OwnsAll, OwnsMore, IsFewer, IsKeptOrGone, changed_at, find_same, find-changed_at, list_any, AllWithin, HoldsAt, Decides, ◌+◌, ◌<◌, length, get_or, get_or_default, AllWithin-more, Contains-get_or, link_equiv, same_link, same_addr, addr_equiv, same_some, none_not}
 use Rattle.mesh_atoms.proofs.Deciding.{Decides-some, Decides-addr}
-use Rattle.std.specs.List.{list_any, AllWithin, HoldsAt}
-use Rattle.std.proofs.Common.{Decides, ◌+◌, ◌<◌, length, get_or}
-use Rattle.std.proofs.lemmas.List.{get_or_default}
-use Rattle.std.proofs.lemmas.List.Elements.{AllWithin-more, Contains-get_or}
-use Rattle.mesh_atoms.proofs.Lookups.{link_equiv, same_link, same_addr, addr_equiv}
 use Rattle.mesh_links.proofs.Renewed.{addrs-trimmed}
-use Rattle.mesh_atoms.proofs.Options.{same_some, none_not}
 
 -- fewer links
 pub owned_fewer : (owners : List (Addr4 × LinkKey)) (old new : Base LinkKey Link) → HasLinkOwners owners old → IsFewer old new → HasLinkOwners owners new

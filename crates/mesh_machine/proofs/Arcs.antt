@@ -1,14 +1,7 @@
 -- The ends of a scenario's arcs.
-use Rattle.std.proofs.Common.{◌≡◌, ℕ, List, length, Some, map}
-use Rattle.std.specs.Prelude.{slice_get}
-use Rattle.std.proofs.lemmas.Bool.{ltb-true, and_parts}
-use Rattle.mesh_atoms.specs.declared.settings.RadioArc.{RadioArc}
-use Rattle.mesh_atoms.specs.declared.settings.RouterSettings.{RouterSettings}
-use Rattle.mesh_atoms.specs.declared.settings.Scenario.{Scenario}
+use Rattle.mesh_machine.proofs.Common.{◌≡◌, ℕ, List, length, Some, map, slice_get, ltb-true, and_parts, RadioArc, RouterSettings, Scenario, LeavesInterface, EntersInterface, all_at, item_counted as counted}
 use Rattle.mesh_atoms.specs.Settings.{Ends, is_interface, joins_routers}
-use Rattle.mesh_machine.specs.Ways.{LeavesInterface, EntersInterface}
 use Rattle.mesh_machine.proofs.Places.{mapped_at}
-use Rattle.mesh_atoms.proofs.Lists.{all_at, item_counted as counted}
 
 ends_of : RadioArc → Ends
 ends_of a = record { from = a.from; from_iface = a.from_iface; to = a.to; to_iface = a.to_iface }

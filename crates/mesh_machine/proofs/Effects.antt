@@ -1,17 +1,6 @@
 -- What follows of a step for its callers.
-use Rattle.std.proofs.Common.{◌≡◌, ℕ, ◌≤◌, ◌<◌, sym, ap, ◌∙◌, arith, List, [], ◌++◌, length, drop}
-use Rattle.std.proofs.lemmas.Grind.{common_steps}
-use Rattle.std.specs.Prelude.{min}
-use Rattle.std.proofs.lemmas.List.{append-nil}
-use Rattle.std.proofs.Math.Seq.{drop-append_seam}
-use Rattle.mesh_atoms.specs.State.{State}
-use Rattle.mesh_machine.specs.declared.arrival.Arrival.{Arrival}
-use Rattle.mesh_machine.specs.declared.fate.Heard.{Heard}
+use Rattle.mesh_machine.proofs.Common.{◌≡◌, ℕ, ◌≤◌, ◌<◌, sym, ap, ◌∙◌, arith, List, [], ◌++◌, length, drop, common_steps, min, append-nil, drop-append_seam, State, Arrival, Heard, Frame, SendsHellos, Hellos_early, Hellos_due, SendsTcs, Tcs_early, Tcs_silent, Tcs_due, Hears, TicksAt, due, sent_since}
 use Rattle.mesh_machine.specs.declared.fate.Heard.TheVariants as heard
-use Rattle.mesh_machine.specs.declared.frame.Frame.{Frame}
-use Rattle.mesh_machine.specs.Sending.{SendsHellos, Hellos_early, Hellos_due, SendsTcs, Tcs_early, Tcs_silent, Tcs_due}
-use Rattle.mesh_machine.specs.Machine.{Hears, TicksAt, due}
-use Rattle.mesh_machine.specs.Frames.{sent_since}
 
 -- what an outbox has got
 pub since_is : (old new sent : List Frame) → new ≡ old ++ sent → sent_since old new ≡ sent

@@ -1,10 +1,5 @@
 -- The router that is due first.
-use Rattle.std.proofs.Common.{◌≡◌, ℕ, ◌+◌, ◌<◌, ◌≤◌, ◌⊎◌, inl, inr, List, refl, length, arith, Some, below_more}
-use Rattle.std.specs.Prelude.{slice_get}
-use Rattle.std.proofs.lemmas.Option.{slice_get_within}
-use Rattle.mesh_atoms.specs.State.{State}
-use Rattle.mesh_machine.specs.Machine.{due}
-use Rattle.mesh_machine.specs.Net.{IsFirstDue}
+use Rattle.mesh_machine.proofs.Common.{◌≡◌, ℕ, ◌+◌, ◌<◌, ◌≤◌, ◌⊎◌, inl, inr, List, refl, length, arith, Some, below_more, slice_get, slice_get_within, State, due, IsFirstDue}
 use Rattle.mesh_machine.proofs.Places.{same_at}
 
 -- the first of the first routers, so many, or of the very first

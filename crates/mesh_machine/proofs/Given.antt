@@ -1,31 +1,11 @@
 -- How many tuples a TC's rows give at most.
-use Rattle.std.proofs.Common.{◌≡◌, ℕ, ◌+◌, ◌≤◌, arith, Bool, true, false, cond, List, [], ◌∷◌, ◌++◌, length, Option, Some, None, refl, sym, ap, ◌&&◌, ◌⊎◌, inl, inr, slice_get, zero, suc}
-use Rattle.std.proofs.lemmas.Grind.{common_steps}
-use Rattle.std.specs.Prelude.{is_some, count_by}
-use Rattle.std.specs.Cmp.{IsEquivalence}
-use Rattle.std.proofs.lemmas.Bool.{ltb-false, and_from as both}
-use Rattle.std.proofs.lemmas.Option.{none-some}
+use Rattle.mesh_machine.proofs.Common.{◌≡◌, ℕ, ◌+◌, ◌≤◌, arith, Bool, true, false, cond, List, [], ◌∷◌, ◌++◌, length, Option, Some, None, refl, sym, ap, ◌&&◌, ◌⊎◌, inl, inr, slice_get, zero, suc, common_steps, is_some, count_by, IsEquivalence, ltb-false, and_from as both, none-some, length-append, Addr4, Tc, TcRow, Metric, Advertisers, Routers, Addresses, Networks, Becomes, Given, Left, BecomesSet, AfterTc, is_overfull, first_overfull, GivesRouter, GivesAddress, GivesNetwork, Base, find, addr_eq, router_eq, address_eq, network_eq, TopologyBase, addr_equiv, net_equiv, router_equiv, address_equiv, network_equiv, AreFew, no_more, found_left, found_right, net_eq, NetAddr, place_of}
 use Rattle.std.proofs.lemmas.List.Sums.{sum_by-cons}
-use Rattle.std.proofs.lemmas.List.{length-append}
-use Rattle.mesh_atoms.specs.declared.addr.Addr4.{Addr4}
-use Rattle.mesh_atoms.specs.declared.tc.Tc.{Tc}
-use Rattle.mesh_atoms.specs.declared.tc.TcRow.{TcRow}
-use Rattle.mesh_atoms.specs.declared.codes.metric.Metric.{Metric}
-use Rattle.mesh_atoms.specs.declared.tuples.Base.TheVariants.{Advertisers, Routers, Addresses, Networks}
-use Rattle.mesh_atoms.specs.AfterTc.{Becomes, Given, Left, BecomesSet, AfterTc, is_overfull, first_overfull, GivesRouter, GivesAddress, GivesNetwork}
-use Rattle.mesh_atoms.specs.Base.{Base, find, addr_eq, router_eq, address_eq, network_eq}
-use Rattle.mesh_atoms.specs.State.{TopologyBase}
-use Rattle.mesh_atoms.proofs.Lookups.{addr_equiv, net_equiv, router_equiv, address_equiv, network_equiv}
-use Rattle.mesh_topo.specs.Sets.{AreFew}
-use Rattle.mesh_nhdp.proofs.Limits.{no_more, found_left, found_right}
 use Rattle.mesh_machine.proofs.Tables.{one_more}
-use Rattle.mesh_atoms.specs.Base.{net_eq}
-use Rattle.mesh_atoms.specs.declared.addr.NetAddr.{NetAddr}
 use Rattle.mesh_atoms.specs.declared.tuples.RouterKey.{RouterKey}
 use Rattle.mesh_atoms.specs.declared.tuples.AddressKey.{AddressKey}
 use Rattle.mesh_atoms.specs.declared.tuples.NetworkKey.{NetworkKey}
 use Rattle.mesh_topo.proofs.Full.{none_of_four}
-use Rattle.mesh_atoms.proofs.Lists.{place_of}
 
 -- the entries of the rows that pass a test, each with the key and a value of its row
 entries : {K V : Type 0} → (TcRow → Bool) → (TcRow → K) → V → List TcRow → Base K V

@@ -1,22 +1,7 @@
 -- A message that is forwarded has a hop left.
-use Rattle.std.proofs.Common.{◌≡◌, ◌≢◌, ◌<◌, ℕ, List, [], ◌∷◌, ◌++◌, length, Option, Some, None, Bool, true, false, cond, not, refl, subst, sym, ap, ◌∙◌, arith, append_assoc}
-use Rattle.std.specs.Prelude.{slice_index}
-use Rattle.std.proofs.lemmas.Bool.{leb-false, eqb-false, or_parts as neither}
-use Rattle.std.proofs.Math.Seq.{get_or-append_seam}
-use Rattle.mesh_atoms.specs.declared.addr.Addr4.{Addr4}
-use Rattle.mesh_atoms.specs.declared.tuples.FloodKey.{FloodKey}
-use Rattle.mesh_atoms.specs.declared.tuples.Noted.{Noted}
-use Rattle.mesh_atoms.specs.declared.tuples.Base.TheVariants.{Received, Forwarded}
-use Rattle.mesh_atoms.specs.Base.{Base, addr_eq, find, flood_eq}
+use Rattle.mesh_machine.proofs.Common.{◌≡◌, ◌≢◌, ◌<◌, ℕ, List, [], ◌∷◌, ◌++◌, length, Option, Some, None, Bool, true, false, cond, not, refl, subst, sym, ap, ◌∙◌, arith, append_assoc, slice_index, leb-false, eqb-false, or_parts as neither, get_or-append_seam, Addr4, FloodKey, Noted, Received, Forwarded, Base, addr_eq, find, flood_eq, MessageFields, SpellsMessage, SpellsOctet, HasHop, Heading, Forward, key_of, if_noted, if_linked, is_full, is_last, is_far, has_no_hops, forward_by, IsHeading}
 use Rattle.mesh_atoms.specs.Reading.{has}
-use Rattle.mesh_wire.specs.packet.Fields.{MessageFields}
-use Rattle.mesh_wire.specs.packet.Grammar.{SpellsMessage, SpellsOctet}
-use Rattle.mesh_wire.specs.Rehop.{HasHop}
-use Rattle.mesh_flood.specs.declared.verdict.Heading.{Heading}
-use Rattle.mesh_flood.specs.declared.verdict.Forward.{Forward}
 use Rattle.mesh_flood.specs.declared.verdict.Forward.TheVariants as forward
-use Rattle.mesh_flood.specs.Verdict.{key_of, if_noted, if_linked, is_full, is_last, is_far, has_no_hops, forward_by}
-use Rattle.mesh_machine.specs.Messages.{IsHeading}
 
 abbrev forward_when : Bool → Option Bool → Bool → Option (Noted × ℕ) → Bool → Option (Noted × ℕ) → Bool → Forward
 forward_when own link far seen full_received stands full_forwarded =

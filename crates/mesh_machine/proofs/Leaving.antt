@@ -1,8 +1,5 @@
 -- Arcs by the interfaces that they leave.
-use Rattle.std.proofs.Common.{ℕ, List, drop}
-use Rattle.std.specs.List.{filter, enumerate_from}
-use Rattle.mesh_atoms.specs.declared.settings.RadioArc.{RadioArc}
-use Rattle.mesh_machine.specs.Traffic.{leaves}
+use Rattle.mesh_machine.proofs.Common.{ℕ, List, drop, filter, enumerate_from, RadioArc, leaves}
 
 -- the arcs from number k on that leave an interface
 abbrev pub leaving_from : List RadioArc → ℕ → ℕ → ℕ → List (ℕ × RadioArc)

@@ -1,12 +1,6 @@
 -- Arcs by the interfaces that they leave.
-use Rattle.std.proofs.Common.{◌≡◌, ℕ, ◌+◌, ◌<◌, List, [], ◌∷◌, ◌++◌, ◌∙◌, subst, length, get_or, Some}
-use Rattle.std.specs.Prelude.{slice_get}
-use Rattle.mesh_atoms.specs.declared.settings.RadioArc.{RadioArc}
-use Rattle.std.proofs.lemmas.Option.{get_or_from_slice_get}
-use Rattle.mesh_atoms.specs.declared.settings.RouterSettings.{RouterSettings}
-use Rattle.mesh_machine.specs.Ways.{AreArcsOut, AreWaysOf}
+use Rattle.mesh_machine.proofs.Common.{◌≡◌, ℕ, ◌+◌, ◌<◌, List, [], ◌∷◌, ◌++◌, ◌∙◌, subst, length, get_or, Some, slice_get, RadioArc, get_or_from_slice_get, RouterSettings, AreArcsOut, AreWaysOf, length_pushed as longer}
 use Rattle.mesh_machine.proofs.Places.{each_more}
-use Rattle.mesh_atoms.proofs.Lists.{length_pushed as longer}
 
 pub all_more : (arcs : List RadioArc) (routers : List RouterSettings) (x : ℕ) (router : RouterSettings) (old new : List (List (List (ℕ × RadioArc)))) (list : List (List (ℕ × RadioArc))) →
     x < length routers → router ≡ get_or routers x router → new ≡ old ++ list ∷ [] → AreWaysOf arcs x (length router.interfaces) list → AreArcsOut arcs routers x old → AreArcsOut arcs routers (x + 1) new

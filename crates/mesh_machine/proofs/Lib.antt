@@ -25,3 +25,4 @@ pub mod Through  -- emulate, texts
 mod Given
 mod LeavingArcs
 mod Saying
+mod Common

@@ -1,27 +1,13 @@
 -- The opening state of a router is sound.
-use Rattle.std.proofs.Common.{◌≡◌, ℕ, zero, suc, refl, sym, ◌∙◌, ap, subst, arith, List, [], ◌∷◌, length, replicate, Contains, Some, Bool}
-use Rattle.std.proofs.lemmas.Grind.{common_steps}
-use Rattle.std.specs.Prelude.{slice_get}
+use Rattle.mesh_machine.proofs.Common.{◌≡◌, ℕ, zero, suc, refl, sym, ◌∙◌, ap, subst, arith, List, [], ◌∷◌, length, replicate, Contains, Some, Bool, common_steps, slice_get, length-replicate, none-some, Addr4, NetAddr, RouterSettings, Neighbour, Base, Has, base_of, host, Sound, SoundNeighbourhood, SoundTopology, SoundNoted, IsWithin, State, Bases, Frame, no_bases, no_relays, IsOpening, Event, Steps, No_events, First_event, Run, contains_at}
 use Rattle.std.specs.List.{IsDistinct}
-use Rattle.std.proofs.lemmas.List.{length-replicate}
-use Rattle.std.proofs.lemmas.Option.{none-some}
-use Rattle.mesh_atoms.specs.declared.addr.Addr4.{Addr4}
-use Rattle.mesh_atoms.specs.declared.addr.NetAddr.{NetAddr}
-use Rattle.mesh_atoms.specs.declared.settings.RouterSettings.{RouterSettings}
-use Rattle.mesh_atoms.specs.declared.tuples.Neighbour.{Neighbour}
-use Rattle.mesh_atoms.specs.Base.{Base, Has, base_of, host}
 use Rattle.mesh_atoms.specs.RelayGraphs.{AreRelays, AreRelaysOf, IsFloodingGraph, IsRoutingGraph}
 use Rattle.mesh_atoms.specs.Routes.{AreRoutes, RouteArc, To_neighbour, To_two_hop, By_router, By_address, By_network}
-use Rattle.mesh_atoms.specs.Sound.{Sound, SoundNeighbourhood, SoundTopology, SoundNoted, IsWithin}
-use Rattle.mesh_atoms.specs.State.{State, Bases}
 use Rattle.mesh_atoms.specs.Walk.{Walk, Stay, Onward}
 use Rattle.mesh_nhdp.specs.NhdpState.{empty_near}
 use Rattle.mesh_nhdp.proofs.Empty.{empty_parts, empty_base}
-use Rattle.mesh_machine.specs.declared.frame.Frame.{Frame}
-use Rattle.mesh_machine.specs.Machine.{no_bases, no_relays, IsOpening, Event, Steps, No_events, First_event, Run}
 use Rattle.mesh_machine.proofs.Originators.{some_originator}
 use Rattle.mesh_machine.proofs.Soundness.{step_sound}
-use Rattle.mesh_atoms.proofs.Lists.{contains_at}
 
 none_among : {X B : Type 0} (xs : List X) (x : X) → xs ≡ [] → Contains xs x → B
 none_among xs x empty has = let l = has.1 in let e = ap length empty in absurd (omega (arith, l, e))

@@ -1,10 +1,5 @@
 -- Places of a list that grows at its end, of which one item is replaced, or whose items are turned.
-use Rattle.std.proofs.Common.{◌≡◌, ℕ, ◌≤◌, ◌⊎◌, inl, inr, List, [], ◌∷◌, ◌++◌, refl, ap, zero, suc, length, arith, Some, None, All, map}
-use Rattle.std.proofs.lemmas.Grind.{common_steps}
-use Rattle.std.specs.Prelude.{slice_get, slice_set, ◌≢◌}
-use Rattle.std.proofs.lemmas.List.Elements.{All-nil, All-cons, All-head, All-tail}
-use Rattle.std.proofs.lemmas.Option.{slice_get_cases}
-use Rattle.mesh_atoms.proofs.Lists.{get_pushed as push_at}
+use Rattle.mesh_machine.proofs.Common.{◌≡◌, ℕ, ◌≤◌, ◌⊎◌, inl, inr, List, [], ◌∷◌, ◌++◌, refl, ap, zero, suc, length, arith, Some, None, All, map, common_steps, slice_get, slice_set, ◌≢◌, All-nil, All-cons, All-head, All-tail, slice_get_cases, get_pushed as push_at}
 pub use Rattle.mesh_atoms.proofs.Lists.{set_here}
 pub use Rattle.mesh_wire.proofs.Standing.{same_at}
 

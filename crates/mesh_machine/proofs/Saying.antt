@@ -1,27 +1,12 @@
 -- What the HELLO of an interface says of an address follows from the link and the neighbour that have it.
-use Rattle.std.proofs.Common.{◌≡◌, ℕ, ◌⊎◌, inl, inr, refl, sym, ◌∙◌, ap, subst, Bool, true, false, cond, ◌||◌, ◌&&◌, arith}
-use Rattle.std.proofs.lemmas.Grind.{common_steps}
-use Rattle.std.specs.Prelude.{◌↔◌, Contains, List, Option, Some, None, IsTrue, is_some, not, nat_lt}
-use Rattle.std.proofs.lemmas.Option.{none-some}
-use Rattle.mesh_atoms.specs.declared.addr.Addr4.{Addr4}
-use Rattle.mesh_atoms.specs.declared.codes.metric.Metric.{Metric}
-use Rattle.mesh_atoms.specs.declared.settings.RouterSettings.{RouterSettings}
+use Rattle.mesh_machine.proofs.Common.{◌≡◌, ℕ, ◌⊎◌, inl, inr, refl, sym, ◌∙◌, ap, subst, Bool, true, false, cond, ◌||◌, ◌&&◌, arith, common_steps, ◌↔◌, Contains, List, Option, Some, None, IsTrue, is_some, not, nat_lt, none-some, Addr4, Metric, RouterSettings, Neighbour, base_of, SoundNeighbourhood, State, state_of, is_symmetric, is_heard, HasSymmetricWith, link_at, neighbour_at, has_found, link_equiv, same_link, looks_up_links, looks_up_neighbours, IsSaidOf, IsFloodingRelay, is_link_symmetric, link_metric_in, link_metric_out, near_metric_in, near_metric_out, or_else, IsRelayOf, IsNeighbourWith, IsLinkWith}
 use Rattle.mesh_atoms.specs.declared.tuples.Link.{Link}
 use Rattle.mesh_atoms.specs.declared.tuples.LinkKey.{LinkKey}
-use Rattle.mesh_atoms.specs.declared.tuples.Neighbour.{Neighbour}
-use Rattle.mesh_atoms.specs.Base.{base_of}
 use Rattle.mesh_atoms.specs.Hello.{Says, SaysLink, HasLinkTo, IsSaid, Near_in, Near_out, Link_in, Link_out, Flooding, Routing}
-use Rattle.mesh_atoms.specs.Sound.{SoundNeighbourhood}
 use Rattle.mesh_atoms.specs.declared.tuples.LinkState.{LinkState}
 use Rattle.mesh_atoms.specs.declared.tuples.LinkState.TheVariants.{Pending as Is_pending, Lost as Is_lost, Symmetric as Is_symmetric, Heard as Is_heard}
-use Rattle.mesh_atoms.specs.State.{State, state_of, is_symmetric, is_heard, HasSymmetricWith, link_at, neighbour_at}
 use Rattle.mesh_atoms.specs.Words.{IsValue}
-use Rattle.mesh_atoms.proofs.Lookups.{has_found, link_equiv, same_link, looks_up_links, looks_up_neighbours}
 use Rattle.mesh_machine.specs.declared.said.Said.{Said}
-use Rattle.mesh_machine.specs.Said.{IsSaidOf, IsFloodingRelay, is_link_symmetric, link_metric_in, link_metric_out, near_metric_in, near_metric_out, or_else}
-use Rattle.mesh_hello.specs.Saying.Said.{IsRelayOf}
-use Rattle.mesh_hello.specs.Saying.Said.{IsNeighbourWith}
-use Rattle.mesh_hello.specs.Saying.Said.{IsLinkWith}
 use Rattle.mesh_atoms.proofs.Options.{same_some}
 
 -- The status of a link, as a choice

@@ -1,33 +1,8 @@
 -- What a step of a router sends can be sent.
-use Rattle.std.proofs.Common.{◌≡◌, ℕ, zero, suc, ◌+◌, ◌%◌, ◌≤◌, ◌<◌, refl, sym, subst, ◌∙◌, arith, List, [], ◌∷◌, length, take, drop, None, Bool, get_or}
-use Rattle.std.specs.Prelude.{All}
-use Rattle.std.proofs.lemmas.List.{append-nil}
-use Rattle.std.proofs.lemmas.List.Elements.{All-nil, All-push, All-append, All-from_get_or}
-use Rattle.std.proofs.lemmas.Option.{slice_get-get_or}
-use Rattle.mesh_atoms.specs.declared.addr.Addr4.{Addr4}
-use Rattle.mesh_atoms.specs.declared.settings.RouterSettings.{RouterSettings}
-use Rattle.mesh_atoms.specs.declared.tc.Tc.{Tc}
-use Rattle.mesh_atoms.specs.declared.tc.TcRow.{TcRow}
-use Rattle.mesh_atoms.specs.Base.{base_of}
-use Rattle.mesh_atoms.specs.State.{Bases, NotedMessages, State}
-use Rattle.mesh_wire.specs.packet.declared.packet.Span.{Span}
-use Rattle.mesh_wire.specs.packet.Fields.{MessageFields, PacketFields}
-use Rattle.mesh_wire.specs.packet.Grammar.{SpellsMessage}
-use Rattle.mesh_wire.specs.Rehop.{HasHop, one_hop_on, hopped}
+use Rattle.mesh_machine.proofs.Common.{◌≡◌, ℕ, zero, suc, ◌+◌, ◌%◌, ◌≤◌, ◌<◌, refl, sym, subst, ◌∙◌, arith, List, [], ◌∷◌, length, take, drop, None, Bool, get_or, All, append-nil, All-nil, All-push, All-append, All-from_get_or, slice_get-get_or, Addr4, RouterSettings, Tc, TcRow, base_of, Bases, NotedMessages, State, Span, MessageFields, PacketFields, SpellsMessage, HasHop, one_hop_on, hopped, Heading, Forward, Arrival, Fate, Heard, Frame, SendsHellos, Hellos_early, Hellos_due, SendsParts, No_part, First_part, SendsTcs, Tcs_early, Tcs_silent, Tcs_due, octets_at, on_each, Event, Hears, TicksAt, Step, Heard_frame, Ticked, IsHeading, ConsidersForwarding, ProcessesTc, Tc_taken, Tc_passed, TakesMessage, Hello_read, Hello_broken, Tc_read, Tc_broken, Other_passed, Other_left, TakesMessages, No_messages, First_message, AreSpelled, forwarding, is_processed, IsOfOctets}
 use Rattle.mesh_wire.proofs.Hops.{can_hop, hop_spells}
-use Rattle.mesh_flood.specs.declared.verdict.Heading.{Heading}
-use Rattle.mesh_flood.specs.declared.verdict.Forward.{Forward}
 use Rattle.mesh_flood.specs.declared.verdict.Forward.TheVariants as forward
-use Rattle.mesh_machine.specs.declared.arrival.Arrival.{Arrival}
-use Rattle.mesh_machine.specs.declared.fate.Fate.{Fate}
-use Rattle.mesh_machine.specs.declared.fate.Heard.{Heard}
 use Rattle.mesh_machine.specs.declared.fate.Heard.TheVariants as heard
-use Rattle.mesh_machine.specs.declared.frame.Frame.{Frame}
-use Rattle.mesh_machine.specs.Sending.{SendsHellos, Hellos_early, Hellos_due, SendsParts, No_part, First_part, SendsTcs, Tcs_early, Tcs_silent, Tcs_due}
-use Rattle.mesh_machine.specs.Frames.{octets_at, on_each}
-use Rattle.mesh_machine.specs.Machine.{Event, Hears, TicksAt, Step, Heard_frame, Ticked}
-use Rattle.mesh_machine.specs.Messages.{IsHeading, ConsidersForwarding, ProcessesTc, Tc_taken, Tc_passed, TakesMessage, Hello_read, Hello_broken, Tc_read, Tc_broken, Other_passed, Other_left, TakesMessages, No_messages, First_message, AreSpelled, forwarding, is_processed}
-use Rattle.mesh_machine.specs.Laws.{IsOfOctets}
 use Rattle.mesh_machine.specs.Sendable.{AreOctets, IsPacket, IsSendable}
 use Rattle.mesh_machine.proofs.Hops.{forwarded_hop}
 use Rattle.mesh_machine.proofs.Takes.{packet_spelled}

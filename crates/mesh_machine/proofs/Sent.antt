@@ -1,12 +1,6 @@
 -- What holds of the frames in the air of an emulated network, when one is heard and when some are sent.
-use Rattle.std.proofs.Common.{ℕ, ◌+◌, ◌<◌, ◌≤◌, List, [], ◌∷◌, ◌++◌, sym, subst, length, arith, All}
-use Rattle.std.proofs.lemmas.Grind.{common_steps}
-use Rattle.std.specs.List.{enumerate_from}
-use Rattle.std.proofs.lemmas.List.Elements.{All-nil, All-cons, All-head, All-tail, All-weaker, All-append, All-push, All-filter}
-use Rattle.mesh_atoms.specs.declared.settings.RadioArc.{RadioArc}
-use Rattle.mesh_atoms.specs.declared.settings.Scenario.{Scenario}
+use Rattle.mesh_machine.proofs.Common.{ℕ, ◌+◌, ◌<◌, ◌≤◌, List, [], ◌∷◌, ◌++◌, sym, subst, length, arith, All, common_steps, enumerate_from, All-nil, All-cons, All-head, All-tail, All-weaker, All-append, All-push, All-filter, RadioArc, Scenario, Traffic, Delivery, IsHeardFirst, Spreads, No_arcs, Loses, Carries, SendsAll, leaves, leaving, with_delivery, with_loss, with_sent}
 use Rattle.mesh_atoms.specs.declared.network.Emission.{Emission}
-use Rattle.mesh_machine.specs.Traffic.{Traffic, Delivery, IsHeardFirst, Spreads, No_arcs, Loses, Carries, SendsAll, leaves, leaving, with_delivery, with_loss, with_sent}
 
 -- Lists
 

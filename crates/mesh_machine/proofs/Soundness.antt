@@ -1,45 +1,20 @@
 -- What a step of a router keeps: expiry and each message leave sound bases sound.
-use Rattle.std.proofs.Common.{◌≡◌, ℕ, ◌≤◌, ◌<◌, arith, Bool, true, false, List, length, Option, Some, None, refl, sym, ap, subst, ◌∙◌}
-use Rattle.std.proofs.lemmas.Grind.{common_steps}
-use Rattle.std.specs.Prelude.{nat_eq, Ok}
-use Rattle.std.proofs.lemmas.Bool.{eqb-true, eqb-false}
-use Rattle.mesh_atoms.specs.declared.addr.Addr4.{Addr4}
+use Rattle.mesh_machine.proofs.Common.{◌≡◌, ℕ, ◌≤◌, ◌<◌, arith, Bool, true, false, List, length, Option, Some, None, refl, sym, ap, subst, ◌∙◌, common_steps, nat_eq, Ok, eqb-true, eqb-false, Addr4, Tc, RouterSettings, TcAnswer, TakesTc, Is_old, Overfull as Overfull_tc, Takes as Takes_tc, base_of, addr_eq, router_eq, address_eq, network_eq, flood_eq, Sound, SoundNeighbourhood, SoundTopology, SoundNoted, Neighbourhood, TopologyBase, NotedMessages, Bases, State, IsOriginator, addr_equiv, router_equiv, address_equiv, network_equiv, AreFew, Heading, Forward, AfterNote, AreWithin, key_of, process_of, is_received, is_forwarded, is_full, Span, MessageFields, Arrival, Fate, Frame, octets_at, Event, HearsPacket, Step, Heard_frame, Ticked, ConsidersForwarding, ProcessesTc, Tc_taken, Tc_passed, TakesMessage, Hello_read, Hello_broken, Tc_read, Tc_broken, Other_passed, Other_left, TakesMessages, No_messages, First_message, is_processed, SoundBases}
 use Rattle.mesh_atoms.specs.declared.hello.Hello.{Hello}
-use Rattle.mesh_atoms.specs.declared.tc.Tc.{Tc}
-use Rattle.mesh_atoms.specs.declared.settings.RouterSettings.{RouterSettings}
-use Rattle.mesh_atoms.specs.AfterTc.{TcAnswer, TakesTc, Is_old, Overfull as Overfull_tc, Takes as Takes_tc}
-use Rattle.mesh_atoms.specs.Base.{base_of, addr_eq, router_eq, address_eq, network_eq, flood_eq}
 use Rattle.mesh_atoms.specs.Live.{Live, LiveTopology, LiveNoted}
-use Rattle.mesh_atoms.specs.Sound.{Sound, SoundNeighbourhood, SoundTopology, SoundNoted}
-use Rattle.mesh_atoms.specs.State.{Neighbourhood, TopologyBase, NotedMessages, Bases, State, IsOriginator}
 use Rattle.mesh_atoms.specs.TakesHello.{HelloAnswer, TakesHello, Breaks, Overfull, Overfull_two_hops, Takes}
-use Rattle.mesh_atoms.proofs.Lookups.{addr_equiv, router_equiv, address_equiv, network_equiv}
 use Rattle.mesh_topo.specs.declared.topology.TcTaken.TheVariants as taken
-use Rattle.mesh_topo.specs.Sets.{AreFew}
 use Rattle.mesh_topo.proofs.Soundness as topology
 use Rattle.mesh_nhdp.proofs.LiveSound.{live_sound}
 use Rattle.mesh_nhdp.proofs.HelloSound.{hello_sound}
-use Rattle.mesh_flood.specs.declared.verdict.Heading.{Heading}
-use Rattle.mesh_flood.specs.declared.verdict.Forward.{Forward}
-use Rattle.mesh_flood.specs.Noting.{AfterNote, AreWithin}
-use Rattle.mesh_flood.specs.Verdict.{key_of, process_of, is_received, is_forwarded, is_full}
 use Rattle.mesh_flood.proofs.Soundness.{sound_after_note, sound_after_expiry}
 use Rattle.mesh_wire.specs.addr.declared.records.RawAddr.{RawAddr}
-use Rattle.mesh_wire.specs.packet.declared.packet.Span.{Span}
-use Rattle.mesh_wire.specs.packet.Fields.{MessageFields}
 use Rattle.mesh_wire.specs.Hello.{OriginatorIs}
 use Rattle.mesh_flood.specs.declared.verdict.Process.TheVariants as process
 use Rattle.mesh_flood.proofs.Room.{has_room_processed, has_room_received, has_room_forwarded}
-use Rattle.mesh_machine.specs.declared.arrival.Arrival.{Arrival}
-use Rattle.mesh_machine.specs.declared.fate.Fate.{Fate}
 use Rattle.mesh_machine.specs.declared.fate.Heard.TheVariants as heard
-use Rattle.mesh_machine.specs.declared.frame.Frame.{Frame}
 use Rattle.mesh_machine.specs.Renewal.{Renews}
-use Rattle.mesh_machine.specs.Frames.{octets_at}
-use Rattle.mesh_machine.specs.Machine.{Event, HearsPacket, Step, Heard_frame, Ticked}
-use Rattle.mesh_machine.specs.Messages.{ConsidersForwarding, ProcessesTc, Tc_taken, Tc_passed, TakesMessage, Hello_read, Hello_broken, Tc_read, Tc_broken, Other_passed, Other_left, TakesMessages, No_messages, First_message, is_processed}
 use Rattle.mesh_machine.proofs.Given.{tc_few}
-use Rattle.mesh_machine.specs.Laws.{SoundBases}
 use Rattle.mesh_machine.proofs.Tables.{fewer, note_fits}
 use Rattle.mesh_atoms.proofs.Values.{one_originator}
 use Rattle.mesh_flood.proofs.Keys.{flood_equiv}

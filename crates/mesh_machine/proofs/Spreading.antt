@@ -1,8 +1,5 @@
 -- A frame goes out on arcs, one after the other.
-use Rattle.std.proofs.Common.{◌≡◌, ℕ, ◌+◌, ◌<◌, List, [], ◌∷◌, ◌++◌, sym, ◌∙◌, ap, subst, length, get_or, drop, append_assoc, append-nil, add-one, suc, drop-cons}
-use Rattle.mesh_atoms.specs.declared.settings.RadioArc.{RadioArc}
-use Rattle.mesh_atoms.specs.declared.settings.Scenario.{Scenario}
-use Rattle.mesh_machine.specs.Traffic.{Traffic, IsLost, Spreads, No_arcs, Loses, Carries, with_loss, with_delivery}
+use Rattle.mesh_machine.proofs.Common.{◌≡◌, ℕ, ◌+◌, ◌<◌, List, [], ◌∷◌, ◌++◌, sym, ◌∙◌, ap, subst, length, get_or, drop, append_assoc, append-nil, add-one, suc, drop-cons, RadioArc, Scenario, Traffic, IsLost, Spreads, No_arcs, Loses, Carries, with_loss, with_delivery}
 
 -- whatever comes of the arcs from a place on, the whole comes of all arcs
 abbrev pub GoesOn : Scenario → ℕ → List ℕ → List (ℕ × RadioArc) → ℕ → List ℕ → Traffic → Traffic → Type 0

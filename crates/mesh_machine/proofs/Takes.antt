@@ -1,27 +1,7 @@
 -- Messages one after the other, and where they stand.
-use Rattle.std.proofs.Common.{◌≡◌, ℕ, ◌+◌, ◌≤◌, ◌<◌, zero, suc, arith, List, [], ◌∷◌, ◌++◌, length, take, Option, Some, refl, sym, ap, subst, ◌∙◌}
-use Rattle.std.specs.Prelude.{slice_get, slice_range}
-use Rattle.std.proofs.lemmas.Option.{none-some}
-use Rattle.std.proofs.Common.{map, get_or}
-use Rattle.std.specs.Prelude.{option_map}
-use Rattle.std.proofs.lemmas.Option.{slice_get-map, slice_get-get_or, slice_get_within}
-use Rattle.std.proofs.lemmas.List.{length-map}
+use Rattle.mesh_machine.proofs.Common.{◌≡◌, ℕ, ◌+◌, ◌≤◌, ◌<◌, zero, suc, arith, List, [], ◌∷◌, ◌++◌, length, take, Option, Some, refl, sym, ap, subst, ◌∙◌, slice_get, slice_range, none-some, map, get_or, option_map, slice_get-map, slice_get-get_or, slice_get_within, length-map, fields_of_message, Addr4, RouterSettings, Bases, Span, MessageFields, PacketFields, Spells, SpellsMessage, SpellsMessages, Arrival, Fate, Frame, octets_at, TakesMessage, TakesMessages, No_messages, First_message, AreSpelled, append_assoc, append-nil, length-append, middle_range}
 use Rattle.mesh_wire.specs.packet.declared.packet.Message.{Message}
 use Rattle.mesh_hello.proofs.Collect.{taken_more}
-use Rattle.mesh_wire.specs.packet.Fields.{fields_of_message}
-use Rattle.mesh_atoms.specs.declared.addr.Addr4.{Addr4}
-use Rattle.mesh_atoms.specs.declared.settings.RouterSettings.{RouterSettings}
-use Rattle.mesh_atoms.specs.State.{Bases}
-use Rattle.mesh_wire.specs.packet.declared.packet.Span.{Span}
-use Rattle.mesh_wire.specs.packet.Fields.{MessageFields, PacketFields}
-use Rattle.mesh_wire.specs.packet.Grammar.{Spells, SpellsMessage, SpellsMessages}
-use Rattle.mesh_machine.specs.declared.arrival.Arrival.{Arrival}
-use Rattle.mesh_machine.specs.declared.fate.Fate.{Fate}
-use Rattle.mesh_machine.specs.declared.frame.Frame.{Frame}
-use Rattle.mesh_machine.specs.Frames.{octets_at}
-use Rattle.mesh_machine.specs.Messages.{TakesMessage, TakesMessages, No_messages, First_message, AreSpelled}
-use Rattle.std.proofs.lemmas.List.{append_assoc, append-nil, length-append}
-use Rattle.mesh_atoms.proofs.Lists.{middle_range}
 
 -- ---- one message more
 

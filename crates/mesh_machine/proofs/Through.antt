@@ -1,23 +1,11 @@
 -- What each router of a network comes through.
-use Rattle.std.proofs.Common.{◌≡◌, ℕ, ◌<◌, ◌≤◌, ◌⊎◌, inl, inr, List, [], ◌∷◌, refl, sym, ◌∙◌, ap, subst, length, get_or, map, All, Bool, true, false, true≢false, Option, Some, arith, length-set, zero, suc}
-use Rattle.std.specs.Prelude.{slice_get, slice_set, nat_eq, cond, ◌≢◌}
-use Rattle.std.proofs.lemmas.Bool.{eqb-true, eq-eqb}
-use Rattle.std.proofs.lemmas.Option.{slice_get_within, get_or_from_slice_get, slice_get-get_or}
-use Rattle.mesh_atoms.specs.declared.addr.Addr4.{Addr4}
-use Rattle.mesh_atoms.specs.declared.settings.Scenario.{Scenario}
-use Rattle.mesh_atoms.specs.Sound.{Sound}
-use Rattle.mesh_atoms.specs.State.{State}
+use Rattle.mesh_machine.proofs.Common.{◌≡◌, ℕ, ◌<◌, ◌≤◌, ◌⊎◌, inl, inr, List, [], ◌∷◌, refl, sym, ◌∙◌, ap, subst, length, get_or, map, All, Bool, true, false, true≢false, Option, Some, arith, length-set, zero, suc, slice_get, slice_set, nat_eq, cond, ◌≢◌, eqb-true, eq-eqb, slice_get_within, get_or_from_slice_get, slice_get-get_or, Addr4, Scenario, Sound, State, Frame, Step, Ticked, Tick, Steps, No_events, First_event, due, NetState, NetStep, By_delivery, By_tick, By_last_tick, Moves, HasOnlyLastTicks, event_of, frames_of, happening, Traffic, Delivery, with_heard, item_at as stands, set_here}
 use Rattle.mesh_machine.proofs.Effects.{ticks_due}
 use Rattle.mesh_machine.proofs.Opening.{runs_sound}
-use Rattle.mesh_machine.specs.declared.frame.Frame.{Frame}
-use Rattle.mesh_machine.specs.Machine.{Step, Ticked, Tick, Steps, No_events, First_event, due}
 use Rattle.mesh_atoms.specs.declared.network.NetEvent.{NetEvent}
-use Rattle.mesh_machine.specs.Net.{NetState, NetStep, By_delivery, By_tick, By_last_tick, Moves, HasOnlyLastTicks, event_of, frames_of, happening}
-use Rattle.mesh_machine.specs.Traffic.{Traffic, Delivery, with_heard}
 use Rattle.mesh_machine.specs.NetRun.{NetRun, AreMachines, EndTogether, events_at}
 use Rattle.mesh_machine.proofs.Sent.{first_and_others, sent_later}
 use Rattle.mesh_machine.proofs.Places.{same_at, set_at, set_there}
-use Rattle.mesh_atoms.proofs.Lists.{item_at as stands, set_here}
 
 -- Each event moves one router
 

@@ -1,17 +1,5 @@
 -- Notes by the addresses of their keys.
-use Rattle.std.proofs.Common.{◌≡◌, ℕ, ◌<◌, ◌+◌, ◌⊎◌, ◌||◌, inl, inr, max, Bool, true, false, cond, List, [], ◌∷◌, ◌++◌, length, take, get_or, Contains, Option, Some, None, refl, sym, subst, ap, ◌∙◌}
-use Rattle.std.specs.Prelude.{IsSome}
-use Rattle.std.proofs.lemmas.List.{take_more}
-use Rattle.std.proofs.lemmas.List.Elements.{Contains-append_left, Contains-push, Contains-push_cases}
-use Rattle.mesh_atoms.specs.declared.addr.Addr4.{Addr4}
-use Rattle.mesh_atoms.specs.declared.tuples.Neighbour.{Neighbour}
-use Rattle.mesh_atoms.specs.Base.{addr_eq}
-use Rattle.mesh_atoms.specs.Words.{IsKept, IsLeastMetric}
-use Rattle.mesh_atoms.proofs.Lookups.{addr_equiv, same_addr}
-use Rattle.mesh_nbrs.specs.declared.neighbours.LinkNote.{LinkNote}
-use Rattle.mesh_nbrs.specs.declared.summary.Summary.{Summary}
-use Rattle.mesh_nbrs.specs.Neighbours.{HasNote, HasNoNote, IsNotesSummary}
-use Rattle.mesh_nbrs.specs.Parts.{IsNoteAt, IsSummaryOf, AreSummariesOf, part_of, HasSummaryAt}
+use Rattle.mesh_nbrs.proofs.Common.{◌≡◌, ℕ, ◌<◌, ◌+◌, ◌⊎◌, ◌||◌, inl, inr, max, Bool, true, false, cond, List, [], ◌∷◌, ◌++◌, length, take, get_or, Contains, Option, Some, None, refl, sym, subst, ap, ◌∙◌, IsSome, take_more, Contains-append_left, Contains-push, Contains-push_cases, Addr4, Neighbour, addr_eq, IsKept, IsLeastMetric, addr_equiv, same_addr, LinkNote, Summary, HasNote, HasNoNote, IsNotesSummary, IsNoteAt, IsSummaryOf, AreSummariesOf, part_of, HasSummaryAt}
 use Rattle.mesh_nbrs.proofs.Summaries.{summary_same, summary_both}
 
 -- a list up to the next item

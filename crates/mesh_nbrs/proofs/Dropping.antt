@@ -1,15 +1,5 @@
 -- The tuples of a link go, from the last place on.
-use Rattle.std.proofs.Common.{◌≡◌, ◌⊎◌, inl, inr, refl, sym, ap, subst, ◌∙◌, ℕ, ◌+◌, ◌≤◌, arith, Bool, true, false, cond, Option, Some, None, length, length-take, get_or, ◌-◌}
-use Rattle.std.specs.Prelude.{slice_get, slice_set, swap_remove}
-use Rattle.std.proofs.lemmas.Bool.{cases_order, false≢true}
-use Rattle.std.proofs.lemmas.Option.{slice_get_within}
-use Rattle.mesh_atoms.specs.declared.tuples.LinkKey.{LinkKey}
-use Rattle.mesh_atoms.specs.declared.tuples.TwoHopKey.{TwoHopKey}
-use Rattle.mesh_atoms.specs.declared.tuples.TwoHop.{TwoHop}
-use Rattle.mesh_atoms.specs.Base.{Base, find, HasDistinctKeys, SetsOnly, link_eq, two_hop_eq}
-use Rattle.mesh_atoms.proofs.Lookups.{same_two_hop, two_hop_equiv}
-use Rattle.mesh_expire.proofs.Laws.{swapped_at, swapped_out, walked}
-use Rattle.mesh_nbrs.specs.TwoHops.TwoHops.{DropsLink}
+use Rattle.mesh_nbrs.proofs.Common.{◌≡◌, ◌⊎◌, inl, inr, refl, sym, ap, subst, ◌∙◌, ℕ, ◌+◌, ◌≤◌, arith, Bool, true, false, cond, Option, Some, None, length, length-take, get_or, ◌-◌, slice_get, slice_set, swap_remove, cases_order, false≢true, slice_get_within, LinkKey, TwoHopKey, TwoHop, Base, find, HasDistinctKeys, SetsOnly, link_eq, two_hop_eq, same_two_hop, two_hop_equiv, swapped_at, swapped_out, walked, DropsLink}
 
 -- from a place on no tuple is one of the link, and the tuples that have gone are
 pub record Dropping (link : LinkKey) (first now : Base TwoHopKey TwoHop) (place : ℕ) : Type 0 where

@@ -1,8 +1,5 @@
 -- Tuples that end while the others stay.
-use Rattle.std.proofs.Common.{◌≡◌, ℕ, Bool, true, false, Option, Some, None, ◌⊎◌, inl, inr, refl, sym, subst, ◌∙◌}
-use Rattle.std.specs.Prelude.{IfNone}
-use Rattle.mesh_atoms.specs.Base.{Base, find, SetsOnly}
-use Rattle.mesh_atoms.specs.Words.{IsKept}
+use Rattle.mesh_nbrs.proofs.Common.{◌≡◌, ℕ, Bool, true, false, Option, Some, None, ◌⊎◌, inl, inr, refl, sym, subst, ◌∙◌, IfNone, Base, find, SetsOnly, IsKept}
 
 -- what follows where nothing is given
 pub if_none_so : {A P Q : Type 0} (o : Option A) → (P → Q) → IfNone o P → IfNone o Q

@@ -1,16 +1,7 @@
 -- A set that has the link of each 2-hop tuple.
-use Rattle.std.proofs.Common.{◌≡◌, ℕ, Bool, true, false, cond, Option, Some, None, refl, sym, ap, subst, ◌∙◌, nat_lt}
-use Rattle.std.specs.Prelude.{IsTrue}
-use Rattle.std.specs.Cmp.{unsigned_ties}
+use Rattle.mesh_nbrs.proofs.Common.{◌≡◌, ℕ, Bool, true, false, cond, Option, Some, None, refl, sym, ap, subst, ◌∙◌, nat_lt, IsTrue, unsigned_ties, LinkKey, TwoHopKey, TwoHop, Base, find, if_live, SetsOnly, Expires, link_eq, two_hop_eq, same_two_hop, link_equiv, DropsLink, KnowsLinks, link_cmp, none_is_some}
 use Rattle.std.specs.Ordering.{is_eq}
 use Rattle.std.specs.BTreeSet.{BTreeSet, contains, Updates}
-use Rattle.mesh_atoms.specs.declared.tuples.LinkKey.{LinkKey}
-use Rattle.mesh_atoms.specs.declared.tuples.TwoHopKey.{TwoHopKey}
-use Rattle.mesh_atoms.specs.declared.tuples.TwoHop.{TwoHop}
-use Rattle.mesh_atoms.specs.Base.{Base, find, if_live, SetsOnly, Expires, link_eq, two_hop_eq}
-use Rattle.mesh_atoms.proofs.Lookups.{same_two_hop, link_equiv}
-use Rattle.mesh_nbrs.specs.TwoHops.TwoHops.{DropsLink, KnowsLinks, link_cmp}
-use Rattle.mesh_atoms.proofs.Options.{none_is_some}
 
 -- what is live was there
 live_was : (now : ℕ) (o : Option (TwoHop × ℕ)) (e : TwoHop × ℕ) → if_live now o ≡ Some e → o ≡ Some e

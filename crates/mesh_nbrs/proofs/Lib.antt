@@ -10,3 +10,4 @@ pub mod Owning
 mod Sets
 mod Spoken
 mod Walks
+mod Common

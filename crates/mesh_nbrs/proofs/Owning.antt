@@ -1,18 +1,6 @@
 -- The map from addresses to originators after each change.
-use Rattle.std.proofs.Common.{◌≡◌, ◌≢◌, ℕ, inl, inr, refl, sym, ap, subst, ◌∙◌, Bool, true, false, cond, List, [], take, Contains, Option, Some, None, is_some}
-use Rattle.std.specs.Prelude.{◌↔◌, option_map, IsSome, IfNone, OnOk, OnErr, Result, Ok, Err, is_err}
-use Rattle.std.specs.List.{list_any}
-use Rattle.std.specs.Map.{keys_of}
-use Rattle.std.proofs.lemmas.Map.Entries.{option_filter}
+use Rattle.mesh_nbrs.proofs.Common.{◌≡◌, ◌≢◌, ℕ, inl, inr, refl, sym, ap, subst, ◌∙◌, Bool, true, false, cond, List, [], take, Contains, Option, Some, None, is_some, ◌↔◌, option_map, IsSome, IfNone, OnOk, OnErr, Result, Ok, Err, is_err, list_any, keys_of, option_filter, Addr4, Neighbour, Base, SetsOnly, find, addr_eq, IsKept, Meets, addr_equiv, same_addr, changed_at, find-changed_at, owner_of, addrs_at, HasAt, Owned, KeepsAddrs, LeavesNotesOf, SetsOwner}
 use Rattle.std.proofs.lemmas.Map.Views.{Contains-keys_from_lookup, IsSome-lookup_from_Contains}
-use Rattle.mesh_atoms.specs.declared.addr.Addr4.{Addr4}
-use Rattle.mesh_atoms.specs.declared.tuples.Neighbour.{Neighbour}
-use Rattle.mesh_atoms.specs.Base.{Base, SetsOnly, find, addr_eq}
-use Rattle.mesh_atoms.specs.Words.{IsKept, Meets}
-use Rattle.mesh_atoms.proofs.Lookups.{addr_equiv, same_addr}
-use Rattle.mesh_expire.specs.Table.{changed_at}
-use Rattle.mesh_expire.proofs.Laws.{find-changed_at}
-use Rattle.mesh_nbrs.specs.Owners.{owner_of, addrs_at, HasAt, Owned, KeepsAddrs, LeavesNotesOf, SetsOwner}
 use Rattle.mesh_nbrs.proofs.Listed.{contains_of, unlisted_of, any_take}
 use Rattle.mesh_nbrs.proofs.Sets.{set_there, set_elsewhere}
 

@@ -1,7 +1,5 @@
 -- A base in which one key is set, and what is kept of one.
-use Rattle.std.proofs.Common.{◌≡◌, ℕ, Bool, true, false, cond, Option, ◌≢◌, refl, sym, ◌∙◌}
-use Rattle.std.specs.Cmp.{IsEquivalence}
-use Rattle.mesh_atoms.specs.Base.{Base, find, SetsOnly}
+use Rattle.mesh_nbrs.proofs.Common.{◌≡◌, ℕ, Bool, true, false, cond, Option, ◌≢◌, refl, sym, ◌∙◌, IsEquivalence, Base, find, SetsOnly}
 
 module _ {K V : Type 0} {eq : K → K → Bool} (old new : Base K V) (key : K) (entry : Option (V × ℕ)) (sets : SetsOnly eq old new key entry) where
   pub set_there : IsEquivalence eq → find eq new key ≡ entry

@@ -1,21 +1,8 @@
 -- The neighbours that a HELLO speaks of.
-use Rattle.std.proofs.Common.{◌≡◌, ◌≢◌, ℕ, inl, inr, refl, sym, ap, ◌∙◌, Bool, true, false, cond, List, Contains, Option, Some, None, is_some}
-use Rattle.std.specs.Prelude.{◌↔◌, ◌&&◌, not}
-use Rattle.std.specs.List.{list_any}
-use Rattle.std.proofs.lemmas.List.Folds.{list_any_at}
-use Rattle.indexmap.proofs.CallerLemmas.{Contains-list_any}
-use Rattle.mesh_atoms.specs.declared.addr.Addr4.{Addr4}
-use Rattle.mesh_atoms.specs.declared.tuples.Neighbour.{Neighbour}
-use Rattle.mesh_atoms.specs.Base.{find, addr_eq}
-use Rattle.mesh_atoms.specs.Words.{IsKept, Meets}
+use Rattle.mesh_nbrs.proofs.Common.{◌≡◌, ◌≢◌, ℕ, inl, inr, refl, sym, ap, ◌∙◌, Bool, true, false, cond, List, Contains, Option, Some, None, is_some, ◌↔◌, ◌&&◌, not, list_any, list_any_at, Contains-list_any, Addr4, Neighbour, find, addr_eq, IsKept, Meets, addr_equiv, same_addr, IsSpokenOf, owner_of, is_owner, Owned, some_of, and_parts, cond_both}
 use Rattle.mesh_atoms.specs.AfterHello.{Matches}
-use Rattle.mesh_atoms.proofs.Lookups.{addr_equiv, same_addr}
-use Rattle.mesh_nbrs.specs.Neighbours.{IsSpokenOf}
-use Rattle.mesh_nbrs.specs.Owners.{owner_of, is_owner, Owned}
 use Rattle.mesh_nbrs.proofs.Listed.{listed_of, contains_of, listed_where, found_of}
 use Rattle.mesh_nbrs.proofs.Owning.{Owners, Nbrs, from_at, noted_of}
-use Rattle.mesh_atoms.proofs.Options.{some_of}
-use Rattle.std.proofs.lemmas.Bool.{and_parts, cond_both}
 
 is_owner_so : (p : Option Addr4) (o : Addr4) → is_owner p o ≡ true → p ≡ Some o
 is_owner_so None o h = absurd cc

@@ -1,20 +1,7 @@
 -- What notes tell together.
-use Rattle.std.proofs.Common.{◌≡◌, ℕ, ◌≤◌, ◌⊎◌, inl, inr, max, Bool, true, false, List, get_or, Option, Some, None, refl, sym, subst, ◌∙◌, arith}
-use Rattle.std.specs.Prelude.{IsTrue, ◌||◌}
-use Rattle.std.proofs.lemmas.Bool.{cases_lt, or_cases, or_left, or_right}
-use Rattle.mesh_atoms.specs.declared.addr.Addr4.{Addr4}
-use Rattle.mesh_atoms.specs.declared.codes.metric.Metric.{Metric}
-use Rattle.mesh_atoms.specs.declared.tuples.Neighbour.{Neighbour}
-use Rattle.mesh_atoms.specs.Base.{addr_eq}
-use Rattle.mesh_atoms.specs.Words.{IsKept, IsLeastMetric}
-use Rattle.mesh_atoms.proofs.Lookups.{addr_equiv, same_addr}
+use Rattle.mesh_nbrs.proofs.Common.{◌≡◌, ℕ, ◌≤◌, ◌⊎◌, inl, inr, max, Bool, true, false, List, get_or, Option, Some, None, refl, sym, subst, ◌∙◌, arith, IsTrue, ◌||◌, cases_lt, or_cases, or_left, or_right, Addr4, Metric, Neighbour, addr_eq, IsKept, IsLeastMetric, addr_equiv, same_addr, list_any, list_any_at, LinkNote, Summary, HasNote, HasNoNote, IsNotesSummary, IsByNotes, RestoresBy, HasSummary, by_summary}
 use Rattle.mesh_nbrs.proofs.Listed.{contains_of, listed_of, found_of}
-use Rattle.std.specs.List.{list_any}
-use Rattle.std.proofs.lemmas.List.Folds.{list_any_at}
 use Rattle.mesh_atoms.specs.Codes.Codes.{metric_value}
-use Rattle.mesh_nbrs.specs.declared.neighbours.LinkNote.{LinkNote}
-use Rattle.mesh_nbrs.specs.declared.summary.Summary.{Summary}
-use Rattle.mesh_nbrs.specs.Neighbours.{HasNote, HasNoNote, IsNotesSummary, IsByNotes, RestoresBy, HasSummary, by_summary}
 
 -- ---- the least metric
 

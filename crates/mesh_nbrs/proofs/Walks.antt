@@ -1,12 +1,5 @@
 -- A base whose entries are changed place by place, each in its way.
-use Rattle.std.proofs.Common.{◌≡◌, ℕ, ◌+◌, ◌<◌, ◌≤◌, inl, inr, Bool, true, false, cond, List, [], ◌∷◌, length, Option, Some, None, refl, sym, subst, ap, ◌∙◌, arith, zero, suc}
-use Rattle.std.specs.Prelude.{slice_get, slice_set, option_map}
-use Rattle.std.specs.Cmp.{IsEquivalence}
-use Rattle.std.proofs.lemmas.Bool.{cases_lt}
-use Rattle.std.proofs.lemmas.Map.Entries.{lookup_from_place}
-use Rattle.mesh_atoms.specs.Base.{Base, find, HasDistinctKeys}
-use Rattle.mesh_expire.specs.Table.{changed_at}
-use Rattle.mesh_expire.proofs.Laws.{walked, find-changed_at, changed_at-place, distinct-changed_at, length-changed_at}
+use Rattle.mesh_nbrs.proofs.Common.{◌≡◌, ℕ, ◌+◌, ◌<◌, ◌≤◌, inl, inr, Bool, true, false, cond, List, [], ◌∷◌, length, Option, Some, None, refl, sym, subst, ap, ◌∙◌, arith, zero, suc, slice_get, slice_set, option_map, IsEquivalence, cases_lt, lookup_from_place, Base, find, HasDistinctKeys, changed_at, walked, find-changed_at, changed_at-place, distinct-changed_at, length-changed_at}
 use Rattle.mesh_atoms.proofs.Lists.{set_here}
 
 -- the entries before a place are changed as they may be, and the others are as they were

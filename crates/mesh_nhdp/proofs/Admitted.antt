@@ -1,18 +1,6 @@
 -- A link that is as its quality has it stays so, whatever else of it changes.
-use Rattle.std.proofs.Common.{◌≡◌, ℕ, ◌+◌, min, arith, refl, sym, ◌∙◌, ap, subst, Option, Some, None}
-use Rattle.std.specs.Prelude.{Bool, true, false, cond, not, nat_le, nat_lt, ◌&&◌, ◌||◌}
-use Rattle.std.proofs.lemmas.Bool.{false≢true, lt-ltb, ltb-true, leb-true, leb-false}
-use Rattle.mesh_atoms.specs.declared.admit.Admit.{Admit}
-use Rattle.mesh_atoms.specs.declared.hello.Shown.{Shown}
-use Rattle.mesh_atoms.specs.declared.hello.LinkStatus.{LinkStatus}
-use Rattle.mesh_atoms.specs.declared.hello.LinkStatus.TheVariants.{Lost as Down, Symmetric, Heard}
-use Rattle.mesh_atoms.specs.declared.settings.RouterSettings.{RouterSettings}
-use Rattle.mesh_atoms.specs.declared.tuples.Link.{Link}
-use Rattle.mesh_atoms.specs.State.{is_symmetric}
-use Rattle.mesh_atoms.specs.Quality.{quality_at, admitted, rule_of, admit_on}
-use Rattle.mesh_atoms.specs.Live.{trimmed}
-use Rattle.mesh_atoms.specs.AfterHello.{made, by_status, renewed}
-use Rattle.mesh_atoms.proofs.Options.{same_some, none_not}
+use Rattle.mesh_nhdp.proofs.Common.{◌≡◌, ℕ, ◌+◌, min, arith, refl, sym, ◌∙◌, ap, subst, Option, Some, None, Bool, true, false, cond, not, nat_le, nat_lt, ◌&&◌, ◌||◌, false≢true, lt-ltb, ltb-true, leb-true, leb-false, Admit, Shown, LinkStatus, Symmetric, Heard, RouterSettings, Link, is_symmetric, quality_at, admitted, rule_of, admit_on, trimmed, made, by_status, renewed, same_some, none_not}
+use Rattle.mesh_atoms.specs.declared.hello.LinkStatus.TheVariants.{Lost as Down}
 
 -- What quality asks of a link
 

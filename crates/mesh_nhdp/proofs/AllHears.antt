@@ -1,9 +1,5 @@
 -- The tuples of the interface that a HELLO came over.
-use Rattle.std.proofs.Common.{◌≡◌, ℕ, ◌+◌, ◌<◌, ◌≤◌, ◌≢◌, inl, inr, sym, ◌∙◌, subst, arith, List, [], length, get_or, get_or-set_same, get_or-set_other}
-use Rattle.std.specs.Prelude.{slice_set}
-use Rattle.std.proofs.lemmas.Bool.{cases_lt}
-use Rattle.mesh_atoms.specs.Base.{Base, base_of}
-use Rattle.std.proofs.lemmas.List.{get_or_default}
+use Rattle.mesh_nhdp.proofs.Common.{◌≡◌, ℕ, ◌+◌, ◌<◌, ◌≤◌, ◌≢◌, inl, inr, sym, ◌∙◌, subst, arith, List, [], length, get_or, get_or-set_same, get_or-set_other, slice_set, cases_lt, Base, base_of, get_or_default}
 
 -- an item is the base of its interface
 pub is_base : {K V : Type 0} (bases : List (Base K V)) (i : ℕ) (x : Base K V) → i < length bases → x ≡ get_or bases i x → base_of bases i ≡ x

@@ -1,14 +1,5 @@
 -- The notes of all links.
-use Rattle.std.proofs.Common.{◌≡◌, ℕ, ◌↔◌, sym, ◌∙◌, ap, subst, List, [], length, Contains, refl}
-use Rattle.std.specs.Prelude.{Some}
-use Rattle.std.proofs.lemmas.Option.{slice_get_within, get_or_from_slice_get}
-use Rattle.mesh_atoms.specs.declared.addr.Addr4.{Addr4}
-use Rattle.mesh_atoms.specs.declared.tuples.LinkKey.{LinkKey}
-use Rattle.mesh_atoms.specs.declared.tuples.Link.{Link}
-use Rattle.mesh_atoms.specs.Base.{Base, base_of, find, link_eq}
-use Rattle.mesh_nbrs.specs.declared.neighbours.LinkNote.{LinkNote}
-use Rattle.mesh_nhdp.specs.Calls.{note_of, IsNoteIn, IsNoteAmong, TellsLinks, TellsLinksOf}
-use Rattle.mesh_hello.proofs.Collect.{SomeBelow}
+use Rattle.mesh_nhdp.proofs.Common.{◌≡◌, ℕ, ◌↔◌, sym, ◌∙◌, ap, subst, List, [], length, Contains, refl, Some, slice_get_within, get_or_from_slice_get, Addr4, LinkKey, Link, Base, base_of, find, link_eq, LinkNote, note_of, IsNoteIn, IsNoteAmong, TellsLinks, TellsLinksOf, SomeBelow}
 use Rattle.mesh_nhdp.proofs.Bases.{within_bases}
 
 module _ (sets : List (Base LinkKey Link)) (now : ℕ) (notes : List LinkNote) (Is : Base LinkKey Link → LinkNote → Type 0)

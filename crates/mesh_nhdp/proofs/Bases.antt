@@ -1,9 +1,5 @@
 -- The bases of interfaces, by place.
-use Rattle.std.proofs.Common.{◌≡◌, ℕ, ◌<◌, ◌≤◌, ◌⊎◌, inl, inr, sym, ◌∙◌, ap, List, [], length, slice_get, Some}
-use Rattle.std.proofs.lemmas.List.{get_or_past}
-use Rattle.std.proofs.lemmas.Option.{slice_get_cases, get_or_from_slice_get}
-use Rattle.mesh_atoms.specs.Base.{Base, base_of, find}
-use Rattle.mesh_atoms.proofs.Options.{none_not}
+use Rattle.mesh_nhdp.proofs.Common.{◌≡◌, ℕ, ◌<◌, ◌≤◌, ◌⊎◌, inl, inr, sym, ◌∙◌, ap, List, [], length, slice_get, Some, get_or_past, slice_get_cases, get_or_from_slice_get, Base, base_of, find, none_not}
 
 -- there is a base at the place, or it is past the last
 pub base_cases : {K V : Type 0} (bases : List (Base K V)) (i : ℕ) → ((i < length bases) × (slice_get bases i ≡ Some (base_of bases i))) ⊎ ((length bases ≤ i) × (base_of bases i ≡ []))

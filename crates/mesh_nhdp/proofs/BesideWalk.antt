@@ -1,11 +1,5 @@
 -- The 2-hop tuples that are expired go, interface by interface.
-use Rattle.std.proofs.Common.{◌≡◌, ℕ, zero, suc, ◌+◌, ◌<◌, ◌≤◌, inl, inr, refl, sym, ◌∙◌, ap, subst, arith, List, [], length}
-use Rattle.std.specs.Prelude.{Bool, true, false, nat_eq, slice_set, ◌&&◌}
-use Rattle.std.proofs.lemmas.Bool.{cases_lt, eqb-true, eqb-false, and_parts as both_so}
-use Rattle.std.proofs.lemmas.List.{length-set, set-get_or}
-use Rattle.mesh_atoms.specs.declared.tuples.TwoHopKey.{TwoHopKey}
-use Rattle.mesh_atoms.specs.declared.tuples.TwoHop.{TwoHop}
-use Rattle.mesh_atoms.specs.Base.{Base, HasDistinctKeys, Expires, base_of, two_hop_eq}
+use Rattle.mesh_nhdp.proofs.Common.{◌≡◌, ℕ, zero, suc, ◌+◌, ◌<◌, ◌≤◌, inl, inr, refl, sym, ◌∙◌, ap, subst, arith, List, [], length, Bool, true, false, nat_eq, slice_set, ◌&&◌, cases_lt, eqb-true, eqb-false, and_parts as both_so, length-set, set-get_or, TwoHopKey, TwoHop, Base, HasDistinctKeys, Expires, base_of, two_hop_eq}
 use Rattle.mesh_nhdp.proofs.AllHears.{written_same, written_other}
 
 pub record GoesOver (now : ℕ) (first sets : List (Base TwoHopKey TwoHop)) (same : Bool) (i : ℕ) : Type 0 where

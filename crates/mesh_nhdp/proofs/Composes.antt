@@ -1,26 +1,5 @@
 -- The calls of the sets, one after the other, are expiry and the taking of a HELLO.
-use Rattle.std.proofs.Common.{◌≡◌, ℕ, zero, suc, ◌<◌, ◌≢◌, ◌⊎◌, ◌↔◌, inl, inr, refl, sym, ◌∙◌, ap, subst, arith, List, [], ◌∷◌, length, Contains, slice_index_or, Option, Some, None}
-use Rattle.std.specs.Prelude.{true}
-use Rattle.mesh_atoms.specs.declared.addr.Addr4.{Addr4}
-use Rattle.mesh_atoms.specs.declared.admit.Admit.{Admit}
-use Rattle.mesh_atoms.specs.declared.tuples.LinkKey.{LinkKey}
-use Rattle.mesh_nbrs.specs.declared.neighbours.LinkNote.{LinkNote}
-use Rattle.mesh_atoms.specs.declared.tuples.Link.{Link}
-use Rattle.mesh_atoms.specs.declared.tuples.Neighbour.{Neighbour}
-use Rattle.mesh_atoms.specs.declared.tuples.Lost.{Lost}
-use Rattle.mesh_atoms.specs.Base.{Base, base_of, find, link_eq, addr_eq}
-use Rattle.mesh_atoms.specs.State.{Neighbourhood, is_symmetric}
-use Rattle.mesh_atoms.specs.Live.{HasLinkOf, HasSymmetricOf, IsByLinks, Restores, SettlesLost, Back, Gone, Stays}
-use Rattle.mesh_atoms.specs.Words.{IsKept, IsBeyond, Meets}
-use Rattle.mesh_atoms.specs.HelloTold.{Told}
-use Rattle.mesh_atoms.specs.AfterHello.{GoesOn, IsApart, IsTheirs, LinkKeptOrMade, Stood, Made, renewed, Matches, announced, BecomesOther, Joins, Remains}
-use Rattle.mesh_links.specs.Links.{EndsOutside, HearsOn}
-use Rattle.mesh_nbrs.specs.Neighbours.{HasNote, HasSymmetricNote, IsByNotes, RestoresBy, Replaces}
-use Rattle.mesh_nhdp.specs.Calls.{note_of, TellsLinks, TellsLinksOf}
-use Rattle.mesh_atoms.proofs.Options.{same_some, none_not}
-use Rattle.mesh_atoms.proofs.Values.{contains_or_not}
-use Rattle.mesh_links.proofs.Tied.{kept_from}
-use Rattle.mesh_nbrs.proofs.Summaries.{least_same}
+use Rattle.mesh_nhdp.proofs.Common.{◌≡◌, ℕ, zero, suc, ◌<◌, ◌≢◌, ◌⊎◌, ◌↔◌, inl, inr, refl, sym, ◌∙◌, ap, subst, arith, List, [], ◌∷◌, length, Contains, slice_index_or, Option, Some, None, true, Addr4, Admit, LinkKey, LinkNote, Link, Neighbour, Lost, Base, base_of, find, link_eq, addr_eq, Neighbourhood, is_symmetric, HasLinkOf, HasSymmetricOf, IsByLinks, Restores, SettlesLost, Back, Gone, Stays, IsKept, IsBeyond, Meets, Told, GoesOn, IsApart, IsTheirs, LinkKeptOrMade, Stood, Made, renewed, Matches, announced, BecomesOther, Joins, Remains, EndsOutside, HearsOn, HasNote, HasSymmetricNote, IsByNotes, RestoresBy, Replaces, note_of, TellsLinks, TellsLinksOf, same_some, none_not, contains_or_not, kept_from, least_same}
 
 -- Neighbours: by the notes of all links is by the links
 

@@ -1,10 +1,7 @@
 -- When values are the same.
-use Rattle.std.proofs.Common.{◌≡◌, ℕ, Bool, refl, sym, ap, subst, eqb, Option, Some, None, Decides}
+use Rattle.mesh_nhdp.proofs.Common.{◌≡◌, ℕ, Bool, refl, sym, ap, subst, eqb, Option, Some, None, Decides, false≢true, Addr4, Metric}
 use Rattle.std.specs.Option.{option_eq}
-use Rattle.std.proofs.lemmas.Bool.{false≢true}
 use Rattle.std.proofs.lemmas.Bool.Decides.{Decides-eqb}
-use Rattle.mesh_atoms.specs.declared.addr.Addr4.{Addr4}
-use Rattle.mesh_atoms.specs.declared.codes.metric.Metric.{Metric}
 use Rattle.mesh_atoms.proofs.Rows.{metrics}
 
 pub addrs : (a b : Addr4) → Decides (eqb a.0 b.0) (a ≡ b)

@@ -1,23 +1,5 @@
 -- The empty neighbourhood is sound.
-use Rattle.std.proofs.Common.{◌≡◌, ℕ, ◌<◌, inl, inr, refl, sym, ◌∙◌, ap, subst, arith, List, [], ◌∷◌, length, replicate, Contains, Some}
-use Rattle.std.specs.Prelude.{slice_index_or}
-use Rattle.std.specs.List.{IsDistinct}
-use Rattle.std.proofs.lemmas.List.{get_or-replicate, get_or_past, length-replicate}
-use Rattle.std.proofs.lemmas.Bool.{cases_lt}
-use Rattle.mesh_atoms.specs.declared.addr.Addr4.{Addr4}
-use Rattle.mesh_atoms.specs.declared.settings.RouterSettings.{RouterSettings}
-use Rattle.mesh_atoms.specs.declared.tuples.TwoHopKey.{TwoHopKey}
-use Rattle.mesh_atoms.specs.declared.tuples.TwoHop.{TwoHop}
-use Rattle.mesh_atoms.specs.Base.{Base, base_of, find, HasDistinctKeys, link_eq, two_hop_eq}
-use Rattle.mesh_atoms.specs.declared.tuples.LinkKey.{LinkKey}
-use Rattle.mesh_atoms.specs.declared.tuples.Link.{Link}
-use Rattle.mesh_atoms.specs.Quality.{admit_on}
-use Rattle.mesh_atoms.specs.State.{Neighbourhood}
-use Rattle.mesh_atoms.specs.TakesHello.{IsHeld}
-use Rattle.mesh_atoms.specs.Words.{AreMoreThan}
-use Rattle.mesh_atoms.specs.Sound.{SoundNeighbourhood}
-use Rattle.mesh_atoms.proofs.Options.{none_is_some}
-use Rattle.mesh_nhdp.specs.NhdpState.{empty_near}
+use Rattle.mesh_nhdp.proofs.Common.{◌≡◌, ℕ, ◌<◌, inl, inr, refl, sym, ◌∙◌, ap, subst, arith, List, [], ◌∷◌, length, replicate, Contains, Some, slice_index_or, IsDistinct, get_or-replicate, get_or_past, length-replicate, cases_lt, Addr4, RouterSettings, TwoHopKey, TwoHop, Base, base_of, find, HasDistinctKeys, link_eq, two_hop_eq, LinkKey, Link, admit_on, Neighbourhood, IsHeld, AreMoreThan, SoundNeighbourhood, none_is_some, empty_near}
 
 pub empty_base : {K V : Type 0} (count i : ℕ) → slice_index_or (replicate count (let none : Base K V = [] in none)) i [] ≡ []
 empty_base {K} {V} count i = elim (cases_lt i count) [

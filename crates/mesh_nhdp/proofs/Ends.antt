@@ -1,13 +1,5 @@
 -- A walk over the keys of links drops the tuples of those that ended.
-use Rattle.std.proofs.Common.{◌≡◌, ℕ, ◌+◌, ◌⊎◌, inl, inr, refl, sym, ◌∙◌, ap, subst, List, length, Contains, slice_get, Option, Some, None}
-use Rattle.std.specs.Prelude.{Bool, true, false, cond, not, ◌&&◌}
-use Rattle.std.proofs.lemmas.Bool.{false≢true}
-use Rattle.mesh_atoms.specs.declared.tuples.LinkKey.{LinkKey}
-use Rattle.mesh_atoms.specs.declared.tuples.TwoHop.{TwoHop}
-use Rattle.mesh_atoms.specs.Base.{link_eq}
-use Rattle.mesh_atoms.specs.Words.{IsKept}
-use Rattle.mesh_atoms.proofs.Lookups.{same_link}
-use Rattle.mesh_hello.proofs.Collect.{SomeBelow, below_here, below_later, below_cases, below_contains}
+use Rattle.mesh_nhdp.proofs.Common.{◌≡◌, ℕ, ◌+◌, ◌⊎◌, inl, inr, refl, sym, ◌∙◌, ap, subst, List, length, Contains, slice_get, Option, Some, None, Bool, true, false, cond, not, ◌&&◌, false≢true, LinkKey, TwoHop, link_eq, IsKept, same_link, SomeBelow, below_here, below_later, below_cases, below_contains}
 use Rattle.mesh_nhdp.proofs.Composes.{kept_iff}
 use Rattle.mesh_nhdp.proofs.TwoHops.{link_eq_same}
 

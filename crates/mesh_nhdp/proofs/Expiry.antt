@@ -1,33 +1,10 @@
 -- The parts of expiry, interface by interface.
-use Rattle.std.proofs.Common.{◌≡◌, ℕ, ◌+◌, ◌<◌, ◌↔◌, inl, inr, refl, sym, ◌∙◌, ap, subst, arith, List, [], ◌++◌, length, take, drop, get_or, Contains}
-use Rattle.std.specs.Prelude.{Some, slice_get}
-use Rattle.std.proofs.lemmas.Option.{slice_get_cases}
-use Rattle.std.specs.List.{IsDistinct}
-use Rattle.std.proofs.lemmas.List.{append-nil, get_or_past, length-drop, nil_from_length, take_all}
-use Rattle.mesh_atoms.specs.declared.addr.Addr4.{Addr4}
-use Rattle.mesh_atoms.specs.declared.tuples.LinkKey.{LinkKey}
-use Rattle.mesh_atoms.specs.declared.tuples.Link.{Link}
-use Rattle.mesh_atoms.specs.declared.tuples.TwoHopKey.{TwoHopKey}
-use Rattle.mesh_atoms.specs.declared.tuples.TwoHop.{TwoHop}
-use Rattle.mesh_atoms.specs.declared.tuples.Neighbour.{Neighbour}
-use Rattle.mesh_atoms.specs.declared.tuples.Lost.{Lost}
-use Rattle.mesh_atoms.specs.declared.admit.Admit.{Admit}
+use Rattle.mesh_nhdp.proofs.Common.{◌≡◌, ℕ, ◌+◌, ◌<◌, ◌↔◌, inl, inr, refl, sym, ◌∙◌, ap, subst, arith, List, [], ◌++◌, length, take, drop, get_or, Contains, Some, slice_get, slice_get_cases, IsDistinct, append-nil, get_or_past, length-drop, nil_from_length, take_all, Addr4, LinkKey, Link, TwoHopKey, TwoHop, Neighbour, Lost, Admit, RouterSettings, Base, Expires, base_of, addr_eq, Neighbourhood, rule_in, rule_of, LiveNeighbourhood, SoundNeighbourhood, FollowsLinks, ChangesEach, ExpiresOn, IsWantedAddress, item_at, none_not}
 use Rattle.mesh_atoms.specs.declared.settings.Interface.{Interface}
-use Rattle.mesh_atoms.specs.declared.settings.RouterSettings.{RouterSettings}
-use Rattle.mesh_atoms.specs.Base.{Base, Expires, base_of, addr_eq}
-use Rattle.mesh_atoms.specs.State.{Neighbourhood}
-use Rattle.mesh_atoms.specs.Quality.{rule_in, rule_of}
-use Rattle.mesh_atoms.specs.Live.{LiveNeighbourhood}
-use Rattle.mesh_atoms.specs.Sound.{SoundNeighbourhood}
 use Rattle.mesh_nhdp.specs.declared.near_addresses.WantedNeighbours.TheVariants.{Symmetric}
-use Rattle.mesh_nhdp.specs.Follows.{FollowsLinks}
-use Rattle.mesh_nhdp.specs.Interfaces.{ChangesEach, ExpiresOn}
-use Rattle.mesh_nhdp.specs.Wanted.{IsWantedAddress}
 use Rattle.mesh_nhdp.proofs.Bases.{base_cases}
-use Rattle.mesh_hello.proofs.Collect.{item_at}
 use Rattle.mesh_nhdp.proofs.Whole.{live_by_calls}
 use Rattle.mesh_nhdp.proofs.LiveSound.{live_sound}
-use Rattle.mesh_atoms.proofs.Options.{none_not}
 
 -- the rule of the interface at a place
 pub face_rule : (settings : RouterSettings) (i : ℕ) (faces : List Interface) (face : Interface) → faces ≡ settings.interfaces → i < length settings.interfaces → face ≡ get_or faces i face → face.admit ≡ rule_of settings i

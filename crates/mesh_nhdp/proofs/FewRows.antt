@@ -1,22 +1,5 @@
 -- The addresses that a HELLO tells as SYMMETRIC neighbours are at most as many as its rows.
-use Rattle.std.proofs.Common.{◌≡◌, ℕ, ◌≤◌, ◌⊎◌, ◌↔◌, inl, inr, refl, sym, ◌∙◌, subst, arith, List, [], ◌∷◌, length, Contains, Option, Some, None}
-use Rattle.std.specs.Prelude.{false, IsSome}
-use Rattle.std.specs.List.{IsDistinct, AllByRecursion}
-use Rattle.std.proofs.lemmas.Bool.{false≢true, cases_Bool, cases_eq}
-use Rattle.std.proofs.lemmas.Map.Keys.{IsDistinct-cons}
-use Rattle.mesh_atoms.specs.declared.addr.Addr4.{Addr4}
-use Rattle.mesh_atoms.specs.declared.hello.Hello.{Hello}
-use Rattle.mesh_atoms.specs.declared.hello.HelloRow.{HelloRow}
-use Rattle.mesh_atoms.specs.declared.settings.RouterSettings.{RouterSettings}
-use Rattle.mesh_atoms.specs.Base.{addr_eq}
-use Rattle.mesh_atoms.specs.State.{HasAddress}
-use Rattle.mesh_atoms.specs.HelloTold.{Told, tells_symmetric}
-use Rattle.mesh_atoms.specs.TakesHello.{AreTwoHopRows}
-use Rattle.mesh_atoms.proofs.Lists.{contains_head, contains_tail, contains_cases, contains_none}
-use Rattle.mesh_atoms.proofs.Lookups.{same_addr}
-use Rattle.mesh_atoms.proofs.Values.{contains_or_not}
-use Rattle.mesh_hello.proofs.Collect.{below_contains}
-use Rattle.mesh_nhdp.specs.Rows.{TellsSymmetric}
+use Rattle.mesh_nhdp.proofs.Common.{◌≡◌, ℕ, ◌≤◌, ◌⊎◌, ◌↔◌, inl, inr, refl, sym, ◌∙◌, subst, arith, List, [], ◌∷◌, length, Contains, Option, Some, None, false, IsSome, IsDistinct, AllByRecursion, false≢true, cases_Bool, cases_eq, IsDistinct-cons, Addr4, Hello, HelloRow, RouterSettings, addr_eq, HasAddress, Told, tells_symmetric, AreTwoHopRows, contains_head, contains_tail, contains_cases, contains_none, same_addr, contains_or_not, below_contains, TellsSymmetric}
 use Rattle.mesh_nhdp.proofs.RowWalks.{symmetric_rows}
 
 addr_other : (a b : Addr4) → (a ≡ b → ⊥) → addr_eq a b ≡ false

@@ -1,36 +1,8 @@
 -- The parts of the taking of a HELLO, interface by interface.
-use Rattle.std.proofs.Common.{◌≡◌, ℕ, ◌+◌, ◌<◌, ◌≤◌, ◌≢◌, ◌⊎◌, ◌↔◌, inl, inr, refl, sym, ◌∙◌, ap, subst, arith, List, [], length, Contains, None}
-use Rattle.std.specs.Prelude.{true, false, nat_eq}
-use Rattle.std.specs.List.{IsDistinct}
-use Rattle.std.proofs.lemmas.List.{get_or_past}
-use Rattle.std.proofs.lemmas.Bool.{cases_eq, ne_eqb, eq-eqb}
-use Rattle.mesh_atoms.specs.declared.addr.Addr4.{Addr4}
-use Rattle.mesh_atoms.specs.declared.hello.Hello.{Hello}
-use Rattle.mesh_atoms.specs.declared.tuples.LinkKey.{LinkKey}
-use Rattle.mesh_atoms.specs.declared.tuples.Link.{Link}
-use Rattle.mesh_atoms.specs.declared.tuples.TwoHopKey.{TwoHopKey}
-use Rattle.mesh_atoms.specs.declared.tuples.TwoHop.{TwoHop}
-use Rattle.mesh_atoms.specs.declared.tuples.Neighbour.{Neighbour}
-use Rattle.mesh_atoms.specs.declared.tuples.Lost.{Lost}
-use Rattle.mesh_atoms.specs.declared.settings.RouterSettings.{RouterSettings}
-use Rattle.mesh_atoms.specs.Base.{Base, HasDistinctKeys, find, base_of, link_eq, two_hop_eq}
-use Rattle.mesh_atoms.specs.State.{Neighbourhood}
-use Rattle.mesh_atoms.specs.Quality.{rule_of}
-use Rattle.mesh_atoms.specs.HelloTold.{Told, Tells}
-use Rattle.mesh_atoms.specs.AfterHello.{AfterHello}
-use Rattle.mesh_atoms.specs.Words.{IsKept}
-use Rattle.mesh_atoms.specs.TakesHello.{IsFault}
-use Rattle.mesh_atoms.specs.Sound.{SoundNeighbourhood}
-use Rattle.mesh_links.specs.Links.{EndsOutside}
-use Rattle.mesh_nbrs.specs.Neighbours.{Replaces}
-use Rattle.mesh_nhdp.specs.Calls.{key_at, DropsEnded, TellsTwoHops, is_symmetric_in}
-use Rattle.mesh_nhdp.specs.Follows.{FollowsLinksOf}
-use Rattle.mesh_nhdp.specs.Interfaces.{HearsAt}
-use Rattle.mesh_atoms.specs.AfterHello.{IsTheirs}
+use Rattle.mesh_nhdp.proofs.Common.{◌≡◌, ℕ, ◌+◌, ◌<◌, ◌≤◌, ◌≢◌, ◌⊎◌, ◌↔◌, inl, inr, refl, sym, ◌∙◌, ap, subst, arith, List, [], length, Contains, None, true, false, nat_eq, IsDistinct, get_or_past, cases_eq, ne_eqb, eq-eqb, Addr4, Hello, LinkKey, Link, TwoHopKey, TwoHop, Neighbour, Lost, RouterSettings, Base, HasDistinctKeys, find, base_of, link_eq, two_hop_eq, Neighbourhood, rule_of, Told, Tells, AfterHello, IsKept, IsFault, SoundNeighbourhood, EndsOutside, Replaces, key_at, DropsEnded, TellsTwoHops, is_symmetric_in, FollowsLinksOf, HearsAt, IsTheirs, contains_at}
 use Rattle.mesh_nhdp.proofs.Bases.{base_cases}
 use Rattle.mesh_nhdp.proofs.Touched.{IsTheirSymmetric}
 use Rattle.mesh_nhdp.proofs.Whole.{Starts, hello_by_calls}
-use Rattle.mesh_atoms.proofs.Lists.{contains_at}
 
 -- where there is no interface, nothing ends and nothing is dropped
 ends_none : (theirs listed : List Addr4) → EndsOutside theirs listed [] []

@@ -1,23 +1,6 @@
 -- The addresses that a router holds, with those that a HELLO tells of.
-use Rattle.std.proofs.Common.{◌≡◌, ℕ, ◌+◌, ◌≤◌, ◌⊎◌, ◌↔◌, inl, inr, sym, ◌∙◌, ap, subst, arith, List, [], ◌∷◌, ◌++◌, length, length-append, Contains, Some}
-use Rattle.std.specs.Prelude.{option_map}
-use Rattle.std.specs.Map.{keys_of}
-use Rattle.std.proofs.lemmas.Option.{slice_get-map}
-use Rattle.std.proofs.lemmas.List.Elements.{Contains-append_cases, Contains-append_left, Contains-append_right, Contains-push, Contains-push_cases}
-use Rattle.std.proofs.lemmas.Map.Entries.{place_from_lookup, length-keys_of}
-use Rattle.std.proofs.lemmas.Map.Views.{list_any-from_Contains}
-use Rattle.mesh_atoms.specs.declared.addr.Addr4.{Addr4}
-use Rattle.mesh_atoms.specs.declared.tuples.Neighbour.{Neighbour}
-use Rattle.mesh_atoms.specs.Base.{Base, find, addr_eq}
-use Rattle.mesh_atoms.specs.State.{Neighbourhood}
-use Rattle.mesh_atoms.specs.TakesHello.{IsHeld}
-use Rattle.mesh_atoms.specs.Words.{AreMoreThan}
-use Rattle.mesh_atoms.proofs.Lookups.{addr_equiv, same_addr}
-use Rattle.mesh_nhdp.specs.declared.near_addresses.WantedNeighbours.TheVariants.{Each}
-use Rattle.mesh_nhdp.specs.Wanted.{IsWantedAddress}
-use Rattle.mesh_hello.proofs.Fits.{distinct_fits}
+use Rattle.mesh_nhdp.proofs.Common.{◌≡◌, ℕ, ◌+◌, ◌≤◌, ◌⊎◌, ◌↔◌, inl, inr, sym, ◌∙◌, ap, subst, arith, List, [], ◌∷◌, ◌++◌, length, length-append, Contains, Some, option_map, keys_of, slice_get-map, Contains-append_cases, Contains-append_left, Contains-append_right, Contains-push, Contains-push_cases, place_from_lookup, length-keys_of, list_any-from_Contains, Addr4, Neighbour, Base, find, addr_eq, Neighbourhood, IsHeld, AreMoreThan, addr_equiv, same_addr, Each, IsWantedAddress, distinct_fits, contains_at}
 use Rattle.mesh_nhdp.proofs.Limits.{found_if_key}
-use Rattle.mesh_atoms.proofs.Lists.{contains_at}
 
 abbrev IsKnown : Neighbourhood → List Addr4 → Addr4 → Addr4 → Type 0
 IsKnown near listed originator a = IsHeld near a ⊎ (Contains listed a ⊎ (a ≡ originator))

@@ -1,40 +1,9 @@
 -- A HELLO keeps what holds of a neighbourhood.
-use Rattle.std.proofs.Common.{◌≡◌, ℕ, ◌+◌, ◌<◌, ◌≤◌, ◌≢◌, ◌⊎◌, inl, inr, refl, sym, ◌∙◌, ap, subst, arith, List, length, Contains, slice_get, Option, Some, None, IsTrue, ◌++◌, ◌↔◌, length-append}
-use Rattle.std.specs.Prelude.{Bool, true, false, cond, nat_lt, not, max, ◌&&◌}
-use Rattle.std.proofs.lemmas.Bool.{lt-ltb, cases_eq, ltb-true}
-use Rattle.mesh_atoms.specs.declared.addr.Addr4.{Addr4}
-use Rattle.mesh_atoms.specs.declared.tuples.LinkKey.{LinkKey}
-use Rattle.mesh_atoms.specs.declared.tuples.TwoHopKey.{TwoHopKey}
-use Rattle.mesh_atoms.specs.declared.tuples.Link.{Link}
-use Rattle.mesh_atoms.specs.declared.tuples.TwoHop.{TwoHop}
-use Rattle.mesh_atoms.specs.declared.tuples.Neighbour.{Neighbour}
-use Rattle.mesh_atoms.specs.declared.tuples.Lost.{Lost}
-use Rattle.mesh_atoms.specs.declared.hello.Hello.{Hello}
-use Rattle.mesh_atoms.specs.declared.hello.Shown.{Shown}
-use Rattle.mesh_atoms.specs.declared.hello.HelloRow.{HelloRow}
-use Rattle.mesh_atoms.specs.declared.hello.LocalIf.TheVariants.{This, Other}
-use Rattle.mesh_atoms.specs.declared.hello.LinkStatus.{LinkStatus}
-use Rattle.mesh_atoms.specs.declared.hello.LinkStatus.TheVariants.{Lost as Down, Symmetric, Heard}
-use Rattle.mesh_atoms.specs.declared.settings.RouterSettings.{RouterSettings}
-use Rattle.mesh_atoms.specs.Base.{Base, find, base_of, two_hop_eq}
-use Rattle.mesh_atoms.specs.State.{Neighbourhood, is_symmetric, is_heard, link_at, two_hop_at, neighbour_at, lost_at, HasAddress}
-use Rattle.mesh_atoms.specs.Live.{trimmed, KeepsNeighbour, is_symmetric_at}
-use Rattle.mesh_atoms.specs.Words.{IsAscending}
-use Rattle.mesh_atoms.specs.HelloTold.{Told, Tells, IsListed, LooksAt, tells_symmetric, two_hop_of}
-use Rattle.mesh_atoms.specs.AfterHello.{AfterHello, LinkKeptOrMade, Stood, Made, renewed, by_status, by_hearing, GoesOn, Matches, announced, BecomesOther, Joins, Remains, StoodOn, Same_link, New_link, TellsTwoHop, By_row, By_none}
-use Rattle.mesh_atoms.specs.TakesHello.{IsHeld, IsFault, Local, Originator, Sender, IsFullOfAddresses, FitsTwoHops}
-use Rattle.mesh_atoms.specs.Sound.{SoundNeighbourhood, IsSoundLink, IsSoundNeighbour}
-use Rattle.mesh_atoms.proofs.Lookups.{two_hop_equiv}
-use Rattle.mesh_atoms.specs.declared.admit.Admit.{Admit}
-use Rattle.mesh_atoms.specs.Quality.{admit_on, rule_of}
+use Rattle.mesh_nhdp.proofs.Common.{◌≡◌, ℕ, ◌+◌, ◌<◌, ◌≤◌, ◌≢◌, ◌⊎◌, inl, inr, refl, sym, ◌∙◌, ap, subst, arith, List, length, Contains, slice_get, Option, Some, None, IsTrue, ◌++◌, ◌↔◌, length-append, Bool, true, false, cond, nat_lt, not, max, ◌&&◌, lt-ltb, cases_eq, ltb-true, Addr4, LinkKey, TwoHopKey, Link, TwoHop, Neighbour, Lost, Hello, Shown, HelloRow, This, Other, LinkStatus, Symmetric, Heard, RouterSettings, Base, find, base_of, two_hop_eq, Neighbourhood, is_symmetric, is_heard, link_at, two_hop_at, neighbour_at, lost_at, HasAddress, trimmed, KeepsNeighbour, is_symmetric_at, IsAscending, Told, Tells, IsListed, LooksAt, tells_symmetric, two_hop_of, AfterHello, LinkKeptOrMade, Stood, Made, renewed, by_status, by_hearing, GoesOn, Matches, announced, BecomesOther, Joins, Remains, StoodOn, Same_link, New_link, TellsTwoHop, By_row, By_none, IsHeld, IsFault, Local, Originator, Sender, IsFullOfAddresses, FitsTwoHops, SoundNeighbourhood, IsSoundLink, IsSoundNeighbour, two_hop_equiv, Admit, admit_on, rule_of, same_key, contains_at, same_some, cond_none_some, none_not, same_address, contains_or_not, kept_from}
+use Rattle.mesh_atoms.specs.declared.hello.LinkStatus.TheVariants.{Lost as Down}
 use Rattle.mesh_nhdp.proofs.Admitted.{FollowsQuality, IsAlike, made_follows, follows_alike, follows_if_stays, admit_stays, renewed_alike}
 use Rattle.mesh_nhdp.proofs.Limits.{no_more, found_left, found_right, entries_at, length_entries, found_entry}
-use Rattle.mesh_hello.proofs.Lookups.{same_key}
 use Rattle.mesh_nhdp.proofs.LiveSound.{is_trimmed, restores_from, restores_to, settles_back, settles_from}
-use Rattle.mesh_atoms.proofs.Lists.{contains_at}
-use Rattle.mesh_atoms.proofs.Options.{same_some, cond_none_some, none_not}
-use Rattle.mesh_atoms.proofs.Values.{same_address, contains_or_not}
-use Rattle.mesh_links.proofs.Tied.{kept_from}
 
 -- The link that the HELLO renews
 

@@ -1,18 +1,6 @@
 -- The tables of one interface of a router.
-use Rattle.std.proofs.Common.{◌≡◌, ◌<◌, ℕ, sym, ◌∙◌, ap, length, get_or, arith}
-use Rattle.std.specs.Prelude.{List, [], Some, slice_get}
-use Rattle.std.proofs.lemmas.List.{get_or_default}
-use Rattle.std.proofs.lemmas.Option.{slice_get-get_or}
-use Rattle.mesh_atoms.specs.declared.addr.Addr4.{Addr4}
-use Rattle.mesh_atoms.specs.declared.tuples.LinkKey.{LinkKey}
-use Rattle.mesh_atoms.specs.declared.tuples.Link.{Link}
-use Rattle.mesh_atoms.specs.declared.tuples.Lost.{Lost}
-use Rattle.mesh_atoms.specs.declared.tuples.Neighbour.{Neighbour}
+use Rattle.mesh_nhdp.proofs.Common.{◌≡◌, ◌<◌, ℕ, sym, ◌∙◌, ap, length, get_or, arith, List, [], Some, slice_get, get_or_default, slice_get-get_or, Addr4, LinkKey, Link, Lost, Neighbour, Base, SoundNeighbourhood, State, Neighbourhood, NhdpState}
 use Rattle.mesh_atoms.specs.declared.tuples.Relays.{Relays}
-use Rattle.mesh_atoms.specs.Base.{Base}
-use Rattle.mesh_atoms.specs.Sound.{SoundNeighbourhood}
-use Rattle.mesh_atoms.specs.State.{State, Neighbourhood}
-use Rattle.mesh_nhdp.specs.NhdpState.{NhdpState}
 use Rattle.mesh_hello.specs.Saying.Said.{AreDisjoint, IsSeen}
 use Rattle.mesh_hello.proofs.SayingLemmas.Message.{apart_by}
 

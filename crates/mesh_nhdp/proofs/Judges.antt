@@ -1,19 +1,9 @@
 -- What is judged of a HELLO.
-use Rattle.std.proofs.Common.{◌≡◌, ℕ, ◌<◌, ◌≤◌, ◌+◌, ◌↔◌, refl, sym, subst, arith, List, length, Contains, None, Some}
-use Rattle.mesh_atoms.specs.declared.addr.Addr4.{Addr4}
-use Rattle.mesh_atoms.specs.declared.hello.Hello.{Hello}
-use Rattle.mesh_atoms.specs.declared.settings.RouterSettings.{RouterSettings}
-use Rattle.mesh_atoms.specs.Base.{base_of}
-use Rattle.mesh_atoms.specs.State.{Neighbourhood, HasAddress}
-use Rattle.mesh_atoms.specs.HelloTold.{Told, Tells}
-use Rattle.mesh_atoms.specs.TakesHello.{IsFault, IsFullOfAddresses, IsFullOfTwoHops, FitsTwoHops, AreTwoHopRows, HelloAnswer, TakesHello, Full_of_addresses, Full_of_two_hops, Overfull, Overfull_two_hops}
+use Rattle.mesh_nhdp.proofs.Common.{◌≡◌, ℕ, ◌<◌, ◌≤◌, ◌+◌, ◌↔◌, refl, sym, subst, arith, List, length, Contains, None, Some, Addr4, Hello, RouterSettings, base_of, Neighbourhood, HasAddress, Told, Tells, IsFault, IsFullOfAddresses, IsFullOfTwoHops, FitsTwoHops, AreTwoHopRows, HelloAnswer, TakesHello, Full_of_addresses, Full_of_two_hops, Overfull, Overfull_two_hops, AfterHello, SoundNeighbourhood, IsFilledBy, Judges, IsAnswer}
 use Rattle.mesh_atoms.specs.declared.tuples.Base.{Base}
 use Rattle.mesh_atoms.specs.declared.tuples.Base.TheVariants.{Neighbours, TwoHops}
-use Rattle.mesh_atoms.specs.AfterHello.{AfterHello}
-use Rattle.mesh_atoms.specs.Sound.{SoundNeighbourhood}
 use Rattle.mesh_nhdp.specs.declared.judge.HelloCheck.TheVariants.{Overfills}
 use Rattle.mesh_nhdp.specs.declared.take.HelloTaken.TheVariants.{Full}
-use Rattle.mesh_nhdp.specs.Judged.{IsFilledBy, Judges, IsAnswer}
 use Rattle.mesh_nhdp.proofs.HelloSound.{hello_sound}
 
 -- the router's addresses, said of equal settings and of an equal list

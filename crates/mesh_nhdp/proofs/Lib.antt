@@ -30,3 +30,4 @@ mod Touched
 mod TwoHops
 mod Unchanged
 mod Whole
+mod Common

@@ -1,19 +1,6 @@
 -- How many tuples a base can have.
-use Rattle.std.proofs.Common.{◌≡◌, ℕ, zero, suc, ◌<◌, ◌≤◌, refl, sym, subst, arith, List, [], ◌∷◌, ◌++◌, length, Contains, slice_index_or, Option, Some, None}
-use Rattle.std.specs.Prelude.{Bool, true, false, cond, IsSome, ◌||◌}
-use Rattle.std.specs.Cmp.{IsEquivalence}
-use Rattle.std.specs.Map.{keys_of, lookup}
-use Rattle.std.specs.List.{list_any}
-use Rattle.std.proofs.lemmas.Bool.{false≢true}
-use Rattle.std.proofs.lemmas.Option.{none-some}
+use Rattle.mesh_nhdp.proofs.Common.{◌≡◌, ℕ, zero, suc, ◌<◌, ◌≤◌, refl, sym, subst, arith, List, [], ◌∷◌, ◌++◌, length, Contains, slice_index_or, Option, Some, None, Bool, true, false, cond, IsSome, ◌||◌, IsEquivalence, keys_of, lookup, list_any, false≢true, none-some, length-keys_of, Addr4, TwoHopKey, LinkKey, Base, find, HasDistinctKeys, two_hop_eq, two_hop_equiv, cond_true as on_true}
 use Rattle.std.proofs.lemmas.Map.Steps.{length-le_from_keys}
-use Rattle.std.proofs.lemmas.Map.Entries.{length-keys_of}
-use Rattle.mesh_atoms.specs.declared.addr.Addr4.{Addr4}
-use Rattle.mesh_atoms.specs.declared.tuples.TwoHopKey.{TwoHopKey}
-use Rattle.mesh_atoms.specs.declared.tuples.LinkKey.{LinkKey}
-use Rattle.mesh_atoms.specs.Base.{Base, find, HasDistinctKeys, two_hop_eq}
-use Rattle.mesh_atoms.proofs.Lookups.{two_hop_equiv}
-use Rattle.mesh_atoms.proofs.Options.{cond_true as on_true}
 
 found_step : {X : Type 0} (b : Bool) (first : X) (rest : Option X) (c : Bool) → (c ≡ true → (x : X) × (rest ≡ Some x)) → (b || c) ≡ true → (x : X) × (cond b (Some first) rest ≡ Some x)
 found_step true first rest c more h = (first, refl)

@@ -1,15 +1,5 @@
 -- The keys of a base.
-use Rattle.std.proofs.Common.{◌≡◌, ℕ, inl, inr, sym, ◌∙◌, ap, subst, arith, List, slice_get, Some}
-use Rattle.std.specs.Prelude.{option_map}
-use Rattle.std.specs.Map.{keys_of}
-use Rattle.std.proofs.lemmas.Option.{slice_get_cases, slice_get-map, get_or_from_slice_get}
-use Rattle.std.proofs.lemmas.Map.Entries.{place_from_lookup, lookup_from_place, length-keys_of}
-use Rattle.mesh_atoms.specs.declared.tuples.LinkKey.{LinkKey}
-use Rattle.mesh_atoms.specs.declared.tuples.Link.{Link}
-use Rattle.mesh_atoms.specs.Base.{Base, find, HasDistinctKeys, link_eq}
-use Rattle.mesh_atoms.proofs.Lookups.{link_equiv, same_link}
-use Rattle.mesh_nhdp.specs.Calls.{TellsKeys}
-use Rattle.mesh_atoms.proofs.Lists.{contains_at}
+use Rattle.mesh_nhdp.proofs.Common.{◌≡◌, ℕ, inl, inr, sym, ◌∙◌, ap, subst, arith, List, slice_get, Some, option_map, keys_of, slice_get_cases, slice_get-map, get_or_from_slice_get, place_from_lookup, lookup_from_place, length-keys_of, LinkKey, Link, Base, find, HasDistinctKeys, link_eq, link_equiv, same_link, TellsKeys, contains_at}
 
 key_at : (base : Base LinkKey Link) (k : ℕ) (key : LinkKey) (e : Link × ℕ) → slice_get base k ≡ Some (key, e) → slice_get (keys_of base) k ≡ Some key
 key_at base k key e at = slice_get-map (λ (x : LinkKey × (Link × ℕ)). x.0) base k ∙ ap (option_map (λ (x : LinkKey × (Link × ℕ)). x.0)) at

@@ -1,29 +1,8 @@
 -- Expiry keeps what holds of a neighbourhood.
-use Rattle.std.proofs.Common.{◌≡◌, ℕ, ◌+◌, ◌<◌, ◌≤◌, ◌⊎◌, inl, inr, refl, sym, ◌∙◌, ap, subst, arith, List, length, Contains, slice_get, Option, Some, None, IsTrue}
-use Rattle.std.specs.Prelude.{Bool, true, false, cond, nat_lt, ◌&&◌}
-use Rattle.std.proofs.lemmas.Bool.{false≢true, lt-ltb}
-use Rattle.mesh_atoms.specs.declared.addr.Addr4.{Addr4}
-use Rattle.mesh_atoms.specs.declared.tuples.LinkKey.{LinkKey}
-use Rattle.mesh_atoms.specs.declared.tuples.TwoHopKey.{TwoHopKey}
-use Rattle.mesh_atoms.specs.declared.tuples.Link.{Link}
-use Rattle.mesh_atoms.specs.declared.tuples.TwoHop.{TwoHop}
-use Rattle.mesh_atoms.specs.declared.tuples.Neighbour.{Neighbour}
-use Rattle.mesh_atoms.specs.declared.tuples.Lost.{Lost}
-use Rattle.mesh_atoms.specs.declared.settings.RouterSettings.{RouterSettings}
-use Rattle.mesh_atoms.specs.Base.{base_of, if_live}
-use Rattle.mesh_atoms.specs.State.{Neighbourhood, is_symmetric, link_at, two_hop_at, neighbour_at, lost_at, HasAddress}
-use Rattle.mesh_atoms.specs.Live.{LiveNeighbourhood, trimmed, trim, HasLinkOf, KeepsNeighbour, Restores, SettlesLost, Back, Gone, Stays, is_symmetric_at}
-use Rattle.mesh_atoms.specs.Words.{IsAscending}
-use Rattle.mesh_atoms.specs.TakesHello.{IsHeld}
-use Rattle.mesh_atoms.specs.Sound.{SoundNeighbourhood, IsSoundLink, IsSoundNeighbour}
-use Rattle.mesh_atoms.proofs.Lookups.{two_hop_equiv}
-use Rattle.mesh_atoms.specs.Quality.{admit_on, rule_of}
+use Rattle.mesh_nhdp.proofs.Common.{◌≡◌, ℕ, ◌+◌, ◌<◌, ◌≤◌, ◌⊎◌, inl, inr, refl, sym, ◌∙◌, ap, subst, arith, List, length, Contains, slice_get, Option, Some, None, IsTrue, Bool, true, false, cond, nat_lt, ◌&&◌, false≢true, lt-ltb, Addr4, LinkKey, TwoHopKey, Link, TwoHop, Neighbour, Lost, RouterSettings, base_of, if_live, Neighbourhood, is_symmetric, link_at, two_hop_at, neighbour_at, lost_at, HasAddress, LiveNeighbourhood, trimmed, trim, HasLinkOf, KeepsNeighbour, Restores, SettlesLost, Back, Gone, Stays, is_symmetric_at, IsAscending, IsHeld, SoundNeighbourhood, IsSoundLink, IsSoundNeighbour, two_hop_equiv, admit_on, rule_of, live_from, contains_at, same_some, cond_none_some, none_not}
 use Rattle.mesh_nhdp.proofs.Admitted.{FollowsQuality, IsAlike, admitted_follows, follows_alike, admit_from, admit_stays}
 use Rattle.mesh_nhdp.proofs.Limits.{no_more}
-use Rattle.mesh_hello.proofs.Lookups.{live_from}
 use Rattle.mesh_links.proofs.Admitted.{addrs-admitted}
-use Rattle.mesh_atoms.proofs.Lists.{contains_at}
-use Rattle.mesh_atoms.proofs.Options.{same_some, cond_none_some, none_not}
 
 -- Links
 

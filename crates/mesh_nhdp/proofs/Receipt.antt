@@ -1,28 +1,6 @@
 -- The taking of a HELLO, as the calls on the fields of a neighbourhood leave them.
-use Rattle.std.proofs.Common.{◌≡◌, ℕ, ◌+◌, ◌<◌, ◌⊎◌, ◌↔◌, refl, sym, ◌∙◌, ap, subst, List, length, Contains, None}
-use Rattle.std.specs.Prelude.{Bool, true, false}
-use Rattle.std.proofs.lemmas.Bool.{false≢true}
-use Rattle.mesh_atoms.specs.declared.addr.Addr4.{Addr4}
-use Rattle.mesh_atoms.specs.declared.hello.Hello.{Hello}
-use Rattle.mesh_atoms.specs.declared.tuples.LinkKey.{LinkKey}
-use Rattle.mesh_atoms.specs.declared.tuples.TwoHopKey.{TwoHopKey}
-use Rattle.mesh_atoms.specs.declared.tuples.TwoHop.{TwoHop}
-use Rattle.mesh_atoms.specs.declared.tuples.Neighbour.{Neighbour}
-use Rattle.mesh_atoms.specs.declared.tuples.Lost.{Lost}
-use Rattle.mesh_atoms.specs.declared.admit.Admit.{Admit}
-use Rattle.mesh_atoms.specs.declared.settings.RouterSettings.{RouterSettings}
-use Rattle.mesh_atoms.specs.Base.{Base, base_of, find, two_hop_eq}
-use Rattle.mesh_atoms.specs.State.{Neighbourhood, HasAddress}
-use Rattle.mesh_atoms.specs.Quality.{rule_of}
-use Rattle.mesh_atoms.specs.HelloTold.{Told, Tells}
-use Rattle.mesh_atoms.specs.AfterHello.{AfterHello}
-use Rattle.mesh_atoms.specs.TakesHello.{IsFault}
-use Rattle.mesh_atoms.specs.Sound.{SoundNeighbourhood}
-use Rattle.mesh_nbrs.specs.Neighbours.{Replaces}
-use Rattle.mesh_nhdp.specs.Calls.{key_at}
-use Rattle.mesh_nhdp.specs.Follows.{FollowsLinksOf, RenewsNeighbour}
+use Rattle.mesh_nhdp.proofs.Common.{◌≡◌, ℕ, ◌+◌, ◌<◌, ◌⊎◌, ◌↔◌, refl, sym, ◌∙◌, ap, subst, List, length, Contains, None, Bool, true, false, false≢true, Addr4, Hello, LinkKey, TwoHopKey, TwoHop, Neighbour, Lost, Admit, RouterSettings, Base, base_of, find, two_hop_eq, Neighbourhood, HasAddress, rule_of, Told, Tells, AfterHello, IsFault, SoundNeighbourhood, Replaces, key_at, FollowsLinksOf, RenewsNeighbour, IsSpokenAddress, IsSymmetricSpokenAddress}
 use Rattle.mesh_nhdp.specs.Hearings.{HearsInterfaces, HearsLinks}
-use Rattle.mesh_nhdp.specs.Wanted.{IsSpokenAddress, IsSymmetricSpokenAddress}
 use Rattle.mesh_nhdp.proofs.Hears.{hears_is}
 use Rattle.mesh_nhdp.proofs.Whole.{Starts, Goes_on, Anew}
 

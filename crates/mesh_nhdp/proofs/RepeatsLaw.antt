@@ -1,36 +1,10 @@
 -- A HELLO that repeats what is held already changes nothing but moments.
-use Rattle.std.proofs.Common.{◌≡◌, ℕ, ◌+◌, ◌<◌, ◌≢◌, ◌⊎◌, ◌↔◌, inl, inr, refl, sym, ◌∙◌, ap, subst, arith, List, Contains, Option, Some, None, IsTrue}
-use Rattle.std.specs.Prelude.{Bool, true, false, cond, nat_lt, ◌&&◌, option_map}
-use Rattle.std.proofs.lemmas.Bool.{false≢true, lt-ltb, ltb-true, cases_eq}
-use Rattle.mesh_atoms.specs.declared.addr.Addr4.{Addr4}
-use Rattle.mesh_atoms.specs.declared.codes.metric.Metric.{Metric}
-use Rattle.mesh_atoms.specs.declared.hello.Hello.{Hello}
-use Rattle.mesh_atoms.specs.declared.hello.LinkStatus.{LinkStatus}
-use Rattle.mesh_atoms.specs.declared.hello.LinkStatus.TheVariants.{Lost as Down, Symmetric, Heard}
-use Rattle.mesh_atoms.specs.declared.hello.Shown.{Shown}
-use Rattle.mesh_atoms.specs.declared.admit.Admit.{Admit}
-use Rattle.mesh_atoms.specs.declared.settings.RouterSettings.{RouterSettings}
-use Rattle.mesh_atoms.specs.declared.tuples.Link.{Link}
-use Rattle.mesh_atoms.specs.declared.tuples.LinkKey.{LinkKey}
-use Rattle.mesh_atoms.specs.declared.tuples.Neighbour.{Neighbour}
-use Rattle.mesh_atoms.specs.declared.tuples.TwoHop.{TwoHop}
-use Rattle.mesh_atoms.specs.declared.tuples.TwoHopKey.{TwoHopKey}
-use Rattle.mesh_atoms.specs.Base.{base_of, addr_eq, two_hop_eq}
-use Rattle.mesh_atoms.specs.State.{Neighbourhood, is_symmetric, link_at, two_hop_at, neighbour_at, HasAddress}
-use Rattle.mesh_atoms.specs.Live.{trimmed, is_symmetric_at, is_symmetric_entry, HasSymmetricOf, IsByLinks, Restores}
-use Rattle.mesh_atoms.specs.Sound.{SoundNeighbourhood}
-use Rattle.mesh_atoms.specs.Words.{IsKept}
-use Rattle.mesh_atoms.specs.HelloTold.{Told, tells_symmetric, two_hop_of}
-use Rattle.mesh_atoms.specs.AfterHello.{AfterHello, LinkKeptOrMade, Stood, Made, renewed, by_status, GoesOn, Matches, announced, BecomesOther, Joins, Remains, StoodOn, Same_link, New_link, TellsTwoHop, By_row, By_none}
-use Rattle.mesh_nbrs.specs.Same.{SameTuples, way_at, SameNear}
-use Rattle.mesh_hello.proofs.Lookups.{same_key}
-use Rattle.mesh_nhdp.specs.Repeats.{RepeatsStatus, RepeatsRow, RepeatsRows, Repeats}
+use Rattle.mesh_nhdp.proofs.Common.{◌≡◌, ℕ, ◌+◌, ◌<◌, ◌≢◌, ◌⊎◌, ◌↔◌, inl, inr, refl, sym, ◌∙◌, ap, subst, arith, List, Contains, Option, Some, None, IsTrue, Bool, true, false, cond, nat_lt, ◌&&◌, option_map, false≢true, lt-ltb, ltb-true, cases_eq, Addr4, Metric, Hello, LinkStatus, Symmetric, Heard, Shown, Admit, RouterSettings, Link, LinkKey, Neighbour, TwoHop, TwoHopKey, base_of, addr_eq, two_hop_eq, Neighbourhood, is_symmetric, link_at, two_hop_at, neighbour_at, HasAddress, trimmed, is_symmetric_at, is_symmetric_entry, HasSymmetricOf, IsByLinks, Restores, SoundNeighbourhood, IsKept, Told, tells_symmetric, two_hop_of, AfterHello, LinkKeptOrMade, Stood, Made, renewed, by_status, GoesOn, Matches, announced, BecomesOther, Joins, Remains, StoodOn, Same_link, New_link, TellsTwoHop, By_row, By_none, SameTuples, way_at, SameNear, same_key, RepeatsStatus, RepeatsRow, RepeatsRows, Repeats, same_some, none_not, same_address}
+use Rattle.mesh_atoms.specs.declared.hello.LinkStatus.TheVariants.{Lost as Down}
 use Rattle.mesh_nhdp.proofs.LiveSound.{restores_to}
 use Rattle.mesh_nhdp.proofs.RowWalks.{looks_on}
 use Rattle.mesh_nhdp.proofs.RowsRepeat.{row_value}
 use Rattle.mesh_nhdp.proofs.Touched.{and_same}
-use Rattle.mesh_atoms.proofs.Options.{same_some, none_not}
-use Rattle.mesh_atoms.proofs.Values.{same_address}
 use Rattle.mesh_atoms.proofs.Equal.{least_only, same_neighbour}
 
 -- What is the only one

@@ -1,25 +1,7 @@
 -- A walk over the rows of a HELLO.
-use Rattle.std.proofs.Common.{◌≡◌, ℕ, ◌+◌, ◌↔◌, inl, inr, refl, sym, ◌∙◌, ap, subst, List, length, Contains, slice_get, Option, Some, IsTrue}
-use Rattle.std.specs.Prelude.{Bool, true, false, ◌≢◌}
-use Rattle.mesh_atoms.specs.declared.addr.Addr4.{Addr4}
-use Rattle.mesh_atoms.specs.declared.addr.NetAddr.{NetAddr}
-use Rattle.mesh_atoms.specs.declared.hello.Hello.{Hello}
-use Rattle.mesh_atoms.specs.declared.hello.HelloRow.{HelloRow}
-use Rattle.mesh_atoms.specs.declared.tuples.LinkKey.{LinkKey}
-use Rattle.mesh_atoms.specs.declared.tuples.TwoHopKey.{TwoHopKey}
-use Rattle.mesh_atoms.specs.declared.tuples.TwoHop.{TwoHop}
-use Rattle.mesh_atoms.specs.declared.settings.RouterSettings.{RouterSettings}
-use Rattle.mesh_atoms.specs.Base.{Base, find, host, two_hop_eq}
-use Rattle.mesh_atoms.specs.State.{HasAddress}
-use Rattle.mesh_atoms.specs.HelloTold.{Told, LooksAt, tells_symmetric}
-use Rattle.mesh_atoms.specs.AfterHello.{TellsTwoHop, By_row, By_none, row_makes}
-use Rattle.mesh_atoms.proofs.Lookups.{two_hop_equiv, same_two_hop}
+use Rattle.mesh_nhdp.proofs.Common.{◌≡◌, ℕ, ◌+◌, ◌↔◌, inl, inr, refl, sym, ◌∙◌, ap, subst, List, length, Contains, slice_get, Option, Some, IsTrue, Bool, true, false, ◌≢◌, Addr4, NetAddr, Hello, HelloRow, LinkKey, TwoHopKey, TwoHop, RouterSettings, Base, find, host, two_hop_eq, HasAddress, Told, LooksAt, tells_symmetric, TellsTwoHop, By_row, By_none, row_makes, two_hop_equiv, same_two_hop, LooksOn, RowTells, Looked, Passed, TellsSymmetric, SomeBelow, below_here, below_later, below_cases, below_contains, same_address, cond_true as on_true}
 use Rattle.mesh_atoms.proofs.Nets.{same_net}
-use Rattle.mesh_nhdp.specs.Rows.{LooksOn, RowTells, Looked, Passed, TellsSymmetric}
-use Rattle.mesh_hello.proofs.Collect.{SomeBelow, below_here, below_later, below_cases, below_contains}
 use Rattle.mesh_nhdp.proofs.TwoHops.{on_false}
-use Rattle.mesh_atoms.proofs.Values.{same_address}
-use Rattle.mesh_atoms.proofs.Options.{cond_true as on_true}
 
 -- what the rows below a place tell of an address
 pub data RowsTell (own listed : List Addr4) (rows : List HelloRow) (n until : ℕ) (a : Addr4) (stood new : Option (TwoHop × ℕ)) : Type 0 where

@@ -1,25 +1,5 @@
 -- Rows of a HELLO that repeat what is held of a link.
-use Rattle.std.proofs.Common.{◌≡◌, ℕ, ◌+◌, inl, inr, refl, sym, ◌∙◌, ap, subst, List, length, Contains, slice_get, Option, Some, None, IsTrue}
-use Rattle.std.specs.Prelude.{Bool, true, false, cond, ◌&&◌, not, option_map}
-use Rattle.std.proofs.lemmas.Bool.{false≢true}
-use Rattle.mesh_atoms.specs.declared.addr.Addr4.{Addr4}
-use Rattle.mesh_atoms.specs.declared.hello.Hello.{Hello}
-use Rattle.mesh_atoms.specs.declared.hello.HelloRow.{HelloRow}
-use Rattle.mesh_atoms.specs.declared.tuples.Link.{Link}
-use Rattle.mesh_atoms.specs.declared.tuples.LinkKey.{LinkKey}
-use Rattle.mesh_atoms.specs.declared.tuples.TwoHopKey.{TwoHopKey}
-use Rattle.mesh_atoms.specs.declared.tuples.TwoHop.{TwoHop}
-use Rattle.mesh_atoms.specs.Base.{Base, find, SetsOnly, two_hop_eq}
-use Rattle.mesh_atoms.specs.HelloTold.{tells_symmetric, two_hop_of}
-use Rattle.mesh_atoms.specs.AfterHello.{row_makes}
-use Rattle.mesh_atoms.specs.Words.{IsKept}
-use Rattle.mesh_atoms.proofs.Lookups.{same_two_hop}
-use Rattle.mesh_atoms.proofs.Options.{cond_true as on_true}
-use Rattle.mesh_nbrs.specs.Same.{SameTuples}
-use Rattle.mesh_nhdp.specs.Calls.{DropsEnded, is_symmetric_in}
-use Rattle.mesh_nhdp.specs.Repeats.{RepeatsRow, RepeatsRows}
-use Rattle.mesh_nhdp.specs.Rows.{LooksOn, RowTells, Looked, Passed}
-use Rattle.mesh_hello.proofs.Collect.{SomeBelow, below_cases, below_contains}
+use Rattle.mesh_nhdp.proofs.Common.{◌≡◌, ℕ, ◌+◌, inl, inr, refl, sym, ◌∙◌, ap, subst, List, length, Contains, slice_get, Option, Some, None, IsTrue, Bool, true, false, cond, ◌&&◌, not, option_map, false≢true, Addr4, Hello, HelloRow, Link, LinkKey, TwoHopKey, TwoHop, Base, find, SetsOnly, two_hop_eq, tells_symmetric, two_hop_of, row_makes, IsKept, same_two_hop, cond_true as on_true, SameTuples, DropsEnded, is_symmetric_in, RepeatsRow, RepeatsRows, LooksOn, RowTells, Looked, Passed, SomeBelow, below_cases, below_contains}
 use Rattle.mesh_nhdp.proofs.TwoHops.{on_false}
 
 pub both_true : (a b : Bool) → IsTrue (a && b) → IsTrue a × IsTrue b

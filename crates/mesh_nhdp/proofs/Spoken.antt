@@ -1,16 +1,7 @@
 -- Addresses of the neighbours that a HELLO speaks of.
-use Rattle.std.proofs.Common.{◌≡◌, ℕ, ◌↔◌, ap, subst, List, Contains, Some, None}
-use Rattle.mesh_atoms.specs.declared.addr.Addr4.{Addr4}
-use Rattle.mesh_atoms.specs.declared.tuples.Neighbour.{Neighbour}
-use Rattle.mesh_atoms.specs.Base.{Base, find, addr_eq}
-use Rattle.mesh_atoms.specs.AfterHello.{Matches}
-use Rattle.mesh_nbrs.specs.Neighbours.{IsSpokenOf}
-use Rattle.mesh_hello.specs.Gathers.{Gathers}
-use Rattle.mesh_hello.proofs.Collect.{adds_so, adds_nothing}
+use Rattle.mesh_nhdp.proofs.Common.{◌≡◌, ℕ, ◌↔◌, ap, subst, List, Contains, Some, None, Addr4, Neighbour, Base, find, addr_eq, Matches, IsSpokenOf, Gathers, adds_so, adds_nothing, Each, IsWanted, IsWantedAt, IsSpokenAddress, IsSymmetricSpokenAddress, same_some, none_not}
 use Rattle.mesh_nhdp.specs.declared.near_addresses.WantedNeighbours.{WantedNeighbours}
-use Rattle.mesh_nhdp.specs.declared.near_addresses.WantedNeighbours.TheVariants.{Each, Symmetric}
-use Rattle.mesh_nhdp.specs.Wanted.{IsWanted, IsWantedAt, IsSpokenAddress, IsSymmetricSpokenAddress}
-use Rattle.mesh_atoms.proofs.Options.{same_some, none_not}
+use Rattle.mesh_nhdp.specs.declared.near_addresses.WantedNeighbours.TheVariants.{Symmetric}
 
 -- what is added of the neighbour that is found
 pub adds_found : (base : Base Addr4 Neighbour) (wanted : WantedNeighbours) (o : Addr4) (n : Neighbour) (until : ℕ) (old new : List Addr4) → find addr_eq base o ≡ Some (n, until) →

@@ -1,18 +1,5 @@
 -- Whether an address is a symmetric neighbour's.
-use Rattle.std.proofs.Common.{◌≡◌, ℕ, ◌⊎◌, inl, inr, refl, sym, ◌∙◌, subst, Contains, Decides}
-use Rattle.std.specs.Prelude.{Bool, true, false, ◌&&◌}
-use Rattle.std.specs.List.{list_any}
-use Rattle.std.proofs.lemmas.Bool.{false≢true}
-use Rattle.std.proofs.lemmas.Map.Entries.{place_from_lookup}
-use Rattle.std.proofs.lemmas.Map.Views.{lookup-from_Contains}
-use Rattle.mesh_atoms.specs.declared.addr.Addr4.{Addr4}
-use Rattle.mesh_atoms.specs.declared.tuples.Neighbour.{Neighbour}
-use Rattle.mesh_atoms.specs.Base.{HasDistinctKeys, addr_eq}
-use Rattle.mesh_atoms.specs.State.{Neighbourhood}
-use Rattle.mesh_atoms.specs.Live.{IsSymmetricAddress}
-use Rattle.mesh_atoms.proofs.Deciding.{Decides-some, Decides-addr, Decides-and}
-use Rattle.mesh_atoms.proofs.Lookups.{addr_equiv}
-use Rattle.mesh_atoms.proofs.Lists.{contains_at}
+use Rattle.mesh_nhdp.proofs.Common.{◌≡◌, ℕ, ◌⊎◌, inl, inr, refl, sym, ◌∙◌, subst, Contains, Decides, Bool, true, false, ◌&&◌, list_any, false≢true, place_from_lookup, lookup-from_Contains, Addr4, Neighbour, HasDistinctKeys, addr_eq, Neighbourhood, IsSymmetricAddress, Decides-some, Decides-addr, Decides-and, addr_equiv, contains_at}
 
 module _ (near : Neighbourhood) (distinct : HasDistinctKeys addr_eq near.neighbours) (a : Addr4) where
   IsOf : Addr4 × (Neighbour × ℕ) → Type 0

@@ -1,27 +1,12 @@
 -- How many rows a router advertises.
-use Rattle.std.proofs.Common.{◌≡◌, ℕ, ◌<◌, ◌≤◌, ◌⊎◌, inl, inr, refl, sym, ◌∙◌, ap, subst, arith, List, [], ◌∷◌, length, map, Contains, Bool, true, false, get_or}
-use Rattle.std.specs.Prelude.{not, AllPairs, is_some}
-use Rattle.std.specs.List.{IsDistinct, filter}
-use Rattle.std.proofs.lemmas.Bool.{false≢true}
-use Rattle.std.proofs.lemmas.List.{length-map, get_or-map}
+use Rattle.mesh_nhdp.proofs.Common.{◌≡◌, ℕ, ◌<◌, ◌≤◌, ◌⊎◌, inl, inr, refl, sym, ◌∙◌, ap, subst, arith, List, [], ◌∷◌, length, map, Contains, Bool, true, false, get_or, not, AllPairs, is_some, IsDistinct, filter, false≢true, length-map, get_or-map, IsDistinct-from_apart, Addr4, NetAddr, Metric, net_eq, SoundNeighbourhood, State, IsHeld, looks_up_neighbours, net_equiv, distinct_fits, counted, rows_ascend, neighbour_held, contains_filter_cases, contains_map, contains_map_cases}
 use Rattle.std.proofs.lemmas.List.Filters.{length-filter_both}
 use Rattle.std.proofs.lemmas.List.Kept.{AllPairs-filter}
-use Rattle.std.proofs.lemmas.Map.Keys.{IsDistinct-from_apart}
-use Rattle.mesh_atoms.specs.declared.addr.Addr4.{Addr4}
-use Rattle.mesh_atoms.specs.declared.addr.NetAddr.{NetAddr}
-use Rattle.mesh_atoms.specs.declared.codes.metric.Metric.{Metric}
 use Rattle.mesh_atoms.specs.declared.settings.Attached4.{Attached4}
 use Rattle.mesh_atoms.specs.declared.tc.TcRow.{TcRow}
 use Rattle.mesh_atoms.specs.Advertised.{AreTcRows, IsTcRow, Of_address, Of_network, GivesAsSelector}
-use Rattle.mesh_atoms.specs.Base.{net_eq}
 use Rattle.mesh_atoms.specs.Nodes.{IsBefore}
-use Rattle.mesh_atoms.specs.Sound.{SoundNeighbourhood}
-use Rattle.mesh_atoms.specs.State.{State}
-use Rattle.mesh_atoms.specs.TakesHello.{IsHeld}
-use Rattle.mesh_atoms.proofs.Lookups.{looks_up_neighbours, same_net, net_equiv}
-use Rattle.mesh_hello.proofs.Fits.{distinct_fits}
-use Rattle.mesh_hello.proofs.SayingLemmas.RowCounts.{counted, rows_ascend, neighbour_held}
-use Rattle.mesh_atoms.proofs.Lists.{contains_filter_cases, contains_map, contains_map_cases}
+use Rattle.mesh_atoms.proofs.Lookups.{same_net}
 
 -- Lists
 

@@ -1,26 +1,6 @@
 -- What a HELLO doesn't touch: the neighbours that it doesn't speak of, with their links.
-use Rattle.std.proofs.Common.{◌≡◌, ℕ, ◌≢◌, ◌⊎◌, ◌↔◌, inl, inr, refl, sym, ◌∙◌, subst, arith, List, [], Contains, Option, Some, None, IsTrue}
-use Rattle.std.specs.Prelude.{Bool, true, false, cond, ◌&&◌}
-use Rattle.mesh_atoms.specs.declared.addr.Addr4.{Addr4}
-use Rattle.mesh_atoms.specs.declared.tuples.LinkKey.{LinkKey}
-use Rattle.mesh_atoms.specs.declared.tuples.Link.{Link}
-use Rattle.mesh_atoms.specs.declared.tuples.Neighbour.{Neighbour}
-use Rattle.mesh_atoms.specs.declared.tuples.Lost.{Lost}
-use Rattle.mesh_atoms.specs.declared.settings.RouterSettings.{RouterSettings}
-use Rattle.mesh_atoms.specs.Base.{HasDistinctKeys, addr_eq}
-use Rattle.mesh_atoms.specs.State.{Neighbourhood, link_at, neighbour_at, lost_at}
-use Rattle.mesh_atoms.specs.Live.{HasLinkOf, HasSymmetricOf, IsByLinks, Restores, IsSymmetricAddress, SettlesLost, Back, Gone, Stays}
-use Rattle.mesh_atoms.specs.Words.{IsKept}
-use Rattle.mesh_atoms.specs.HelloTold.{Told}
-use Rattle.mesh_atoms.specs.AfterHello.{GoesOn, IsTheirs, Matches}
-use Rattle.mesh_atoms.specs.Sound.{SoundNeighbourhood}
-use Rattle.mesh_nhdp.specs.Wanted.{symmetric_at}
+use Rattle.mesh_nhdp.proofs.Common.{◌≡◌, ℕ, ◌≢◌, ◌⊎◌, ◌↔◌, inl, inr, refl, sym, ◌∙◌, subst, arith, List, [], Contains, Option, Some, None, IsTrue, Bool, true, false, cond, ◌&&◌, Addr4, LinkKey, Link, Neighbour, Lost, RouterSettings, HasDistinctKeys, addr_eq, Neighbourhood, link_at, neighbour_at, lost_at, HasLinkOf, HasSymmetricOf, IsByLinks, Restores, IsSymmetricAddress, SettlesLost, Back, Gone, Stays, IsKept, Told, GoesOn, IsTheirs, Matches, SoundNeighbourhood, symmetric_at, contains_at, same_some, none_not, same_address, kept_from, least_same}
 use Rattle.mesh_nhdp.proofs.SymmetricAddresses.{symmetric_or_not}
-use Rattle.mesh_atoms.proofs.Lists.{contains_at}
-use Rattle.mesh_atoms.proofs.Options.{same_some, none_not}
-use Rattle.mesh_atoms.proofs.Values.{same_address}
-use Rattle.mesh_links.proofs.Tied.{kept_from}
-use Rattle.mesh_nbrs.proofs.Summaries.{least_same}
 
 pub and_same : (a b : Bool) → (IsTrue a → IsTrue b) → a ≡ (a && b)
 and_same true b h = sym (h refl)

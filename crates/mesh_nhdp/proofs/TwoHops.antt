@@ -1,17 +1,5 @@
 -- 2-hop tuples through the ends of links.
-use Rattle.std.proofs.Common.{◌≡◌, ℕ, inl, inr, refl, sym, ◌∙◌, subst, List, Contains, Option, Some, None}
-use Rattle.std.specs.Prelude.{Bool, true, false, cond}
-use Rattle.std.proofs.lemmas.Bool.{false≢true}
-use Rattle.mesh_atoms.specs.declared.tuples.LinkKey.{LinkKey}
-use Rattle.mesh_atoms.specs.declared.tuples.TwoHopKey.{TwoHopKey}
-use Rattle.mesh_atoms.specs.declared.tuples.Link.{Link}
-use Rattle.mesh_atoms.specs.declared.tuples.TwoHop.{TwoHop}
-use Rattle.mesh_atoms.specs.Base.{Base, find, link_eq, two_hop_eq}
-use Rattle.mesh_atoms.specs.Words.{IsKept}
-use Rattle.mesh_atoms.proofs.Lookups.{same_link, link_equiv}
-use Rattle.mesh_nbrs.specs.TwoHops.TwoHops.{DropsLink}
-use Rattle.mesh_nhdp.specs.Calls.{TellsKeys, is_symmetric_in, DropsEnded}
-use Rattle.mesh_atoms.proofs.Options.{cond_true as on_true}
+use Rattle.mesh_nhdp.proofs.Common.{◌≡◌, ℕ, inl, inr, refl, sym, ◌∙◌, subst, List, Contains, Option, Some, None, Bool, true, false, cond, false≢true, LinkKey, TwoHopKey, Link, TwoHop, Base, find, link_eq, two_hop_eq, IsKept, same_link, link_equiv, DropsLink, TellsKeys, is_symmetric_in, DropsEnded, cond_true as on_true}
 
 pub link_eq_same : (a b : LinkKey) → a ≡ b → link_eq a b ≡ true
 link_eq_same a b e = subst (λ (c : LinkKey). link_eq a c ≡ true) e (link_equiv.refl a)

@@ -1,27 +1,5 @@
 -- Where nothing becomes of the links, nothing becomes of the neighbours.
-use Rattle.std.proofs.Common.{◌≡◌, ℕ, ◌+◌, ◌<◌, ◌≤◌, ◌⊎◌, ◌↔◌, inl, inr, refl, sym, ◌∙◌, ap, subst, arith, List, [], length, Option, Some, None, IsTrue}
-use Rattle.std.specs.Prelude.{Bool, true, false, cond, nat_lt, nat_eq, ◌&&◌}
-use Rattle.std.specs.List.{IsDistinct}
-use Rattle.std.specs.Cmp.{IsEquivalence}
-use Rattle.std.proofs.lemmas.List.{get_or_past}
-use Rattle.std.proofs.lemmas.Bool.{false≢true, eqb-true, and_parts as both_so}
-use Rattle.mesh_atoms.specs.declared.addr.Addr4.{Addr4}
-use Rattle.mesh_atoms.specs.declared.codes.metric.Metric.{Metric}
-use Rattle.mesh_atoms.specs.declared.tuples.LinkKey.{LinkKey}
-use Rattle.mesh_atoms.specs.declared.tuples.TwoHopKey.{TwoHopKey}
-use Rattle.mesh_atoms.specs.declared.tuples.Link.{Link}
-use Rattle.mesh_atoms.specs.declared.tuples.TwoHop.{TwoHop}
-use Rattle.mesh_atoms.specs.declared.tuples.Neighbour.{Neighbour}
-use Rattle.mesh_atoms.specs.declared.tuples.Lost.{Lost}
-use Rattle.mesh_atoms.specs.declared.settings.RouterSettings.{RouterSettings}
-use Rattle.mesh_atoms.specs.Base.{Base, HasDistinctKeys, Expires, IsFresh, find, base_of, if_live, addr_eq, link_eq, two_hop_eq}
-use Rattle.mesh_atoms.specs.Quality.{admit_on, rule_of}
-use Rattle.mesh_atoms.specs.State.{Neighbourhood, is_symmetric, link_at, two_hop_at, neighbour_at, lost_at}
-use Rattle.mesh_atoms.specs.Live.{LiveNeighbourhood, trimmed, trim, is_symmetric_entry, is_symmetric_at, HasSymmetricOf, IsByLinks, Restores, IsSymmetricAddress, SettlesLost, Back, Stays as Still}
-use Rattle.mesh_atoms.specs.Sound.{SoundNeighbourhood}
-use Rattle.mesh_atoms.proofs.Lookups.{addr_equiv, two_hop_equiv}
-use Rattle.mesh_atoms.proofs.Options.{none_not}
-use Rattle.mesh_links.specs.Links.{IsLinkUnchanged, AllStay}
+use Rattle.mesh_nhdp.proofs.Common.{◌≡◌, ℕ, ◌+◌, ◌<◌, ◌≤◌, ◌⊎◌, ◌↔◌, inl, inr, refl, sym, ◌∙◌, ap, subst, arith, List, [], length, Option, Some, None, IsTrue, Bool, true, false, cond, nat_lt, nat_eq, ◌&&◌, IsDistinct, IsEquivalence, get_or_past, false≢true, eqb-true, and_parts as both_so, Addr4, Metric, LinkKey, TwoHopKey, Link, TwoHop, Neighbour, Lost, RouterSettings, Base, HasDistinctKeys, Expires, IsFresh, find, base_of, if_live, addr_eq, link_eq, two_hop_eq, admit_on, rule_of, Neighbourhood, is_symmetric, link_at, two_hop_at, neighbour_at, lost_at, LiveNeighbourhood, trimmed, trim, is_symmetric_entry, is_symmetric_at, HasSymmetricOf, IsByLinks, Restores, IsSymmetricAddress, SettlesLost, Back, Stays as Still, SoundNeighbourhood, addr_equiv, two_hop_equiv, none_not, IsLinkUnchanged, AllStay, live_from, least_same}
 use Rattle.mesh_nhdp.specs.Staying.{LinksStay, AllIsAsItWas, ExpiresBeside}
 use Rattle.mesh_nhdp.proofs.Bases.{base_cases}
 use Rattle.mesh_nhdp.proofs.BesideWalk.{some_gone}
@@ -29,8 +7,6 @@ use Rattle.mesh_nhdp.proofs.Limits.{no_more}
 use Rattle.mesh_nhdp.proofs.LiveSound.{live_sound}
 use Rattle.mesh_nhdp.proofs.SymmetricAddresses.{symmetric_or_not}
 use Rattle.mesh_nhdp.proofs.Touched.{and_same}
-use Rattle.mesh_hello.proofs.Lookups.{live_from}
-use Rattle.mesh_nbrs.proofs.Summaries.{least_same}
 
 -- A link of which nothing becomes
 

@@ -1,35 +1,8 @@
 -- Expiry and the taking of a HELLO as runs of the sets' calls.
-use Rattle.std.proofs.Common.{◌≡◌, ℕ, ◌+◌, ◌≢◌, ◌⊎◌, ◌↔◌, inl, inr, refl, sym, ◌∙◌, ap, subst, List, length, Contains, Option, Some, None}
-use Rattle.std.specs.Prelude.{true, false, cond, option_map}
-use Rattle.std.proofs.lemmas.Bool.{false≢true, cases_eq}
-use Rattle.mesh_atoms.specs.declared.addr.Addr4.{Addr4}
-use Rattle.mesh_atoms.specs.declared.tuples.LinkKey.{LinkKey}
-use Rattle.mesh_atoms.specs.declared.tuples.TwoHopKey.{TwoHopKey}
-use Rattle.mesh_atoms.specs.declared.tuples.Link.{Link}
-use Rattle.mesh_atoms.specs.declared.tuples.TwoHop.{TwoHop}
-use Rattle.mesh_atoms.specs.declared.tuples.Neighbour.{Neighbour}
-use Rattle.mesh_atoms.specs.declared.tuples.Lost.{Lost}
-use Rattle.mesh_atoms.specs.declared.hello.Hello.{Hello}
-use Rattle.mesh_atoms.specs.declared.settings.RouterSettings.{RouterSettings}
-use Rattle.mesh_atoms.specs.Base.{Base, find, base_of, if_live, Expires, Same, addr_eq, two_hop_eq}
-use Rattle.mesh_atoms.specs.State.{Neighbourhood, link_at, two_hop_at, neighbour_at, lost_at}
-use Rattle.mesh_atoms.specs.Live.{LiveNeighbourhood, IsSymmetricAddress, SettlesLost, is_symmetric_at, is_symmetric_entry, trim, HasTables}
-use Rattle.mesh_atoms.specs.Quality.{admitted, admit_on, rule_of}
-use Rattle.mesh_atoms.specs.HelloTold.{Told}
-use Rattle.mesh_atoms.specs.AfterHello.{AfterHello, GoesOn, IsTheirs, Matches, LinkKeptOrMade, renewed, StoodOn, Same_link, New_link}
-use Rattle.mesh_atoms.specs.Words.{IsKept}
-use Rattle.mesh_atoms.specs.Sound.{SoundNeighbourhood}
-use Rattle.mesh_links.specs.Links.{AdmitsLinks, ExpiresLinks, EndsOutside, HearsOn}
-use Rattle.mesh_nbrs.specs.Neighbours.{Replaces}
-use Rattle.mesh_nbrs.specs.TwoHops.TwoHops.{DropsLink}
-use Rattle.mesh_nhdp.specs.Calls.{key_at, TellsKeys, DropsEnded, TellsTwoHops}
-use Rattle.mesh_nhdp.specs.Follows.{FollowsLinks, FollowsLinksOf}
-use Rattle.mesh_hello.proofs.Lookups.{live_from}
+use Rattle.mesh_nhdp.proofs.Common.{◌≡◌, ℕ, ◌+◌, ◌≢◌, ◌⊎◌, ◌↔◌, inl, inr, refl, sym, ◌∙◌, ap, subst, List, length, Contains, Option, Some, None, true, false, cond, option_map, false≢true, cases_eq, Addr4, LinkKey, TwoHopKey, Link, TwoHop, Neighbour, Lost, Hello, RouterSettings, Base, find, base_of, if_live, Expires, Same, addr_eq, two_hop_eq, Neighbourhood, link_at, two_hop_at, neighbour_at, lost_at, LiveNeighbourhood, IsSymmetricAddress, SettlesLost, is_symmetric_at, is_symmetric_entry, trim, HasTables, admitted, admit_on, rule_of, Told, AfterHello, GoesOn, IsTheirs, Matches, LinkKeptOrMade, renewed, StoodOn, Same_link, New_link, IsKept, SoundNeighbourhood, AdmitsLinks, ExpiresLinks, EndsOutside, HearsOn, Replaces, DropsLink, key_at, TellsKeys, DropsEnded, TellsTwoHops, FollowsLinks, FollowsLinksOf, live_from, same_some, cond_true as on_true, contains_or_not}
 use Rattle.mesh_nhdp.proofs.Composes.{restores_by, restores_of, settles_by, goes_on_elsewhere, goes_on_here, hears_link, replaced_one, replaced_other}
 use Rattle.mesh_nhdp.proofs.Touched.{IsTheirSymmetric, rests, untouched, settles}
 use Rattle.mesh_nhdp.proofs.TwoHops.{dropped_here, dropped_elsewhere, left_by_ends, left_by_keys, on_false}
-use Rattle.mesh_atoms.proofs.Options.{same_some, cond_true as on_true}
-use Rattle.mesh_atoms.proofs.Values.{contains_or_not}
 
 entry_there : (now : ℕ) (o : Option (Link × ℕ)) → is_symmetric_entry now o ≡ true → (e : Link × ℕ) × (o ≡ Some e)
 entry_there now None h = absurd (false≢true h)

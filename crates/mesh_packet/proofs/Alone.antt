@@ -1,11 +1,6 @@
 -- Packets of one message alone.
-use Rattle.std.proofs.Common.{◌≡◌, ℕ, arith, List, [], ◌∷◌, ◌++◌, length}
-use Rattle.std.proofs.lemmas.Grind.{common_steps}
-use Rattle.std.proofs.lemmas.List.{append-nil}
-use Rattle.mesh_packet.specs.Fields.{MessageFields}
-use Rattle.mesh_packet.specs.Grammar.{SpellsMessage}
+use Rattle.mesh_packet.proofs.Common.{◌≡◌, ℕ, arith, List, [], ◌∷◌, ◌++◌, length, common_steps, append-nil, MessageFields, SpellsMessage, heads_equal, tails_equal}
 use Rattle.mesh_packet.specs.Laws.{SpellsAlone}
-use Rattle.mesh_atoms.proofs.Lists.{heads_equal, tails_equal}
 
 -- a message behind the octet 0 is a packet of it alone
 pub behind_zero : (m : MessageFields) (octets : List ℕ) → SpellsMessage m octets → SpellsAlone m (record { start = 1; len = length octets }) (0 ∷ octets)

@@ -1,19 +1,5 @@
 -- What stands in a message behind its size: read, spelled and refused as its parts are.
-use Rattle.std.proofs.Common.{◌≡◌, ℕ, ◌+◌, ◌-◌, ◌≤◌, List, [], ◌++◌, length, Ok, refl, sym, ap, subst, ◌∙◌, arith, append_assoc}
-use Rattle.std.specs.Prelude.{MatchResult, slice_range}
-use Rattle.std.proofs.lemmas.List.{append-nil}
-use Rattle.mesh_atoms.specs.declared.refusal.Refusal.{Refusal}
-use Rattle.mesh_atoms.specs.Reading.{Reading, refuse}
-use Rattle.mesh_atoms.proofs.Reading.{meets_bind, Takes, takes_range, Stands, stands_first, stands_next, behind}
-use Rattle.mesh_tlv.specs.Items.{SpellsItems, ItemsFault, FirstFaultAt, items_at}
-use Rattle.mesh_tlv.specs.Grammar.{SpellsTlv, TlvBlockFault, TlvFault}
-use Rattle.mesh_tlv.specs.Reading.{tlv_at, block_at}
-use Rattle.mesh_tlv.proofs.Items.{items_take, items_again, items_fault}
-use Rattle.mesh_tlv.proofs.Blocks.{block_takes, block_again, block_refuses}
-use Rattle.mesh_tlv.proofs.Tlvs.{tlv_reader}
-use Rattle.mesh_packet.specs.Fields.{MessageFields}
-use Rattle.mesh_packet.specs.Grammar.{SpellsPair, SpellsBody, PairFault, BodyFault, in_head, in_tlvs, in_blocks, width_of, head_size}
-use Rattle.mesh_packet.specs.Reading.{head_at, pair_at, body_at}
+use Rattle.mesh_packet.proofs.Common.{◌≡◌, ℕ, ◌+◌, ◌-◌, ◌≤◌, List, [], ◌++◌, length, Ok, refl, sym, ap, subst, ◌∙◌, arith, append_assoc, MatchResult, slice_range, append-nil, Refusal, Reading, refuse, meets_bind, Takes, takes_range, Stands, stands_first, stands_next, behind, SpellsItems, ItemsFault, FirstFaultAt, items_at, SpellsTlv, TlvBlockFault, TlvFault, tlv_at, block_at, items_take, items_again, items_fault, block_takes, block_again, block_refuses, tlv_reader, MessageFields, SpellsPair, SpellsBody, PairFault, BodyFault, in_head, in_tlvs, in_blocks, width_of, head_size, head_at, pair_at, body_at}
 use Rattle.mesh_packet.proofs.Fields.{Took}
 use Rattle.mesh_packet.proofs.Heads.{SpellsOpening, IsHeadCut, head_takes, head_again, head_long}
 use Rattle.mesh_packet.proofs.HeadCuts.{head_cut_again, head_some}

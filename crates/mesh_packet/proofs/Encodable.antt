@@ -1,21 +1,8 @@
 -- What octets spell can be encoded.
-use Rattle.std.proofs.Common.{◌≡◌, ℕ, ◌+◌, ◌-◌, ◌<◌, ◌≤◌, Bool, true, false, List, [], ◌∷◌, ◌++◌, length, get_or, Option, Some, None, refl, sym, subst, arith}
-use Rattle.std.proofs.lemmas.Grind.{common_steps}
-use Rattle.std.specs.Prelude.{All, slice_range}
-use Rattle.std.proofs.lemmas.List.{take_all, take_at, get_or_append_left, get_or-append-add, get_or_past}
-use Rattle.std.proofs.lemmas.List.Elements.{All-nil, All-cons}
-use Rattle.std.proofs.lemmas.Bool.{ltb-true, ltb-false}
-use Rattle.std.proofs.Common.{ltb}
-use Rattle.mesh_atoms.specs.Reading.{has}
-use Rattle.mesh_addr.specs.declared.records.RawAddr.{RawAddr}
+use Rattle.mesh_packet.proofs.Common.{◌≡◌, ℕ, ◌+◌, ◌-◌, ◌<◌, ◌≤◌, Bool, true, false, List, [], ◌∷◌, ◌++◌, length, get_or, Option, Some, None, refl, sym, subst, arith, common_steps, All, slice_range, take_all, take_at, get_or_append_left, get_or-append-add, get_or_past, All-nil, All-cons, ltb-true, ltb-false, ltb, has, RawAddr, SpellsItems, Span, BlockFields, MessageFields, PacketFields, SpellsOriginator, SpellsPair, SpellsBody, SpellsMessage, SpellsMessages, Spells, width_of, IsPaddedOriginator, IsEncodableBlock, IsEncodableMessage, IsEncodable}
 use Rattle.mesh_addr.specs.Grammar as addresses
 use Rattle.mesh_addr.proofs.Writable.{spelled_writable}
-use Rattle.mesh_tlv.specs.Items.{SpellsItems}
 use Rattle.mesh_tlv.proofs.Fit.{all_fit}
-use Rattle.mesh_packet.specs.declared.packet.Span.{Span}
-use Rattle.mesh_packet.specs.Fields.{BlockFields, MessageFields, PacketFields}
-use Rattle.mesh_packet.specs.Grammar.{SpellsOriginator, SpellsPair, SpellsBody, SpellsMessage, SpellsMessages, Spells, width_of}
-use Rattle.mesh_packet.specs.Least.{IsPaddedOriginator, IsEncodableBlock, IsEncodableMessage, IsEncodable}
 
 -- each is below 256
 abbrev pub AreOctets : List ℕ → Type 0

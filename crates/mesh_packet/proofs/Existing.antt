@@ -1,12 +1,5 @@
 -- Each packet that can be encoded has a least form.
-use Rattle.std.proofs.Common.{ℕ, ◌++◌, ◌+◌, List, [], ◌∷◌, length, refl, sym, subst}
-use Rattle.std.specs.Prelude.{All}
-use Rattle.std.proofs.lemmas.List.Elements.{All-head, All-tail}
-use Rattle.mesh_addr.specs.Least.{IsLeast}
-use Rattle.mesh_tlv.specs.Items.{SpellsItems}
-use Rattle.mesh_tlv.specs.Least.{least_short, least_tlv, least_addr_tlv, least_block}
-use Rattle.mesh_packet.specs.Fields.{BlockFields, MessageFields, PacketFields}
-use Rattle.mesh_packet.specs.Least.{IsEncodableBlock, IsEncodableMessage, IsEncodable, least_head, least_number, least_header_tlvs, message_flags, packet_flags, LeastPair, LeastMessage, LeastForm}
+use Rattle.mesh_packet.proofs.Common.{ℕ, ◌++◌, ◌+◌, List, [], ◌∷◌, length, refl, sym, subst, All, All-head, All-tail, IsLeast, SpellsItems, least_short, least_tlv, least_addr_tlv, least_block, BlockFields, MessageFields, PacketFields, IsEncodableBlock, IsEncodableMessage, IsEncodable, least_head, least_number, least_header_tlvs, message_flags, packet_flags, LeastPair, LeastMessage, LeastForm}
 use Rattle.mesh_packet.proofs.LeastBlocks.{least_exists}
 
 items_exist : {A : Type 0} (P : A → Type 0) (Least : A → List ℕ → Type 0) → ((x : A) → P x → (text : List ℕ) × Least x text) → (xs : List A) → All P xs → (text : List ℕ) × SpellsItems Least xs text

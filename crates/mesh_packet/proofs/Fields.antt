@@ -1,16 +1,5 @@
 -- The fields of a fixed size that a flag says are there: read, spelled and cut off.
-use Rattle.std.proofs.Common.{◌≡◌, ℕ, ◌+◌, ◌*◌, ◌<◌, ◌≤◌, Bool, true, false, List, [], ◌∷◌, length, Option, Some, None, Ok, refl, sym, ap, subst, ◌∙◌, arith}
-use Rattle.std.specs.Prelude.{MatchResult, slice_range}
-use Rattle.std.proofs.lemmas.Result.{MatchResult-weaker}
-use Rattle.mesh_atoms.specs.declared.refusal.Refusal.{Refusal}
-use Rattle.mesh_atoms.specs.Grammar.{SpellsShort}
-use Rattle.mesh_atoms.specs.Reading.{Reading, refuse, octet_at, short_at, piece_at}
-use Rattle.mesh_atoms.proofs.Reading.{meets_bind, Takes, takes_none, Stands, octet_takes, octet_again, octet_cut, short_takes, short_again, short_cut, two_long, piece_takes, piece_again, piece_cut}
-use Rattle.mesh_atoms.proofs.Lists.{single_of}
-use Rattle.mesh_addr.specs.declared.records.RawAddr.{RawAddr}
-use Rattle.mesh_addr.specs.Grammar.{padded}
-use Rattle.mesh_packet.specs.Grammar.{SpellsIf, SpellsOctet, SpellsNumber, SpellsAddress, SpellsOriginator, size_if}
-use Rattle.mesh_packet.specs.Reading.{if_flagged, octet_if, short_if, address_at, originator_if}
+use Rattle.mesh_packet.proofs.Common.{◌≡◌, ℕ, ◌+◌, ◌*◌, ◌<◌, ◌≤◌, Bool, true, false, List, [], ◌∷◌, length, Option, Some, None, Ok, refl, sym, ap, subst, ◌∙◌, arith, MatchResult, slice_range, MatchResult-weaker, Refusal, SpellsShort, Reading, refuse, octet_at, short_at, piece_at, meets_bind, Takes, takes_none, Stands, octet_takes, octet_again, octet_cut, short_takes, short_again, short_cut, two_long, piece_takes, piece_again, piece_cut, single_of, RawAddr, padded, SpellsIf, SpellsOctet, SpellsNumber, SpellsAddress, SpellsOriginator, size_if, if_flagged, octet_if, short_if, address_at, originator_if}
 
 -- the fault of a field that is cut off
 abbrev pub IsCut : List ℕ → ℕ → ℕ → ℕ → Refusal → Type 0

@@ -1,9 +1,6 @@
 -- Each flag and the width are told from the sum that is written, by trying all sums.
-use Rattle.std.proofs.Common.{◌≡◌, ℕ, zero, suc, ◌+◌, ◌%◌, ◌<◌, ◌≤◌, Bool, true, false, ◌&&◌, eqb, refl, sym, subst, arith}
-use Rattle.std.proofs.lemmas.Bool.{and_parts, eqb-true, eqb-false}
-use Rattle.mesh_atoms.specs.Reading.{has}
+use Rattle.mesh_packet.proofs.Common.{◌≡◌, ℕ, zero, suc, ◌+◌, ◌%◌, ◌<◌, ◌≤◌, Bool, true, false, ◌&&◌, eqb, refl, sym, subst, arith, and_parts, eqb-true, eqb-false, has, flag}
 use Rattle.mesh_tlv.proofs.Trying.{both, both_is, same, same_is}
-use Rattle.mesh_tlv.specs.Least.{flag}
 
 -- of all numbers below
 abbrev below : ℕ → (ℕ → Bool) → Bool

@@ -1,8 +1,5 @@
 -- The place behind what is read where it is flagged.
-use Rattle.std.proofs.Common.{◌≡◌, ℕ, ◌+◌, ◌≤◌, Bool, true, false, Option, Ok, Err, sym, subst, ◌∙◌, arith}
-use Rattle.std.specs.Prelude.{IfOk}
-use Rattle.mesh_atoms.specs.Reading.{Reading}
-use Rattle.mesh_packet.specs.Reading.{if_flagged}
+use Rattle.mesh_packet.proofs.Common.{◌≡◌, ℕ, ◌+◌, ◌≤◌, Bool, true, false, Option, Ok, Err, sym, subst, ◌∙◌, arith, IfOk, Reading, if_flagged}
 
 -- in a range
 abbrev pub Within : ℕ → ℕ → ℕ → Type 0

@@ -1,14 +1,5 @@
 -- Where a message's head is cut off it is refused there, and octets of its size always are one.
-use Rattle.std.proofs.Common.{◌≡◌, ℕ, ◌+◌, ◌-◌, ◌≤◌, List, ◌++◌, length, take, drop, Option, Ok, refl, sym, ap, subst, ◌∙◌, arith}
-use Rattle.std.proofs.lemmas.Grind.{common_steps}
-use Rattle.std.specs.Prelude.{slice_range}
-use Rattle.std.proofs.lemmas.List.{length-take, length-drop, take-append-drop}
-use Rattle.mesh_atoms.specs.Reading.{Reading, refuse, has}
-use Rattle.mesh_atoms.proofs.Reading.{Stands, behind, range_length}
-use Rattle.mesh_addr.specs.declared.records.RawAddr.{RawAddr}
-use Rattle.mesh_packet.specs.declared.read.MessageHeader.{MessageHeader}
-use Rattle.mesh_packet.specs.Grammar.{SpellsMessageHead, HeadCut, originator_cut, limit_cut, count_cut, sequence_cut, width_of, originator_size, limit_size, count_size, head_size}
-use Rattle.mesh_packet.specs.Reading.{head_at}
+use Rattle.mesh_packet.proofs.Common.{◌≡◌, ℕ, ◌+◌, ◌-◌, ◌≤◌, List, ◌++◌, length, take, drop, Option, Ok, refl, sym, ap, subst, ◌∙◌, arith, common_steps, slice_range, length-take, length-drop, take-append-drop, Reading, refuse, has, Stands, behind, range_length, RawAddr, MessageHeader, SpellsMessageHead, HeadCut, originator_cut, limit_cut, count_cut, sequence_cut, width_of, originator_size, limit_size, count_size, head_size, head_at}
 use Rattle.mesh_packet.proofs.Fields.{IsField, octet_field, number_field, originator_field}
 
 -- octets of the head's size are a head

@@ -1,15 +1,5 @@
 -- What a message has before its TLVs: read, spelled and cut off.
-use Rattle.std.proofs.Common.{◌≡◌, ℕ, ◌+◌, ◌<◌, ◌≤◌, List, ◌++◌, length, Option, Ok, ap, subst, ◌∙◌, arith, append_assoc}
-use Rattle.std.proofs.lemmas.Grind.{common_steps}
-use Rattle.std.specs.Prelude.{MatchResult, slice_range}
-use Rattle.std.proofs.lemmas.List.{length-append}
-use Rattle.mesh_atoms.specs.declared.refusal.Refusal.{Refusal}
-use Rattle.mesh_atoms.specs.Reading.{has}
-use Rattle.mesh_atoms.proofs.Reading.{meets_bind, Takes, takes_both, Stands, stands_first, stands_next}
-use Rattle.mesh_addr.specs.declared.records.RawAddr.{RawAddr}
-use Rattle.mesh_packet.specs.declared.read.MessageHeader.{MessageHeader}
-use Rattle.mesh_packet.specs.Grammar.{SpellsMessageHead, HeadCut, originator_cut, limit_cut, count_cut, sequence_cut, width_of, originator_size, limit_size, count_size, sequence_size, head_size}
-use Rattle.mesh_packet.specs.Reading.{octet_if, short_if, originator_if, head_at}
+use Rattle.mesh_packet.proofs.Common.{◌≡◌, ℕ, ◌+◌, ◌<◌, ◌≤◌, List, ◌++◌, length, Option, Ok, ap, subst, ◌∙◌, arith, append_assoc, common_steps, MatchResult, slice_range, length-append, Refusal, has, meets_bind, Takes, takes_both, Stands, stands_first, stands_next, RawAddr, MessageHeader, SpellsMessageHead, HeadCut, originator_cut, limit_cut, count_cut, sequence_cut, width_of, originator_size, limit_size, count_size, sequence_size, head_size, octet_if, short_if, originator_if, head_at}
 use Rattle.mesh_packet.proofs.Fields.{Took, octet_field, number_field, originator_field}
 
 abbrev pub SpellsOpening : ℕ → MessageHeader → List ℕ → Type 0

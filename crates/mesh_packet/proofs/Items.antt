@@ -1,11 +1,6 @@
 -- Items of a list, one after the other: put there one by one, and parted at one of them.
-use Rattle.std.proofs.Common.{◌≡◌, ℕ, zero, suc, ◌+◌, ◌<◌, ◌≤◌, List, [], ◌∷◌, ◌++◌, length, map, take, get_or, refl, sym, ap, subst, ◌∙◌, arith, append_assoc}
-use Rattle.std.proofs.lemmas.Grind.{common_steps}
-use Rattle.std.proofs.lemmas.List.{append-nil, length-append, take_all}
+use Rattle.mesh_packet.proofs.Common.{◌≡◌, ℕ, zero, suc, ◌+◌, ◌<◌, ◌≤◌, List, [], ◌∷◌, ◌++◌, length, map, take, get_or, refl, sym, ap, subst, ◌∙◌, arith, append_assoc, common_steps, append-nil, length-append, take_all, map_push, SpellsItems, Passes, Wrote}
 use Rattle.std.proofs.Math.Seq.{take-suc}
-use Rattle.std.proofs.lemmas.List.{map_push}
-use Rattle.mesh_tlv.specs.Items.{SpellsItems}
-use Rattle.mesh_packet.specs.Least.{Passes, Wrote}
 use Rattle.mesh_packet.proofs.OneForm.{HasOneText, items_once}
 
 items_push : {B : Type 0} (Says : B → List ℕ → Type 0) (ys : List B) (front : List ℕ) (y : B) (text : List ℕ) → SpellsItems Says ys front → Says y text → SpellsItems Says (ys ++ y ∷ []) (front ++ text)

@@ -1,16 +1,10 @@
 -- Each address block that can be written has a least spelling: the best of all choices is found by trying each.
-use Rattle.std.proofs.Common.{◌≡◌, ℕ, zero, suc, ◌+◌, ◌-◌, ◌<◌, ◌≤◌, ◌⊎◌, inl, inr, Bool, true, false, ltb, eqb, List, [], ◌∷◌, length, take, refl, sym, ap, subst, ◌∙◌, arith}
-use Rattle.std.specs.Prelude.{replicate}
-use Rattle.std.proofs.lemmas.Bool.{eqb-true, eqb-false, ltb-true, ltb-false}
-use Rattle.mesh_addr.specs.declared.records.RawAddr.{RawAddr}
+use Rattle.mesh_packet.proofs.Common.{◌≡◌, ℕ, zero, suc, ◌+◌, ◌-◌, ◌<◌, ◌≤◌, ◌⊎◌, inl, inr, Bool, true, false, ltb, eqb, List, [], ◌∷◌, length, take, refl, sym, ap, subst, ◌∙◌, arith, replicate, eqb-true, eqb-false, ltb-true, ltb-false, RawAddr, IsWritable, IsLeast, heads_equal, tails_equal}
 use Rattle.mesh_addr.specs.declared.choices.Choice.{Choice}
 use Rattle.mesh_addr.specs.declared.choices.TailForm.{TailForm}
 use Rattle.mesh_addr.specs.declared.choices.TailForm.TheVariants as tails
-use Rattle.mesh_addr.specs.Grammar.{IsWritable}
-use Rattle.mesh_addr.specs.Least.{IsLeast}
 use Rattle.mesh_addr.specs.Spelling.{tail_len, last_octets, ShareHead, ShareTail, TailFits, IsPossible, weight, text_of, form_of}
 use Rattle.mesh_addr.proofs.Fewest.{least_of_first}
-use Rattle.mesh_atoms.proofs.Lists.{heads_equal, tails_equal}
 
 -- ---- what can be decided
 

@@ -1,16 +1,8 @@
 -- Messages one after the other, as the loop over them reads them, with where each stands.
-use Rattle.std.proofs.Common.{◌≡◌, ℕ, ◌+◌, ◌-◌, ◌<◌, ◌≤◌, eqb, true, List, [], ◌∷◌, ◌++◌, length, map, Ok, refl, sym, ap, ◌∙◌, arith, length-append}
-use Rattle.std.specs.List.{zip}
-use Rattle.std.proofs.lemmas.List.{map_push}
+use Rattle.mesh_packet.proofs.Common.{◌≡◌, ℕ, ◌+◌, ◌-◌, ◌<◌, ◌≤◌, eqb, true, List, [], ◌∷◌, ◌++◌, length, map, Ok, refl, sym, ap, ◌∙◌, arith, length-append, zip, map_push, Fails, items_at, Span, MessageFields, message_at, sized_at, spans_from, messages_at, fails_on}
 use Rattle.mesh_atoms.specs.declared.refusal.DecodeFault.{DecodeFault}
-use Rattle.mesh_atoms.specs.Reading.{Fails}
-use Rattle.mesh_tlv.specs.Items.{items_at}
 use Rattle.mesh_tlv.proofs.Loop.{with_front, goes_on, fails, is_done, is_at_end}
-use Rattle.mesh_packet.specs.declared.packet.Span.{Span}
-use Rattle.mesh_packet.specs.Fields.{MessageFields}
-use Rattle.mesh_packet.specs.Reading.{message_at, sized_at, spans_from, messages_at}
 use Rattle.mesh_packet.proofs.Sizes.{zip_push, zip_firsts, zip_seconds, spans_push, total, total_push}
-use Rattle.mesh_atoms.proofs.Given.{fails_on}
 
 abbrev pub sizes : List Span → List ℕ
 sizes spans = map (λ (s : Span). s.len) spans

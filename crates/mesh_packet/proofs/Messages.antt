@@ -1,18 +1,5 @@
 -- Messages: read, spelled and refused as their parts are.
-use Rattle.std.proofs.Common.{◌≡◌, ℕ, ◌+◌, ◌-◌, ◌<◌, ◌≤◌, ltb, ◌||◌, true, false, Bool, List, [], ◌∷◌, ◌++◌, length, Ok, refl, sym, ap, subst, ◌∙◌, arith, append_assoc, inl, inr, ◌⊎◌}
-use Rattle.std.specs.Prelude.{MatchResult, slice_range}
-use Rattle.std.proofs.lemmas.Bool.{ltb-false, ltb-true, le-ltb, lt-ltb, or_cases as either, or_parts as neither}
-use Rattle.std.proofs.lemmas.List.{length-append}
-use Rattle.std.proofs.lemmas.Result.{MatchResult-weaker}
-use Rattle.mesh_atoms.specs.declared.refusal.Refusal.{Refusal}
-use Rattle.mesh_atoms.specs.Grammar.{SpellsShort}
-use Rattle.mesh_atoms.specs.Reading.{refuse, octet_at, short_at}
-use Rattle.mesh_atoms.proofs.Reading.{meets_bind, meets_if, Takes, takes_both, takes_range, Stands, stands_first, stands_next, behind, front_is, range_length, octet_takes, octet_again, octet_cut, short_takes, short_again, short_cut, two_long}
-use Rattle.mesh_tlv.specs.Items.{FirstFaultAt}
-use Rattle.mesh_tlv.proofs.Items.{IsReader, Took}
-use Rattle.mesh_packet.specs.Fields.{MessageFields}
-use Rattle.mesh_packet.specs.Grammar.{SpellsMessage, SpellsBody, MessageFault, BodyFault, flags_cut, size_cut, size_wrong, in_body}
-use Rattle.mesh_packet.specs.Reading.{body_at, message_at}
+use Rattle.mesh_packet.proofs.Common.{◌≡◌, ℕ, ◌+◌, ◌-◌, ◌<◌, ◌≤◌, ltb, ◌||◌, true, false, Bool, List, [], ◌∷◌, ◌++◌, length, Ok, refl, sym, ap, subst, ◌∙◌, arith, append_assoc, inl, inr, ◌⊎◌, MatchResult, slice_range, ltb-false, ltb-true, le-ltb, lt-ltb, or_cases as either, or_parts as neither, length-append, MatchResult-weaker, Refusal, SpellsShort, refuse, octet_at, short_at, meets_bind, meets_if, Takes, takes_both, takes_range, Stands, stands_first, stands_next, behind, front_is, range_length, octet_takes, octet_again, octet_cut, short_takes, short_again, short_cut, two_long, FirstFaultAt, IsReader, Took, MessageFields, SpellsMessage, SpellsBody, MessageFault, BodyFault, flags_cut, size_cut, size_wrong, in_body, body_at, message_at}
 use Rattle.mesh_packet.proofs.Bodies.{BodyTook, body_takes, body_again, body_fault}
 
 or_is : (a b : Bool) → (a ≡ true) ⊎ (b ≡ true) → a || b ≡ true

@@ -1,9 +1,6 @@
 -- A packet has at most one least form, since each address block has at most one.
-use Rattle.std.proofs.Common.{◌≡◌, ℕ, ◌+◌, List, [], ◌∷◌, ◌++◌, length, sym, ap, ◌∙◌}
+use Rattle.mesh_packet.proofs.Common.{◌≡◌, ℕ, ◌+◌, List, [], ◌∷◌, ◌++◌, length, sym, ap, ◌∙◌, SpellsItems, least_short, least_tlv, least_addr_tlv, least_block, least_head, least_number, least_header_tlvs, message_flags, packet_flags, LeastPair, LeastBody, LeastMessage, LeastForm}
 use Rattle.mesh_addr.proofs.OneLeast.{one_least}
-use Rattle.mesh_tlv.specs.Items.{SpellsItems}
-use Rattle.mesh_tlv.specs.Least.{least_short, least_tlv, least_addr_tlv, least_block}
-use Rattle.mesh_packet.specs.Least.{least_head, least_number, least_header_tlvs, message_flags, packet_flags, LeastPair, LeastBody, LeastMessage, LeastForm}
 
 -- an item has at most one text
 abbrev pub HasOneText : {B : Type 0} → (B → List ℕ → Type 0) → Type 0

@@ -1,13 +1,6 @@
 -- Octets spell one packet or have one first fault, since each is what the reading of the octets gives.
-use Rattle.std.proofs.Common.{◌≡◌, ℕ, ◌⊎◌, inl, inr, List, Result, Ok, Err, ap, arith}
-use Rattle.std.proofs.lemmas.Grind.{common_steps}
-use Rattle.std.specs.Prelude.{MatchResult}
-use Rattle.mesh_atoms.specs.declared.refusal.Refusal.{Refusal}
+use Rattle.mesh_packet.proofs.Common.{◌≡◌, ℕ, ◌⊎◌, inl, inr, List, Result, Ok, Err, ap, arith, common_steps, MatchResult, Refusal, Span, PacketFields, Spells, FirstFault, packet_of}
 use Rattle.mesh_atoms.proofs.Options.{same_ok, ok_not_err}
-use Rattle.mesh_packet.specs.declared.packet.Span.{Span}
-use Rattle.mesh_packet.specs.Fields.{PacketFields}
-use Rattle.mesh_packet.specs.Grammar.{Spells, FirstFault}
-use Rattle.mesh_packet.specs.Reading.{packet_of}
 use Rattle.mesh_packet.proofs.Packets.{IsFault, IsSpelled, packet_takes, packet_again, packet_fault}
 
 -- what a reading of the octets gives

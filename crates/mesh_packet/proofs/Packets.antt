@@ -1,23 +1,6 @@
 -- Packets: read, spelled and refused as their parts are.
-use Rattle.std.proofs.Common.{◌≡◌, ℕ, ◌+◌, ◌-◌, ◌/◌, ◌<◌, ◌≤◌, Bool, true, false, eqb, List, [], ◌∷◌, ◌++◌, length, map, Ok, Err, refl, sym, ap, subst, ◌∙◌, arith, append_assoc}
-use Rattle.std.proofs.lemmas.Grind.{common_steps}
-use Rattle.std.specs.Prelude.{MatchResult, slice_range}
-use Rattle.std.proofs.lemmas.Bool.{eqb-true, eqb-false, ne_eqb}
-use Rattle.mesh_atoms.specs.declared.refusal.Refusal.{Refusal}
-use Rattle.mesh_atoms.specs.Reading.{◌>>=◌, Reading, refuse, has, octet_at}
-use Rattle.mesh_atoms.proofs.Reading.{meets_bind, meets_if, Takes, takes_range, Stands, stands_next, behind, octet_takes, octet_again}
-use Rattle.mesh_tlv.specs.Fields.{TlvFields}
-use Rattle.mesh_tlv.specs.Items.{SpellsItems, ItemsFault, FirstFaultAt, items_at}
-use Rattle.mesh_tlv.specs.Grammar.{SpellsTlv, SpellsTlvBlock, TlvBlockFault, TlvFault}
-use Rattle.mesh_tlv.specs.Reading.{tlv_at, block_at}
-use Rattle.mesh_tlv.proofs.Items.{IsReader, ItemsTook, items_take, items_again, items_fault}
-use Rattle.mesh_tlv.proofs.Blocks.{block_takes, block_again, block_refuses}
-use Rattle.mesh_tlv.proofs.Tlvs.{tlv_reader}
-use Rattle.mesh_packet.specs.declared.packet.Span.{Span}
-use Rattle.mesh_packet.specs.Fields.{MessageFields, PacketFields}
+use Rattle.mesh_packet.proofs.Common.{◌≡◌, ℕ, ◌+◌, ◌-◌, ◌/◌, ◌<◌, ◌≤◌, Bool, true, false, eqb, List, [], ◌∷◌, ◌++◌, length, map, Ok, Err, refl, sym, ap, subst, ◌∙◌, arith, append_assoc, common_steps, MatchResult, slice_range, eqb-true, eqb-false, ne_eqb, Refusal, ◌>>=◌, Reading, refuse, has, octet_at, meets_bind, meets_if, Takes, takes_range, Stands, stands_next, behind, octet_takes, octet_again, TlvFields, SpellsItems, ItemsFault, FirstFaultAt, items_at, SpellsTlv, SpellsTlvBlock, TlvBlockFault, TlvFault, tlv_at, block_at, IsReader, ItemsTook, items_take, items_again, items_fault, block_takes, block_again, block_refuses, tlv_reader, Span, MessageFields, PacketFields, SpellsNumber, SpellsMessage, SpellsMessages, SpellsHeaderTlvs, Spells, MessageFault, BeginsPacket, no_octet, version, number_cut, in_header_tlvs, in_message, size_if, short_if, message_at, sized_at, spans_from, messages_at, flags_at, header_tlvs_at, packet_of}
 use Rattle.mesh_packet.specs.Grammar as grammar
-use Rattle.mesh_packet.specs.Grammar.{SpellsNumber, SpellsMessage, SpellsMessages, SpellsHeaderTlvs, Spells, MessageFault, BeginsPacket, no_octet, version, number_cut, in_header_tlvs, in_message, size_if}
-use Rattle.mesh_packet.specs.Reading.{short_if, message_at, sized_at, spans_from, messages_at, flags_at, header_tlvs_at, packet_of}
 use Rattle.mesh_packet.proofs.Fields.{Took, IsCut, number_field}
 use Rattle.mesh_packet.proofs.Messages.{message_reader}
 use Rattle.mesh_packet.proofs.Encodable.{all_of}

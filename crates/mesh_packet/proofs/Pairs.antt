@@ -1,24 +1,9 @@
 -- An address block and the TLVs of its addresses: read, spelled and refused as its two parts are.
-use Rattle.std.proofs.Common.{◌≡◌, ℕ, ◌+◌, ◌-◌, ◌<◌, ◌≤◌, List, ◌++◌, length, Ok, refl, sym, ap, subst, ◌∙◌, arith}
-use Rattle.std.proofs.lemmas.Grind.{common_steps}
-use Rattle.std.specs.Prelude.{MatchResult, slice_range}
-use Rattle.std.proofs.lemmas.List.{length-append}
-use Rattle.mesh_atoms.specs.declared.refusal.Refusal.{Refusal}
-use Rattle.mesh_atoms.specs.Reading.{refuse}
-use Rattle.mesh_atoms.proofs.Reading.{meets_bind, Takes, takes_both, takes_range, Stands, stands_first, stands_next, behind}
+use Rattle.mesh_packet.proofs.Common.{◌≡◌, ℕ, ◌+◌, ◌-◌, ◌<◌, ◌≤◌, List, ◌++◌, length, Ok, refl, sym, ap, subst, ◌∙◌, arith, common_steps, MatchResult, slice_range, length-append, Refusal, refuse, meets_bind, Takes, takes_both, takes_range, Stands, stands_first, stands_next, behind, FirstFaultAt, SpellsAddrTlv, AddrTlvBlockFault, TlvFault, addr_tlv_at, block_at, IsReader, Took, block_takes, block_again, block_refuses, addr_tlv_reader, BlockFields, SpellsPair, PairFault, in_addrs, in_addr_tlvs, pair_at}
 use Rattle.mesh_addr.specs.Reading as addresses_read
 use Rattle.mesh_addr.proofs.Taking as address_laws
 use Rattle.mesh_addr.proofs.ReadAgain as address_back
 use Rattle.mesh_addr.proofs.Refusing as address_faults
-use Rattle.mesh_tlv.specs.Items.{FirstFaultAt}
-use Rattle.mesh_tlv.specs.Grammar.{SpellsAddrTlv, AddrTlvBlockFault, TlvFault}
-use Rattle.mesh_tlv.specs.Reading.{addr_tlv_at, block_at}
-use Rattle.mesh_tlv.proofs.Items.{IsReader, Took}
-use Rattle.mesh_tlv.proofs.Blocks.{block_takes, block_again, block_refuses}
-use Rattle.mesh_tlv.proofs.Tlvs.{addr_tlv_reader}
-use Rattle.mesh_packet.specs.Fields.{BlockFields}
-use Rattle.mesh_packet.specs.Grammar.{SpellsPair, PairFault, in_addrs, in_addr_tlvs}
-use Rattle.mesh_packet.specs.Reading.{pair_at}
 
 module _ (width : ℕ) where
   pair_takes : (s : List ℕ) (at end : ℕ) → at < end → end ≤ length s → MatchResult (pair_at width s at end) (Took s at end (SpellsPair width)) (FirstFaultAt (PairFault width) s at end)

@@ -1,13 +1,6 @@
 -- Each message of a frame that is spelled stands at its span.
-use Rattle.std.proofs.Common.{◌≡◌, ℕ, zero, suc, ◌+◌, ◌≤◌, sym, ◌∙◌, ap, subst, arith, List, [], ◌∷◌, ◌++◌, length, Some, slice_get, append_assoc}
-use Rattle.std.proofs.lemmas.Grind.{common_steps}
-use Rattle.std.specs.Prelude.{slice_range}
+use Rattle.mesh_packet.proofs.Common.{◌≡◌, ℕ, zero, suc, ◌+◌, ◌≤◌, sym, ◌∙◌, ap, subst, arith, List, [], ◌∷◌, ◌++◌, length, Some, slice_get, append_assoc, common_steps, slice_range, text_is, Stands, stands_next, behind, Span, MessageFields, PacketFields, SpellsMessage, SpellsMessages, Spells, ArePlaced}
 use Rattle.std.proofs.lemmas.Option.{slice_get_within}
-use Rattle.mesh_atoms.proofs.Reading.{text_is, Stands, stands_next, behind}
-use Rattle.mesh_packet.specs.declared.packet.Span.{Span}
-use Rattle.mesh_packet.specs.Fields.{MessageFields, PacketFields}
-use Rattle.mesh_packet.specs.Grammar.{SpellsMessage, SpellsMessages, Spells}
-use Rattle.mesh_packet.specs.Placed.{ArePlaced}
 use Rattle.mesh_packet.proofs.Packets.{first_stands}
 
 placed : (s : List ℕ) (at : ℕ) (ms : List MessageFields) (ss : List Span) (bytes : List ℕ) → at ≤ length s → slice_range s at (length s) ≡ bytes → SpellsMessages at ms ss bytes → ArePlaced ms ss s

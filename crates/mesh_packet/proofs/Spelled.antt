@@ -1,20 +1,8 @@
 -- The least form is a spelling.
-use Rattle.std.proofs.Common.{◌≡◌, ℕ, ◌+◌, ◌-◌, ◌<◌, ◌≤◌, Bool, List, [], ◌∷◌, length, Option, Some, None, refl, sym, subst, arith}
-use Rattle.std.proofs.lemmas.Grind.{common_steps}
-use Rattle.std.specs.Prelude.{All}
+use Rattle.mesh_packet.proofs.Common.{◌≡◌, ℕ, ◌+◌, ◌-◌, ◌<◌, ◌≤◌, Bool, List, [], ◌∷◌, length, Option, Some, None, refl, sym, subst, arith, common_steps, All, length-append, length-take, length-replicate, All-head, All-tail, RawAddr, TlvFields, SpellsItems, least_short, least_tlv, least_addr_tlv, least_block, Span, BlockFields, MessageFields, PacketFields, SpellsOctet, SpellsNumber, SpellsOriginator, SpellsPair, SpellsMessageHead, SpellsBody, SpellsMessage, SpellsMessages, SpellsHeaderTlvs, Spells, width_of, IsPaddedOriginator, IsEncodableBlock, IsEncodableMessage, IsEncodable, least_octet, least_number, least_originator, least_head, message_flags, LeastPair, LeastBody, LeastMessage, has_tlvs, least_header_tlvs, packet_flags, LeastForm}
 use Rattle.std.specs.Option.{is_some}
-use Rattle.std.proofs.lemmas.List.{length-append, length-take, length-replicate}
-use Rattle.std.proofs.lemmas.List.Elements.{All-head, All-tail}
-use Rattle.mesh_addr.specs.declared.records.RawAddr.{RawAddr}
 use Rattle.mesh_addr.specs.Grammar as addresses
-use Rattle.mesh_tlv.specs.Fields.{TlvFields}
-use Rattle.mesh_tlv.specs.Items.{SpellsItems}
-use Rattle.mesh_tlv.specs.Least.{least_short, least_tlv, least_addr_tlv, least_block}
 use Rattle.mesh_tlv.proofs.Spelled.{tlv_block_spelled, addr_tlv_block_spelled, short_spelled}
-use Rattle.mesh_packet.specs.declared.packet.Span.{Span}
-use Rattle.mesh_packet.specs.Fields.{BlockFields, MessageFields, PacketFields}
-use Rattle.mesh_packet.specs.Grammar.{SpellsOctet, SpellsNumber, SpellsOriginator, SpellsPair, SpellsMessageHead, SpellsBody, SpellsMessage, SpellsMessages, SpellsHeaderTlvs, Spells, width_of}
-use Rattle.mesh_packet.specs.Least.{IsPaddedOriginator, IsEncodableBlock, IsEncodableMessage, IsEncodable, least_octet, least_number, least_originator, least_head, message_flags, LeastPair, LeastBody, LeastMessage, has_tlvs, least_header_tlvs, packet_flags, LeastForm}
 use Rattle.mesh_packet.proofs.FlagSums.{tells_128, tells_64, tells_32, tells_16, tells_width, tells_8, tells_4, version_none}
 
 -- ---- optional parts

@@ -1,14 +1,7 @@
 -- What makes the least text of a value too long.
-use Rattle.std.proofs.Common.{◌≡◌, ℕ, ◌+◌, ◌<◌, ◌≤◌, List, [], ◌∷◌, length, map, ap, arith}
-use Rattle.std.proofs.lemmas.Grind.{common_steps}
-use Rattle.std.specs.List.{flat_map}
-use Rattle.std.proofs.lemmas.List.{length-append}
-use Rattle.mesh_tlv.specs.Least.{least_tlv, least_addr_tlv, least_block, least_short, AreTooLong}
+use Rattle.mesh_packet.proofs.Common.{◌≡◌, ℕ, ◌+◌, ◌<◌, ◌≤◌, List, [], ◌∷◌, length, map, ap, arith, common_steps, flat_map, length-append, least_tlv, least_addr_tlv, least_block, least_short, AreTooLong, fields, BlockFields, MessageFields, LeastPair, LeastBody, LeastMessage, least_head, least_header_tlvs, Passes}
 use Rattle.mesh_tlv.specs.declared.tlv.Tlv.{Tlv}
-use Rattle.mesh_tlv.specs.Fields.{fields}
 use Rattle.mesh_tlv.proofs.Lengths.{tlv_longer, addr_tlv_longer, block_longer}
-use Rattle.mesh_packet.specs.Fields.{BlockFields, MessageFields}
-use Rattle.mesh_packet.specs.Least.{LeastPair, LeastBody, LeastMessage, least_head, least_header_tlvs, Passes}
 use Rattle.mesh_packet.proofs.OneForm.{body_once}
 
 body_long : (m : MessageFields) (x : List ℕ) (h : LeastBody m x) → length x ≡ length (least_head m) + (length (least_block least_tlv m.tlvs) + length h.blocks)

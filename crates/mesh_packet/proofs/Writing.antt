@@ -1,17 +1,10 @@
 -- What the writers put behind the old octets, part by part.
-use Rattle.std.proofs.Common.{◌≡◌, ℕ, List, [], ◌++◌, length, Result, Err, refl, append_assoc, arith}
-use Rattle.std.proofs.lemmas.Grind.{common_steps}
+use Rattle.mesh_packet.proofs.Common.{◌≡◌, ℕ, List, [], ◌++◌, length, Result, Err, refl, append_assoc, arith, common_steps, err_from_is_err_and, WroteLeast, SpellsItems, least_tlv, least_addr_tlv, least_block, BlockFields, MessageFields, LeastPair, LeastBody, least_head, Wrote, as_encode_fault}
 use Rattle.std.specs.Result.{IsErrAnd}
-use Rattle.std.proofs.lemmas.Result.{err_from_is_err_and}
-use Rattle.mesh_addr.specs.Least.{WroteLeast}
 use Rattle.mesh_tlv.specs.declared.tlv.WriteTlv.{WriteTlv}
 use Rattle.mesh_tlv.specs.declared.tlv.WriteTlv.TheVariants as tlvs
-use Rattle.mesh_tlv.specs.Items.{SpellsItems}
-use Rattle.mesh_tlv.specs.Least.{least_tlv, least_addr_tlv, least_block}
 use Rattle.mesh_packet.specs.declared.packet.EncodeFault.{EncodeFault}
 use Rattle.mesh_packet.specs.declared.packet.EncodeFault.TheVariants as faults
-use Rattle.mesh_packet.specs.Fields.{BlockFields, MessageFields}
-use Rattle.mesh_packet.specs.Least.{LeastPair, LeastBody, least_head, Wrote, as_encode_fault}
 
 told : (f : WriteTlv) → as_encode_fault f ≡ faults.TooLong → f ≡ tlvs.TooLong
 told tlvs.TooLong h = refl

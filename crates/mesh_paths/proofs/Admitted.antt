@@ -1,16 +1,5 @@
 -- What interfaces admit, by tests of arcs; and that admitted arcs each way join two interfaces from both sides.
-use Rattle.std.proofs.Common.{arith}
-use Rattle.std.proofs.lemmas.Grind.{common_steps}
-use Rattle.std.proofs.Common.{◌≡◌, ℕ, ◌≤◌, refl, Option, Some, None, true, false, slice_get}
-use Rattle.std.proofs.lemmas.Bool.{leb-true, le-leb}
-use Rattle.mesh_atoms.specs.declared.codes.metric.Metric.{Metric}
-use Rattle.mesh_atoms.specs.declared.settings.Interface.{Interface}
-use Rattle.mesh_atoms.specs.declared.settings.RadioArc.{RadioArc}
-use Rattle.mesh_atoms.specs.declared.settings.RouterSettings.{RouterSettings}
-use Rattle.mesh_atoms.specs.declared.settings.Scenario.{Scenario}
-use Rattle.mesh_atoms.specs.Quality.{quality_at}
-use Rattle.mesh_atoms.specs.Radio.{IsAdmitted, Joins}
-use Rattle.mesh_paths.specs.Parts.{face_in, face_of, can_accept, is_admitted}
+use Rattle.mesh_paths.proofs.Common.{arith, common_steps, ◌≡◌, ℕ, ◌≤◌, refl, Option, Some, None, true, false, slice_get, leb-true, le-leb, Metric, Interface, RadioArc, RouterSettings, Scenario, quality_at, IsAdmitted, Joins, face_in, face_of, can_accept, is_admitted}
 
 -- interfaces that are joined are so from both sides
 pub joins_back : {s : Scenario} {x i y j : ℕ} {there back : Metric} → Joins s x i y j there back → Joins s y j x i back there

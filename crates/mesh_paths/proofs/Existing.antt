@@ -1,13 +1,5 @@
 -- A graph without free arcs has a certificate from each node: rows grow from the start's, each by the least offer to a node without a row.
-use Rattle.std.proofs.Common.{◌≡◌, ℕ, zero, suc, ◌+◌, ◌<◌, ◌≤◌, ◌⊎◌, inl, inr, refl, sym, ◌∙◌, ap, subst, arith}
-use Rattle.std.proofs.Common.{List, [], ◌∷◌, Contains}
-use Rattle.std.specs.List.{sum_by}
-use Rattle.mesh_atoms.specs.declared.addr.NetAddr.{NetAddr}
-use Rattle.mesh_atoms.specs.declared.graphs.Arc4.{Arc4}
-use Rattle.mesh_atoms.specs.declared.graphs.PathRow.{PathRow}
-use Rattle.mesh_paths.specs.Paths.{AreAscendingRows, EveryGraphHasCertificate}
-use Rattle.mesh_paths.specs.Search.{Settles}
-use Rattle.mesh_paths.specs.Tree.{OffersTo, IsAsGood, MeetsRow, IsGrounded, IsClosed, IsTree}
+use Rattle.mesh_paths.proofs.Common.{◌≡◌, ℕ, zero, suc, ◌+◌, ◌<◌, ◌≤◌, ◌⊎◌, inl, inr, refl, sym, ◌∙◌, ap, subst, arith, List, [], ◌∷◌, Contains, sum_by, NetAddr, Arc4, PathRow, AreAscendingRows, EveryGraphHasCertificate, Settles, OffersTo, IsAsGood, MeetsRow, IsGrounded, IsClosed, IsTree, contains_head as here}
 use Rattle.mesh_paths.proofs.NewOffers.{HasRow, HasNoRow, row_or_none, Leads, IsNew, IsLeastNew, least_new, put_in}
 use Rattle.mesh_paths.proofs.Order.{as_good_itself, no_dearer}
 use Rattle.mesh_paths.proofs.ReachedLaw.{sums_less}
@@ -15,7 +7,6 @@ use Rattle.mesh_paths.proofs.Rows.{move_offer}
 use Rattle.mesh_paths.proofs.SearchLaw.{offers_more, meets_more}
 use Rattle.mesh_paths.proofs.ShortLists.{only}
 use Rattle.mesh_paths.proofs.TreeLaw.{certificate_of_tree}
-use Rattle.mesh_atoms.proofs.Lists.{contains_head as here}
 
 -- 1 for a node that has no row
 abbrev missing_of : {P Q : Type 0} → P ⊎ Q → ℕ

@@ -1,26 +1,11 @@
 -- Rows of a map that are a tree are a certificate, and those are that an ended search has settled.
-use Rattle.std.proofs.Common.{◌≡◌, ℕ, zero, suc, ◌+◌, inl, inr, refl, sym, ap, subst, arith, List, [], ◌∷◌, Contains, slice_index_or, Some}
+use Rattle.mesh_paths.proofs.Common.{◌≡◌, ℕ, zero, suc, ◌+◌, inl, inr, refl, sym, ap, subst, arith, List, [], ◌∷◌, Contains, slice_index_or, Some, keys_of, values_of, eq_by_cmp, BTreeMap, eq_by_cmp_equiv, All-found, Contains-from_lookup, lookup-from_Contains, NetAddr, IsBefore, net_cmp, Arc4, Graph, PathRow, net_total, net_exact, net_less, is_equal, HasCosts, AreAscendingRows, IsCertificate, OffersBy, OffersTo, MeetsBy, MeetsRow, IsTree, IsSettledRow, IsKeyed, contains_tail as in_tail, contains_cases}
 use Rattle.std.specs.List.Sorted.{IsStrictlySortedBy}
-use Rattle.std.specs.Map.{keys_of, values_of}
-use Rattle.std.specs.Ordering.{eq_by_cmp}
 use Rattle.std.specs.BTreeMap as tree
-use Rattle.std.specs.BTreeMap.{BTreeMap}
-use Rattle.std.proofs.lemmas.Cmp.{eq_by_cmp_equiv}
 use Rattle.std.proofs.lemmas.Map.Keys.{IsDistinct-from_sorted}
-use Rattle.std.proofs.lemmas.Map.Views.{All-found, Contains-from_lookup, lookup-from_Contains}
-use Rattle.mesh_atoms.specs.declared.addr.NetAddr.{NetAddr}
-use Rattle.mesh_atoms.specs.Nodes.{IsBefore, net_cmp}
-use Rattle.mesh_atoms.specs.declared.graphs.Arc4.{Arc4}
-use Rattle.mesh_atoms.specs.declared.graphs.Graph.{Graph}
-use Rattle.mesh_atoms.specs.declared.graphs.PathRow.{PathRow}
-use Rattle.mesh_atoms.proofs.NetOrder.{net_total, net_exact, net_less, is_equal}
-use Rattle.mesh_paths.specs.Paths.{HasCosts, AreAscendingRows, IsCertificate}
-use Rattle.mesh_paths.specs.Tree.{OffersBy, OffersTo, MeetsBy, MeetsRow, IsTree}
-use Rattle.mesh_paths.specs.Search.{IsSettledRow, IsKeyed}
 use Rattle.mesh_paths.proofs.Rows.{move_offer}
 use Rattle.mesh_paths.proofs.SearchLaw.{offers_more, meets_more}
 use Rattle.mesh_paths.proofs.TreeLaw.{certificate_of_tree}
-use Rattle.mesh_atoms.proofs.Lists.{contains_tail as in_tail, contains_cases}
 
 value_in : (es : List (NetAddr × PathRow)) (q : NetAddr) (r : PathRow) → Contains es (q, r) → Contains (values_of es) r
 value_in [] q r has = absurd (omega (arith, has.1))

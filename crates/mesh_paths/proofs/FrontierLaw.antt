@@ -1,25 +1,10 @@
 -- A step that is taken keeps the state of a search by a frontier, and one that has ended has met what each arc offers.
-use Rattle.std.proofs.lemmas.Grind.{common_steps}
-use Rattle.std.proofs.Common.{◌≡◌, ◌≢◌, ℕ, ◌+◌, ◌<◌, ◌≤◌, ◌⊎◌, inl, inr, refl, sym, ◌∙◌, ap, subst, arith, List, [], ◌∷◌, length, Contains, Some, slice_index_or}
-use Rattle.std.specs.List.{AllWithin, slice_range}
+use Rattle.mesh_paths.proofs.Common.{common_steps, ◌≡◌, ◌≢◌, ℕ, ◌+◌, ◌<◌, ◌≤◌, ◌⊎◌, inl, inr, refl, sym, ◌∙◌, ap, subst, arith, List, [], ◌∷◌, length, Contains, Some, slice_index_or, AllWithin, slice_range, AllWithin-more, at_read, NetAddr, Arc4, PathRow, IsBefore, net_cmp, ArcRun, SearchStep, IsAsGood, MeetsBy, number_of, IsIndex, IsPart, PutsStep, Settles, IsSettledRow, row_of, step_of, RowMap, IsMetIn, Betters, IsOfferBy, IsInRange, HasLedRows, IsMetOrWaits, IsSearch, IsTaking, OffersAll, offered, OffersArc, work_in, at_most_itself, at_most_of_before, contains_cases}
 use Rattle.std.specs.BTreeMap as tree
-use Rattle.std.proofs.lemmas.List.Elements.{AllWithin-more, at_read}
-use Rattle.mesh_atoms.specs.declared.addr.NetAddr.{NetAddr}
-use Rattle.mesh_atoms.specs.declared.graphs.Arc4.{Arc4}
-use Rattle.mesh_atoms.specs.declared.graphs.PathRow.{PathRow}
-use Rattle.mesh_atoms.specs.Nodes.{IsBefore, net_cmp}
-use Rattle.mesh_paths.specs.declared.frontier.ArcRun.{ArcRun}
-use Rattle.mesh_paths.specs.declared.frontier.SearchStep.{SearchStep}
-use Rattle.mesh_paths.specs.Tree.{IsAsGood, MeetsBy}
-use Rattle.mesh_paths.specs.Search.{number_of, IsIndex, IsPart, PutsStep, Settles, IsSettledRow, row_of, step_of}
-use Rattle.mesh_paths.specs.Reached.{RowMap, IsMetIn, Betters, IsOfferBy, IsInRange, HasLedRows}
-use Rattle.mesh_paths.specs.Frontier.{IsMetOrWaits, IsSearch, IsTaking, OffersAll, offered, OffersArc, work_in}
 use Rattle.mesh_paths.proofs.Order.{same_node, as_good_trans}
 use Rattle.mesh_paths.proofs.Index.{in_run}
 use Rattle.mesh_paths.proofs.Rows.{of_each}
 use Rattle.mesh_paths.proofs.ReachedLaw.{settled_at, lighter_in, reached_new, met_already}
-use Rattle.mesh_atoms.proofs.Values.{at_most_itself, at_most_of_before}
-use Rattle.mesh_atoms.proofs.Lists.{contains_cases}
 
 -- a node has one row
 one_row : (map : RowMap) (r t : PathRow) → IsSettledRow map r → IsSettledRow map t → r.node ≡ t.node → r ≡ t

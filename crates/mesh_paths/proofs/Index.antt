@@ -1,17 +1,5 @@
 -- Arcs as runs, in the order of the nodes that they leave.
-use Rattle.std.proofs.lemmas.Grind.{common_steps}
-use Rattle.std.proofs.Common.{◌≡◌, ℕ, ◌+◌, ◌-◌, ◌<◌, ◌≤◌, ◌++◌, inl, inr, refl, sym, ◌∙◌, ap, subst, arith, true, false, List, [], ◌∷◌, length, Contains, slice_index_or, take, drop, leb, ltb, leb-true}
-use Rattle.std.specs.List.{slice_range}
-use Rattle.std.specs.List.Sorted.{IsPermutation, IsPartitionPoint}
-use Rattle.std.proofs.lemmas.Bool.{cases_lt, ltb-true, ltb-false, leb-false}
-use Rattle.std.proofs.lemmas.List.{get_or_default, get_or-take, get_or-drop, length-take, length-drop}
-use Rattle.std.proofs.lemmas.List.Elements.{Contains-push_cases, Contains-append_left, Contains-append_right}
-use Rattle.std.proofs.lemmas.List.Sorted.{Contains-permutation, IsPermutation-sym}
-use Rattle.mesh_atoms.specs.declared.addr.NetAddr.{NetAddr}
-use Rattle.mesh_atoms.specs.declared.graphs.Arc4.{Arc4}
-use Rattle.mesh_atoms.proofs.Nets.{same_net}
-use Rattle.mesh_paths.specs.declared.frontier.ArcRun.{ArcRun}
-use Rattle.mesh_paths.specs.Search.{number_of, number_from, IsRun, IsIndex, IsPart}
+use Rattle.mesh_paths.proofs.Common.{common_steps, ◌≡◌, ℕ, ◌+◌, ◌-◌, ◌<◌, ◌≤◌, ◌++◌, inl, inr, refl, sym, ◌∙◌, ap, subst, arith, true, false, List, [], ◌∷◌, length, Contains, slice_index_or, take, drop, leb, ltb, leb-true, slice_range, IsPermutation, IsPartitionPoint, cases_lt, ltb-true, ltb-false, leb-false, get_or_default, get_or-take, get_or-drop, length-take, length-drop, Contains-push_cases, Contains-append_left, Contains-append_right, Contains-permutation, IsPermutation-sym, NetAddr, Arc4, same_net, ArcRun, number_of, number_from, IsRun, IsIndex, IsPart}
 
 pub at_place : {X : Type 0} (xs : List X) (i : ℕ) (d : X) → i < length xs → slice_index_or xs i d ≡ slice_index_or xs i (slice_index_or xs i d)
 at_place xs i d l = get_or_default xs i d (slice_index_or xs i d) l

@@ -1,11 +1,6 @@
 -- Two routers are joined exactly where the radio graph has them in one part.
-use Rattle.std.proofs.Common.{◌≡◌, ◌≢◌, ℕ, ◌≤◌, ◌<◌, refl, sym, subst, arith, Some, length}
-use Rattle.std.specs.Prelude.{slice_get, slice_index, ◌↔◌, IsTrue}
-use Rattle.std.proofs.lemmas.Option.{slice_get_within, slice_get-get_or}
-use Rattle.mesh_atoms.specs.declared.settings.Scenario.{Scenario}
+use Rattle.mesh_paths.proofs.Common.{◌≡◌, ◌≢◌, ℕ, ◌≤◌, ◌<◌, refl, sym, subst, arith, Some, length, slice_get, slice_index, ◌↔◌, IsTrue, slice_get_within, slice_get-get_or, Scenario, Joined, Itself, By, IsRadioGraph, Decides-eqb, Decides-ltb, Decides-and, Decides-not}
 use Rattle.mesh_atoms.specs.declared.graphs.RadioGraph.{RadioGraph}
-use Rattle.mesh_atoms.specs.Radio.{Joined, Itself, By, IsRadioGraph}
-use Rattle.mesh_atoms.proofs.Deciding.{Decides-eqb, Decides-ltb, Decides-and, Decides-not}
 use Rattle.mesh_paths.proofs.RadioLaw.{joined_back, joined_trans}
 use Rattle.mesh_paths.proofs.Scenarios.{sound_scenario}
 use Rattle.mesh_paths.specs.Joined.{is_joined}

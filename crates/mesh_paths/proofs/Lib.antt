@@ -26,3 +26,4 @@ mod SettledLeast
 mod SettledRelays
 mod SettledWalks
 mod Unique
+mod Common

@@ -1,16 +1,6 @@
 -- At the moment of the last event neither the quality rule nor expiry changes a link, so that links stay as they are.
-use Rattle.std.proofs.Common.{arith}
-use Rattle.std.proofs.lemmas.Grind.{common_steps}
-use Rattle.std.proofs.Common.{◌≡◌, ℕ, refl, ◌∙◌, ap, Option, Some, None}
-use Rattle.std.specs.Prelude.{Bool, true, cond, nat_lt}
-use Rattle.mesh_atoms.specs.declared.tuples.LinkKey.{LinkKey}
-use Rattle.mesh_atoms.specs.declared.tuples.Link.{Link}
-use Rattle.mesh_atoms.specs.declared.settings.RouterSettings.{RouterSettings}
-use Rattle.mesh_atoms.specs.Base.{if_live}
+use Rattle.mesh_paths.proofs.Common.{arith, common_steps, ◌≡◌, ℕ, refl, ◌∙◌, ap, Option, Some, None, Bool, true, cond, nat_lt, LinkKey, Link, RouterSettings, if_live, admit_on, SoundNeighbourhood, IsSoundLink, Neighbourhood, link_at}
 use Rattle.mesh_atoms.specs.Live.{trim, trimmed}
-use Rattle.mesh_atoms.specs.Quality.{admit_on}
-use Rattle.mesh_atoms.specs.Sound.{SoundNeighbourhood, IsSoundLink}
-use Rattle.mesh_atoms.specs.State.{Neighbourhood, link_at}
 
 abbrev entry : Link → ℕ → Link × ℕ
 entry link until = (link, until)

@@ -1,16 +1,7 @@
 -- What arcs offer from rows to nodes without a row, the least of these offers, and a row more.
-use Rattle.std.proofs.Common.{◌≡◌, ◌+◌, ◌⊎◌, inl, inr, refl, sym, ◌∙◌, ap, subst, arith, List, [], ◌∷◌, Contains}
-use Rattle.mesh_atoms.specs.declared.addr.NetAddr.{NetAddr}
-use Rattle.mesh_atoms.specs.Nodes.{IsBefore}
-use Rattle.mesh_atoms.specs.declared.graphs.Arc4.{Arc4}
-use Rattle.mesh_atoms.specs.declared.graphs.PathRow.{PathRow}
-use Rattle.mesh_paths.specs.Paths.{AreAscendingRows}
-use Rattle.mesh_paths.specs.Search.{Settles}
-use Rattle.mesh_paths.specs.Tree.{IsAsGood}
+use Rattle.mesh_paths.proofs.Common.{◌≡◌, ◌+◌, ◌⊎◌, inl, inr, refl, sym, ◌∙◌, ap, subst, arith, List, [], ◌∷◌, Contains, NetAddr, IsBefore, Arc4, PathRow, AreAscendingRows, Settles, IsAsGood, before_trans, at_most_itself, contains_tail as in_tail, contains_cases, contains_none as none_of, contains_head as here}
 use Rattle.mesh_paths.proofs.Order.{same_node, at_most_or_before, at_most_both, as_good_trans, one_as_good}
 use Rattle.mesh_paths.proofs.Order.{single, tail_ascends, head_before, ascends_cons}
-use Rattle.mesh_atoms.proofs.Values.{before_trans, at_most_itself}
-use Rattle.mesh_atoms.proofs.Lists.{contains_tail as in_tail, contains_cases, contains_none as none_of, contains_head as here}
 
 -- Rows at their nodes
 

@@ -1,18 +1,5 @@
 -- The order of nodes and of offers, and ascending rows.
-use Rattle.std.proofs.lemmas.Grind.{common_steps}
-use Rattle.std.proofs.Common.{◌≡◌, ℕ, zero, suc, ◌+◌, ◌-◌, ◌<◌, ◌≤◌, ◌⊎◌, inl, inr, refl, sym, ◌∙◌, ap, subst, arith, Some}
-use Rattle.std.proofs.Common.{List, ◌∷◌, length, Contains, slice_index_or}
-use Rattle.std.proofs.lemmas.Bool.{cases_eq, cases_lt}
-use Rattle.std.proofs.lemmas.List.Elements.{Contains-get_or}
-use Rattle.std.proofs.lemmas.Option.{slice_get-get_or, get_or_from_slice_get}
-use Rattle.mesh_atoms.specs.declared.addr.Addr4.{Addr4}
-use Rattle.mesh_atoms.specs.declared.addr.NetAddr.{NetAddr}
-use Rattle.mesh_atoms.specs.Nodes.{IsBefore, IsAtMost}
-use Rattle.mesh_atoms.specs.declared.graphs.PathRow.{PathRow}
-use Rattle.mesh_atoms.proofs.Nets.{same_net}
-use Rattle.mesh_paths.specs.Paths.{AreAscendingRows}
-use Rattle.mesh_paths.specs.Tree.{IsAsGood}
-use Rattle.mesh_atoms.proofs.Values.{before_trans, not_before_itself, at_most_itself, at_most_of_before}
+use Rattle.mesh_paths.proofs.Common.{common_steps, ◌≡◌, ℕ, zero, suc, ◌+◌, ◌-◌, ◌<◌, ◌≤◌, ◌⊎◌, inl, inr, refl, sym, ◌∙◌, ap, subst, arith, Some, List, ◌∷◌, length, Contains, slice_index_or, cases_eq, cases_lt, Contains-get_or, slice_get-get_or, get_or_from_slice_get, Addr4, NetAddr, IsBefore, IsAtMost, PathRow, same_net, AreAscendingRows, IsAsGood, before_trans, not_before_itself, at_most_itself, at_most_of_before}
 
 -- Nodes
 

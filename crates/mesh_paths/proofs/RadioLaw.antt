@@ -1,29 +1,10 @@
 -- Joined routers, and the pairs and parts that make a radio graph.
-use Rattle.std.proofs.Common.{◌≡◌, ℕ, zero, suc, ◌+◌, ◌<◌, ◌≤◌, ◌⊎◌, inl, inr, refl, sym, ◌∙◌, ap, subst, arith, Bool, true, false, cond, Decides, List, [], ◌∷◌, map, filter, length, Contains, slice_get, slice_index, slice_index_or, slice_set, get_or-set_same, get_or-set_other, Some}
-use Rattle.std.specs.Prelude.{not}
-use Rattle.std.specs.List.{AllWithin, list_any, range_with_len, sum}
-use Rattle.std.proofs.lemmas.Bool.{cases_eq, and_parts}
-use Rattle.std.proofs.lemmas.List.{length-set}
-use Rattle.std.proofs.lemmas.List.Elements.{AllWithin-more, at_read}
-use Rattle.std.proofs.lemmas.List.FromFn.{get_or-range_with_len, length-range_with_len}
-use Rattle.std.proofs.lemmas.List.Sums.{sum_by-set}
-use Rattle.std.proofs.lemmas.Option.{slice_get_within, get_or_from_slice_get}
-use Rattle.mesh_atoms.specs.declared.graphs.Pair.{Pair}
-use Rattle.mesh_atoms.specs.declared.codes.metric.Metric.{Metric}
-use Rattle.mesh_atoms.specs.declared.settings.RadioArc.{RadioArc}
-use Rattle.mesh_atoms.specs.declared.settings.RouterSettings.{RouterSettings}
-use Rattle.mesh_atoms.specs.declared.settings.Scenario.{Scenario}
-use Rattle.mesh_atoms.specs.Radio.{Joins, Adjacent, Joined, IsRadioGraph}
+use Rattle.mesh_paths.proofs.Common.{◌≡◌, ℕ, zero, suc, ◌+◌, ◌<◌, ◌≤◌, ◌⊎◌, inl, inr, refl, sym, ◌∙◌, ap, subst, arith, Bool, true, false, cond, Decides, List, [], ◌∷◌, map, filter, length, Contains, slice_get, slice_index, slice_index_or, slice_set, get_or-set_same, get_or-set_other, Some, not, AllWithin, list_any, range_with_len, sum, cases_eq, and_parts, length-set, AllWithin-more, at_read, get_or-range_with_len, length-range_with_len, sum_by-set, slice_get_within, get_or_from_slice_get, Pair, Metric, RadioArc, RouterSettings, Scenario, Joins, Adjacent, Joined, IsRadioGraph, are_distinct, ends_eq, Decides-and, Decides-eqb, Decides-some, pair_of, is_admitted, is_arc_back, is_admitted_back, is_met, is_joined, Chain, IsInside, IsLevel, IsParts, Lowers, Goes, contains_filter as picked, contains_cases, contains_map, contains_at, contains_none as none_of, not_both, none_is_some}
 use Rattle.mesh_atoms.specs.Radio.Joined.{Itself, By}
-use Rattle.mesh_atoms.specs.Settings.{are_distinct, ends_eq}
-use Rattle.mesh_atoms.proofs.Deciding.{Decides-and, Decides-eqb, Decides-some}
 use Rattle.mesh_paths.proofs.Admitted.{joins_back, admitted_arc, admits_arc}
-use Rattle.mesh_paths.specs.Parts.{pair_of, is_admitted, is_arc_back, is_admitted_back, is_met, is_joined, Chain, IsInside, IsLevel, IsParts, Lowers, Goes}
 use Rattle.mesh_paths.specs.Parts.Chain.{Start, On}
 use Rattle.mesh_paths.proofs.Rows.{item_in}
 use Rattle.mesh_paths.proofs.Scenarios.{any_of, ends_of, same_ends, sound_scenario}
-use Rattle.mesh_atoms.proofs.Lists.{contains_filter as picked, contains_cases, contains_map, contains_at, contains_none as none_of}
-use Rattle.mesh_atoms.proofs.Options.{not_both, none_is_some}
 
 -- Joined routers
 

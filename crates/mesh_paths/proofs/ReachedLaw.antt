@@ -1,26 +1,8 @@
 -- A row that gets better keeps the state of a search and brings it nearer to its end; when none does any more, it has found a tree.
-use Rattle.std.proofs.lemmas.Grind.{common_steps}
-use Rattle.std.proofs.Common.{◌≡◌, ◌≢◌, ◌↔◌, ℕ, ◌+◌, ◌*◌, ◌<◌, ◌≤◌, ◌⊎◌, inl, inr, refl, sym, ◌∙◌, ap, subst, arith, Bool, true, false, cond, IsTrue, List, [], ◌∷◌, length, Contains, Option, Some, None}
-use Rattle.std.specs.List.{sum_by}
-use Rattle.std.specs.Ordering.{is_eq}
+use Rattle.mesh_paths.proofs.Common.{common_steps, ◌≡◌, ◌≢◌, ◌↔◌, ℕ, ◌+◌, ◌*◌, ◌<◌, ◌≤◌, ◌⊎◌, inl, inr, refl, sym, ◌∙◌, ap, subst, arith, Bool, true, false, cond, IsTrue, List, [], ◌∷◌, length, Contains, Option, Some, None, sum_by, is_eq, cases_lt, cases_Bool, tied_itself, sum_by-cons, values_of, NetAddr, Arc4, Graph, PathRow, IsBefore, IsAtMost, net_cmp, net_total, net_exact, is_equal, HasCosts, IsCertificate, OffersBy, IsAsGood, IsSettledRow, IsKeyed, Settles, RowMap, missing_of, weight_of, missing_in, weight_in, IsMetIn, Betters, IsOfferBy, HasAsGood, IsInRange, IsLedTo, HasLedRows, contains_tail as in_tail, contains_cases}
 use Rattle.std.specs.BTreeMap as tree
-use Rattle.std.proofs.lemmas.Bool.{cases_lt, cases_Bool}
-use Rattle.std.proofs.lemmas.Cmp.{tied_itself}
-use Rattle.std.proofs.lemmas.List.Sums.{sum_by-cons}
-use Rattle.std.specs.Map.{values_of}
-use Rattle.mesh_atoms.specs.declared.addr.NetAddr.{NetAddr}
-use Rattle.mesh_atoms.specs.declared.graphs.Arc4.{Arc4}
-use Rattle.mesh_atoms.specs.declared.graphs.Graph.{Graph}
-use Rattle.mesh_atoms.specs.declared.graphs.PathRow.{PathRow}
-use Rattle.mesh_atoms.specs.Nodes.{IsBefore, IsAtMost, net_cmp}
-use Rattle.mesh_atoms.proofs.NetOrder.{net_total, net_exact, is_equal}
-use Rattle.mesh_paths.specs.Paths.{HasCosts, IsCertificate}
-use Rattle.mesh_paths.specs.Tree.{OffersBy, IsAsGood}
-use Rattle.mesh_paths.specs.Search.{IsSettledRow, IsKeyed, Settles}
-use Rattle.mesh_paths.specs.Reached.{RowMap, missing_of, weight_of, missing_in, weight_in, IsMetIn, Betters, IsOfferBy, HasAsGood, IsInRange, IsLedTo, HasLedRows}
 use Rattle.mesh_paths.proofs.Order.{same_node, at_most_or_before}
 use Rattle.mesh_paths.proofs.Found.{tree_found, certificate_of_rows}
-use Rattle.mesh_atoms.proofs.Lists.{contains_tail as in_tail, contains_cases}
 
 -- Sums over one list
 

@@ -1,12 +1,5 @@
 -- Steps of the test of a certificate.
-use Rattle.std.proofs.Common.{◌≡◌, ◌↔◌, ℕ, ◌+◌, inl, inr, refl, sym, ◌∙◌, subst, Bool, true, false, IsTrue, List, length, Contains, ◌<◌, ◌≤◌, slice_index_or, arith}
-use Rattle.std.specs.List.{AllWithin}
-use Rattle.std.proofs.lemmas.List.Elements.{All-contains, AllWithin-more, at_read}
-use Rattle.mesh_atoms.specs.declared.addr.NetAddr.{NetAddr}
-use Rattle.mesh_atoms.specs.declared.graphs.Arc4.{Arc4}
-use Rattle.mesh_atoms.specs.declared.graphs.PathRow.{PathRow}
-use Rattle.mesh_paths.specs.Paths.{AreAscendingRows}
-use Rattle.mesh_paths.specs.Tree.{IsStart, OffersTo, IsAsGood, MeetsRow, IsArcMet, IsStep, IsReached, IsClosed}
+use Rattle.mesh_paths.proofs.Common.{◌≡◌, ◌↔◌, ℕ, ◌+◌, inl, inr, refl, sym, ◌∙◌, subst, Bool, true, false, IsTrue, List, length, Contains, ◌<◌, ◌≤◌, slice_index_or, arith, AllWithin, All-contains, AllWithin-more, at_read, NetAddr, Arc4, PathRow, AreAscendingRows, IsStart, OffersTo, IsAsGood, MeetsRow, IsArcMet, IsStep, IsReached, IsClosed}
 use Rattle.mesh_paths.proofs.Order.{single}
 
 -- Answers

@@ -1,24 +1,6 @@
 -- Each scenario is sound: its type keeps that addresses are distinct, that no network is a router's address, and what arcs join.
-use Rattle.std.proofs.lemmas.Grind.{common_steps}
-use Rattle.std.proofs.Common.{◌≡◌, ◌≢◌, ℕ, zero, suc, ◌<◌, ◌≤◌, inl, inr, refl, sym, ◌∙◌, ap, subst, arith, List, [], ◌∷◌, map, length, Contains, slice_get, Some}
-use Rattle.std.specs.Prelude.{Bool, true, not, nat_eq, nat_lt, slice_index}
-use Rattle.std.specs.List.{flat_map, list_all, list_any}
-use Rattle.std.proofs.lemmas.Bool.{eq-eqb, ltb-true, and_parts, or_left, or_right}
-use Rattle.mesh_atoms.specs.declared.addr.Addr4.{Addr4}
-use Rattle.mesh_atoms.specs.declared.addr.NetAddr.{NetAddr}
-use Rattle.mesh_atoms.specs.declared.codes.metric.Metric.{Metric}
-use Rattle.mesh_atoms.specs.declared.settings.Interface.{Interface}
-use Rattle.mesh_atoms.specs.declared.settings.Attached4.{Attached4}
-use Rattle.mesh_atoms.specs.declared.settings.RouterSettings.{RouterSettings}
-use Rattle.mesh_atoms.specs.declared.settings.RadioArc.{RadioArc}
-use Rattle.mesh_atoms.specs.declared.settings.Scenario.{Scenario}
-use Rattle.mesh_atoms.specs.Base.{host, addr_eq}
-use Rattle.mesh_atoms.specs.Radio.{Leads, Router, AddressOf, Attaches, IsSoundScenario}
-use Rattle.mesh_atoms.specs.Settings.{are_distinct, is_host, Ends, ends_eq, is_interface}
-use Rattle.mesh_atoms.specs.State.{HasAddressOn, IsOriginator}
+use Rattle.mesh_paths.proofs.Common.{common_steps, ◌≡◌, ◌≢◌, ℕ, zero, suc, ◌<◌, ◌≤◌, inl, inr, refl, sym, ◌∙◌, ap, subst, arith, List, [], ◌∷◌, map, length, Contains, slice_get, Some, Bool, true, not, nat_eq, nat_lt, slice_index, flat_map, list_all, list_any, eq-eqb, ltb-true, and_parts, or_left, or_right, Addr4, NetAddr, Metric, Interface, Attached4, RouterSettings, RadioArc, Scenario, host, addr_eq, Leads, Router, AddressOf, Attaches, IsSoundScenario, are_distinct, is_host, Ends, ends_eq, is_interface, HasAddressOn, IsOriginator, contains_cases, contains_map, first_item, contains_flat_map_at, back_distinct, contains_none as none_of, front_distinct, one_part, not_both, none_is_some}
 use Rattle.mesh_atoms.proofs.Lookups.{addr_equiv}
-use Rattle.mesh_atoms.proofs.Lists.{contains_cases, contains_map, first_item, contains_flat_map_at, back_distinct, contains_none as none_of, front_distinct, one_part}
-use Rattle.mesh_atoms.proofs.Options.{not_both, none_is_some}
 
 -- Elements
 

@@ -1,9 +1,5 @@
 -- Elements of a list with a head, and what more rows offer and meet.
-use Rattle.std.proofs.Common.{ℕ, inl, inr, List}
-use Rattle.mesh_atoms.specs.declared.addr.NetAddr.{NetAddr}
-use Rattle.mesh_atoms.specs.declared.graphs.Arc4.{Arc4}
-use Rattle.mesh_atoms.specs.declared.graphs.PathRow.{PathRow}
-use Rattle.mesh_paths.specs.Tree.{OffersBy, MeetsBy}
+use Rattle.mesh_paths.proofs.Common.{ℕ, inl, inr, List, NetAddr, Arc4, PathRow, OffersBy, MeetsBy}
 
 -- Elements of a list with a head
 

@@ -1,23 +1,11 @@
 -- The order of steps, and what a change of a set or of a map says of its elements.
-use Rattle.std.proofs.lemmas.Grind.{common_steps}
-use Rattle.std.proofs.Common.{◌≡◌, ◌↔◌, ℕ, ◌+◌, ◌≤◌, ◌⊎◌, inl, inr, refl, sym, ◌∙◌, ap, arith, Bool, true, false, cond, IsTrue, length, Contains, Some, None}
-use Rattle.std.specs.Ordering.{nat_cmp, ordering_then, is_eq}
+use Rattle.mesh_paths.proofs.Common.{common_steps, ◌≡◌, ◌↔◌, ℕ, ◌+◌, ◌≤◌, ◌⊎◌, inl, inr, refl, sym, ◌∙◌, ap, arith, Bool, true, false, cond, IsTrue, length, Contains, Some, None, nat_cmp, ordering_then, is_eq, BTreeMap, cases_Bool, cond_both, then_total, on_total, nat_cmp_total, tied_itself, btree_set_contains_iff, NetAddr, net_cmp, PathRow, net_total, net_exact, then_equal, is_equal, SearchStep, step_cmp, PutsStep, IsSettledRow, IsKeyed, Settles, row_of}
 use Rattle.std.specs.declared.cmp.Ordering.{Ordering}
 use Rattle.std.specs.Cmp.{IsTotalOrder}
 use Rattle.std.specs.BTreeMap as tree
 use Rattle.std.specs.BTreeSet as sorted
-use Rattle.std.specs.BTreeMap.{BTreeMap}
 use Rattle.std.specs.BTreeSet.{BTreeSet}
-use Rattle.std.proofs.lemmas.Bool.{cases_Bool, cond_both}
-use Rattle.std.proofs.lemmas.Cmp.{then_total, on_total, nat_cmp_total, tied_itself}
 use Rattle.std.proofs.lemmas.Map.Lookups.{CmpEqualImpliesEq, exact_unsigned}
-use Rattle.std.proofs.lemmas.Map.Views.{btree_set_contains_iff}
-use Rattle.mesh_atoms.specs.declared.addr.NetAddr.{NetAddr}
-use Rattle.mesh_atoms.specs.Nodes.{net_cmp}
-use Rattle.mesh_atoms.specs.declared.graphs.PathRow.{PathRow}
-use Rattle.mesh_atoms.proofs.NetOrder.{net_total, net_exact, then_equal, is_equal}
-use Rattle.mesh_paths.specs.declared.frontier.SearchStep.{SearchStep}
-use Rattle.mesh_paths.specs.Search.{step_cmp, PutsStep, IsSettledRow, IsKeyed, Settles, row_of}
 
 -- Orders
 

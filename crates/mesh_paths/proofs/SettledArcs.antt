@@ -1,27 +1,10 @@
 -- The arcs of a router's own graph in a settled network, in the terms of the radio graph.
-use Rattle.std.proofs.Common.{◌≡◌, ℕ, ◌≤◌, ◌⊎◌, inl, inr, refl, sym, ◌∙◌, ap, subst, arith, List, Contains}
-use Rattle.mesh_atoms.specs.declared.addr.Addr4.{Addr4}
-use Rattle.mesh_atoms.specs.declared.addr.NetAddr.{NetAddr}
-use Rattle.mesh_atoms.specs.declared.codes.metric.Metric.{Metric}
+use Rattle.mesh_paths.proofs.Common.{◌≡◌, ℕ, ◌≤◌, ◌⊎◌, inl, inr, refl, sym, ◌∙◌, ap, subst, arith, List, Contains, Addr4, NetAddr, Metric, RouterSettings, Scenario, Willing as Wills, Advertises, AdvertisesNetwork, host, metric_value, HopCosts, Joined, Itself, By, Router, IsWillingRouter, AddressOf, OriginatorOf, Attaches, RouteArc, To_neighbour, To_two_hop, By_router, By_address, By_network, At, IsPeer, IsStray, State, IsOriginator, IsSettledNetwork, metric_above_zero, same_host, same_some}
 use Rattle.mesh_atoms.specs.declared.tuples.NetworkTuple.{NetworkTuple}
-use Rattle.mesh_atoms.specs.declared.settings.RouterSettings.{RouterSettings}
-use Rattle.mesh_atoms.specs.declared.settings.Scenario.{Scenario}
-use Rattle.mesh_atoms.specs.declared.hello.Willing.{Willing as Wills}
-use Rattle.mesh_atoms.specs.Advertised.{Advertises, AdvertisesNetwork}
-use Rattle.mesh_atoms.specs.Base.{host}
-use Rattle.mesh_atoms.specs.Codes.Codes.{metric_value}
-use Rattle.mesh_atoms.specs.Radio.{HopCosts, Joined, Itself, By, Router, IsWillingRouter, AddressOf, OriginatorOf, Attaches}
-use Rattle.mesh_atoms.specs.Routes.{RouteArc, To_neighbour, To_two_hop, By_router, By_address, By_network}
-use Rattle.mesh_atoms.specs.Settled.{At, IsPeer, IsStray}
-use Rattle.mesh_atoms.specs.State.{State, IsOriginator}
-use Rattle.mesh_paths.specs.SettledRoutes.{IsSettledNetwork}
 use Rattle.mesh_paths.proofs.SettledDecisions.{attaches}
 use Rattle.mesh_paths.proofs.SettledWalks.{View}
 use Rattle.mesh_paths.proofs.SettledNeighbours.{originator_address, held, owner, same_settings, address_in, state_there, near_of, apart, same_metric, known, known_address, known_by, neighbouring, has_with, hop_of, shown_near, shown_out}
 use Rattle.mesh_paths.proofs.SettledRelays.{IsRelayOf, relays_willing, cover, gives, takes}
-use Rattle.mesh_atoms.proofs.CodesLemmas.CodeLaws.{metric_above_zero}
-use Rattle.mesh_atoms.proofs.Values.{same_host}
-use Rattle.mesh_atoms.proofs.Options.{same_some}
 
 module _ (s : Scenario) (states : List State) (now : ℕ) (S : IsSettledNetwork s states now) where
   -- Router x's own graph

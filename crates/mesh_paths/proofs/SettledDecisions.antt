@@ -1,23 +1,8 @@
 -- What can be looked up is there or isn't.
-use Rattle.std.proofs.Common.{◌≡◌, ℕ, zero, suc, ◌<◌, ◌⊎◌, inl, inr, refl, sym, subst, arith, List, [], ◌∷◌, length, Contains, slice_get, slice_index_or, Some, None}
-use Rattle.std.proofs.lemmas.Option.{slice_get_cases}
-use Rattle.mesh_atoms.specs.declared.addr.Addr4.{Addr4}
-use Rattle.mesh_atoms.specs.declared.addr.NetAddr.{NetAddr}
-use Rattle.mesh_atoms.specs.declared.tuples.Link.{Link}
-use Rattle.mesh_atoms.specs.declared.tuples.LinkKey.{LinkKey}
-use Rattle.mesh_atoms.specs.declared.settings.Attached4.{Attached4}
-use Rattle.mesh_atoms.specs.Base.{Base}
-use Rattle.mesh_atoms.specs.Codes.Codes.{metric_value}
-use Rattle.mesh_atoms.specs.Hello.{SaysLink}
-use Rattle.mesh_atoms.specs.Radio.{Attaches}
+use Rattle.mesh_paths.proofs.Common.{◌≡◌, ℕ, zero, suc, ◌<◌, ◌⊎◌, inl, inr, refl, sym, subst, arith, List, [], ◌∷◌, length, Contains, slice_get, slice_index_or, Some, None, slice_get_cases, Addr4, NetAddr, Link, LinkKey, Attached4, Base, metric_value, SaysLink, Attaches, State, state_of, Scenario, RouterSettings, contains_tail, same_address}
 use Rattle.mesh_atoms.specs.declared.tuples.LinkState.{LinkState}
 use Rattle.mesh_atoms.specs.declared.tuples.LinkState.TheVariants.{Pending as Is_pending, Lost as Is_lost, Symmetric as Is_symmetric, Heard as Is_heard}
-use Rattle.mesh_atoms.specs.State.{State, state_of}
-use Rattle.mesh_atoms.specs.declared.settings.Scenario.{Scenario}
-use Rattle.mesh_atoms.specs.declared.settings.RouterSettings.{RouterSettings}
 use Rattle.mesh_paths.proofs.Order.{same_node}
-use Rattle.mesh_atoms.proofs.Lists.{contains_tail}
-use Rattle.mesh_atoms.proofs.Values.{same_address}
 
 -- some element has the property, or none has
 pub any_or_none : {A : Type 0} (P : A → Type 0) → ((t : A) → P t ⊎ (P t → ⊥)) → (xs : List A) →

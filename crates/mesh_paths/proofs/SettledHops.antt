@@ -1,7 +1,5 @@
 -- The first hop of a least walk of a router's own graph leads on along a least radio walk.
-use Rattle.std.proofs.Common.{◌≡◌, ℕ, ◌+◌, ◌≤◌, ◌⊎◌, inl, inr, refl, sym, subst, arith}
-use Rattle.std.proofs.lemmas.Bool.{cases_eq}
-use Rattle.mesh_atoms.specs.Walk.{Walk, Stay, Onward, Least, Fits, FirstNode, AtSelf, Through, Here, Direct, Further, LeastToNet}
+use Rattle.mesh_paths.proofs.Common.{◌≡◌, ℕ, ◌+◌, ◌≤◌, ◌⊎◌, inl, inr, refl, sym, subst, arith, cases_eq, Walk, Stay, Onward, Least, Fits, FirstNode, AtSelf, Through, Here, Direct, Further, LeastToNet}
 use Rattle.mesh_paths.proofs.SettledWalks.{View, Radio, by_own, shadow_joined, sound, sound_net}
 use Rattle.mesh_paths.proofs.SettledLeast.{LeastRadio, walk_of, net_walk, row_least}
 

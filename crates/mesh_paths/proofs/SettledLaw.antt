@@ -1,26 +1,11 @@
 -- In a settled network the routes are those of the radio graph, and next hops lead on.
-use Rattle.std.proofs.Common.{◌+◌, ◌<◌, zero, suc, ◌≡◌, ℕ, ◌≤◌, ◌↔◌, inl, inr, refl, sym, ◌∙◌, ap, subst, arith, List, Contains}
-use Rattle.mesh_atoms.specs.declared.addr.Addr4.{Addr4}
-use Rattle.mesh_atoms.specs.declared.addr.NetAddr.{NetAddr}
+use Rattle.mesh_paths.proofs.Common.{◌+◌, ◌<◌, zero, suc, ◌≡◌, ℕ, ◌≤◌, ◌↔◌, inl, inr, refl, sym, ◌∙◌, ap, subst, arith, List, Contains, Addr4, NetAddr, Scenario, RouterSettings, host, metric_value, HopCosts, IsWillingRouter, Joins, AddressOf, Attaches, RadioLeast, To_router, To_network, RouteArc, IsOutside, IsParent, IsNextHop, At, State, Least, LeastWilling, Fits, FirstNode, AtSelf, Through, IsSettledNetwork, HasRow, RowsAreLeast, NextHopsLead, LeadsOn, Arrives, Goes_on, At_gateway, HopsTo, Has_it, Attaches_it, Next, TripEnds, TripsEnd, same_host, metric_above_zero, same_some}
 use Rattle.mesh_atoms.specs.declared.graphs.Route.{Route}
-use Rattle.mesh_atoms.specs.declared.settings.Scenario.{Scenario}
-use Rattle.mesh_atoms.specs.declared.settings.RouterSettings.{RouterSettings}
-use Rattle.mesh_atoms.specs.Base.{host}
-use Rattle.mesh_atoms.specs.Codes.Codes.{metric_value}
-use Rattle.mesh_atoms.specs.Radio.{HopCosts, IsWillingRouter, Joins, AddressOf, Attaches, RadioLeast, To_router, To_network}
-use Rattle.mesh_atoms.specs.Routes.{RouteArc, IsOutside, IsParent, IsNextHop}
-use Rattle.mesh_atoms.specs.Settled.{At}
-use Rattle.mesh_atoms.specs.State.{State}
-use Rattle.mesh_atoms.specs.Walk.{Least, LeastWilling, Fits, FirstNode, AtSelf, Through}
-use Rattle.mesh_paths.specs.SettledRoutes.{IsSettledNetwork, HasRow, RowsAreLeast, NextHopsLead, LeadsOn, Arrives, Goes_on, At_gateway, HopsTo, Has_it, Attaches_it, Next, TripEnds, TripsEnd}
 use Rattle.mesh_paths.proofs.SettledWalks.{View}
 use Rattle.mesh_paths.proofs.SettledLeast.{row_least, least_row, row_least_net, least_row_net}
 use Rattle.mesh_paths.proofs.SettledHops.{ends_at, same_least, next_hop, next_hop_net, LeadsTo, LeadsToNet}
 use Rattle.mesh_paths.proofs.SettledNeighbours.{held, owner, address_in, has_address, same_settings, originator_address, known_by, known_address, same_metric, state_there, near_of}
 use Rattle.mesh_paths.proofs.SettledArcs.{view}
-use Rattle.mesh_atoms.proofs.Values.{same_host}
-use Rattle.mesh_atoms.proofs.CodesLemmas.CodeLaws.{metric_above_zero}
-use Rattle.mesh_atoms.proofs.Options.{same_some}
 
 module _ (s : Scenario) (states : List State) (now : ℕ) (S : IsSettledNetwork s states now) where
   abbrev V : (x : ℕ) (p : State) → At states x p → View NetAddr

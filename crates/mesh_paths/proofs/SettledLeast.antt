@@ -1,6 +1,5 @@
 -- The least costs of a router's own graph are those of the radio graph.
-use Rattle.std.proofs.Common.{◌≡◌, ℕ, ◌+◌, ◌≤◌, inl, inr, subst, arith}
-use Rattle.mesh_atoms.specs.Walk.{Walk, Onward, Least, LeastWilling, LeastToNet}
+use Rattle.mesh_paths.proofs.Common.{◌≡◌, ℕ, ◌+◌, ◌≤◌, inl, inr, subst, arith, Walk, Onward, Least, LeastWilling, LeastToNet}
 use Rattle.mesh_paths.proofs.SettledWalks.{View, hops, Radio, joined_walk, complete, Shadow, sound, sound_net}
 
 module _ (Node : Type 0) (V : View Node) where

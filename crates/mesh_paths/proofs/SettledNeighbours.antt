@@ -1,25 +1,9 @@
 -- What a settled network says of each router's neighbours and HELLOs, in the terms of the radio graph.
-use Rattle.std.proofs.Common.{◌≡◌, ℕ, inl, inr, refl, subst, arith, List, Contains, Some, Option}
-use Rattle.mesh_atoms.specs.declared.addr.Addr4.{Addr4}
-use Rattle.mesh_atoms.specs.declared.codes.metric.Metric.{Metric}
-use Rattle.mesh_atoms.specs.declared.tuples.Neighbour.{Neighbour}
+use Rattle.mesh_paths.proofs.Common.{◌≡◌, ℕ, inl, inr, refl, subst, arith, List, Contains, Some, Option, Addr4, Metric, Neighbour, RouterSettings, Scenario, metric_value, Says, SaysSymmetric, Near_in, Near_out, Link_in, Link_out, IsSaid, Adjacent, IsMetric, HopCosts, Router, AddressOf, Covers, AreRoutes, At, IsNeighbourOf, Sound, State, HasSymmetric, HasAddress, IsOriginator, HasSymmetricWith, IsSettledNetwork, contains_at, same_some}
 use Rattle.mesh_atoms.specs.declared.graphs.NeighbourGraph.{NeighbourGraph}
-use Rattle.mesh_atoms.specs.declared.settings.RouterSettings.{RouterSettings}
-use Rattle.mesh_atoms.specs.declared.settings.Scenario.{Scenario}
-use Rattle.mesh_atoms.specs.Codes.Codes.{metric_value}
-use Rattle.mesh_atoms.specs.Hello.{Says, SaysSymmetric, Near_in, Near_out, Link_in, Link_out, IsSaid}
-use Rattle.mesh_atoms.specs.Radio.{Adjacent, IsMetric, HopCosts, Router, AddressOf}
 use Rattle.mesh_atoms.specs.RelayGraphs.{IsRoutingGraph}
-use Rattle.mesh_atoms.specs.Relays.{Covers}
-use Rattle.mesh_atoms.specs.Routes.{AreRoutes}
-use Rattle.mesh_atoms.specs.Settled.{At, IsNeighbourOf}
-use Rattle.mesh_atoms.specs.Sound.{Sound}
-use Rattle.mesh_atoms.specs.State.{State, HasSymmetric, HasAddress, IsOriginator, HasSymmetricWith}
-use Rattle.mesh_paths.specs.SettledRoutes.{IsSettledNetwork}
 use Rattle.mesh_paths.proofs.RadioLaw.{adjacent_back}
 use Rattle.mesh_paths.proofs.SettledDecisions.{shows_link}
-use Rattle.mesh_atoms.proofs.Lists.{contains_at}
-use Rattle.mesh_atoms.proofs.Options.{same_some}
 
 pub originator_address : (r : RouterSettings) (a : Addr4) → IsOriginator r a → HasAddress r a
 originator_address r a o =

@@ -1,26 +1,10 @@
 -- What a settled network says of each router's relays and TCs, in the terms of the radio graph.
-use Rattle.std.proofs.lemmas.Grind.{common_steps}
-use Rattle.std.proofs.Common.{◌≡◌, ℕ, ◌+◌, ◌≤◌, ◌⊎◌, inl, inr, refl, sym, ◌∙◌, ap, subst, arith, List, Contains, Some, IsTrue}
-use Rattle.mesh_atoms.specs.declared.addr.Addr4.{Addr4}
-use Rattle.mesh_atoms.specs.declared.codes.metric.Metric.{Metric}
-use Rattle.mesh_atoms.specs.declared.tuples.LinkKey.{LinkKey}
+use Rattle.mesh_paths.proofs.Common.{common_steps, ◌≡◌, ℕ, ◌+◌, ◌≤◌, ◌⊎◌, inl, inr, refl, sym, ◌∙◌, ap, subst, arith, List, Contains, Some, IsTrue, Addr4, Metric, LinkKey, Neighbour, Scenario, Willing as Wills, GivesAsSelector, Advertises, metric_value, Says, Routing, Adjacent, IsMetric, HopCosts, IsWillingRouter, AddressOf, Offers, IsWilling, IsRelay, At, IsTwoHopBy, State, HasTwoHop, HasSymmetric, IsSettledNetwork, same_some}
 use Rattle.mesh_atoms.specs.declared.tuples.TwoHop.{TwoHop}
-use Rattle.mesh_atoms.specs.declared.tuples.Neighbour.{Neighbour}
 use Rattle.mesh_atoms.specs.declared.graphs.Near.{Near}
 use Rattle.mesh_atoms.specs.declared.graphs.Direct.{Direct}
 use Rattle.mesh_atoms.specs.declared.graphs.Far.{Far}
-use Rattle.mesh_atoms.specs.declared.settings.Scenario.{Scenario}
-use Rattle.mesh_atoms.specs.declared.hello.Willing.{Willing as Wills}
-use Rattle.mesh_atoms.specs.Advertised.{GivesAsSelector, Advertises}
-use Rattle.mesh_atoms.specs.Codes.Codes.{metric_value}
-use Rattle.mesh_atoms.specs.Hello.{Says, Routing}
-use Rattle.mesh_atoms.specs.Radio.{Adjacent, IsMetric, HopCosts, IsWillingRouter, AddressOf}
-use Rattle.mesh_atoms.specs.Relays.{Offers, IsWilling, IsRelay}
-use Rattle.mesh_atoms.specs.Settled.{At, IsTwoHopBy}
-use Rattle.mesh_atoms.specs.State.{State, HasTwoHop, HasSymmetric}
-use Rattle.mesh_paths.specs.SettledRoutes.{IsSettledNetwork}
 use Rattle.mesh_paths.proofs.SettledNeighbours.{held, owner, same_state, same_settings, address_in, has_address, back, state_there, near_of, apart, same_metric, Known, known, known_address, known_originator, known_by, known_as, neighbouring, has_with, hop_of, shown_in, shows_neighbour}
-use Rattle.mesh_atoms.proofs.Options.{same_some}
 
 module _ (s : Scenario) (states : List State) (now : ℕ) (S : IsSettledNetwork s states now) where
   -- Relays

@@ -1,14 +1,6 @@
 -- Short lists, and bases of one tuple and of none.
-use Rattle.std.proofs.lemmas.Grind.{common_steps}
-use Rattle.std.proofs.Common.{◌≡◌, ℕ, zero, suc, ◌<◌, ◌⊎◌, inl, inr, refl, sym, arith, List, [], ◌∷◌, Contains, slice_get, slice_index_or, length, Some, None}
-use Rattle.std.specs.Prelude.{Bool, true, false, cond, nat_eq}
+use Rattle.mesh_paths.proofs.Common.{common_steps, ◌≡◌, ℕ, zero, suc, ◌<◌, ◌⊎◌, inl, inr, refl, sym, arith, List, [], ◌∷◌, Contains, slice_get, slice_index_or, length, Some, None, Bool, true, false, cond, nat_eq, eq-eqb, Addr4, base_of, HasDistinctKeys, addr_eq, IsWithin, contains_head as here, none_is_some}
 use Rattle.std.specs.List.{IsDistinct}
-use Rattle.std.proofs.lemmas.Bool.{eq-eqb}
-use Rattle.mesh_atoms.specs.declared.addr.Addr4.{Addr4}
-use Rattle.mesh_atoms.specs.Base.{base_of, HasDistinctKeys, addr_eq}
-use Rattle.mesh_atoms.specs.Sound.{IsWithin}
-use Rattle.mesh_atoms.proofs.Lists.{contains_head as here}
-use Rattle.mesh_atoms.proofs.Options.{none_is_some}
 
 pub only_at : {A : Type 0} (a t : A) (k : ℕ) → k < length (a ∷ []) → slice_index_or (a ∷ []) k t ≡ t → t ≡ a
 only_at a t zero l e = sym e

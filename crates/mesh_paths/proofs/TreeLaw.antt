@@ -1,18 +1,7 @@
 -- Rows are a certificate exactly where they are a tree: what can be seen without walks says all of walks.
-use Rattle.std.proofs.Common.{◌≡◌, ℕ, zero, suc, ◌+◌, ◌<◌, ◌≤◌, ◌≢◌, ◌⊎◌, inl, inr, refl, sym, ◌∙◌, ap, subst, arith, List, Contains, Bool, IsTrue, ◌↔◌}
-use Rattle.std.proofs.lemmas.Bool.{cases_lt}
-use Rattle.mesh_atoms.specs.declared.addr.NetAddr.{NetAddr}
-use Rattle.mesh_atoms.specs.Walk.{Walk, Stay, Onward, Least, Fits}
-use Rattle.mesh_atoms.specs.Nodes.{IsAtMost}
-use Rattle.mesh_atoms.specs.declared.graphs.Arc4.{Arc4}
-use Rattle.mesh_atoms.specs.declared.graphs.Graph.{Graph}
-use Rattle.mesh_atoms.specs.declared.graphs.PathRow.{PathRow}
-use Rattle.mesh_atoms.specs.declared.graphs.Certificate.{Certificate}
-use Rattle.mesh_paths.specs.Paths.{InGraph, HasCosts, IsPathRow, IsCertificate}
-use Rattle.mesh_paths.specs.Tree.{OffersTo, MeetsRow, IsTree}
+use Rattle.mesh_paths.proofs.Common.{◌≡◌, ℕ, zero, suc, ◌+◌, ◌<◌, ◌≤◌, ◌≢◌, ◌⊎◌, inl, inr, refl, sym, ◌∙◌, ap, subst, arith, List, Contains, Bool, IsTrue, ◌↔◌, cases_lt, NetAddr, Walk, Stay, Onward, Least, Fits, IsAtMost, Arc4, Graph, PathRow, Certificate, InGraph, HasCosts, IsPathRow, IsCertificate, OffersTo, MeetsRow, IsTree, at_most_itself}
 use Rattle.mesh_paths.proofs.Order.{same_node, single}
 use Rattle.mesh_paths.proofs.Rows.{move_offer, carry}
-use Rattle.mesh_atoms.proofs.Values.{at_most_itself}
 
 -- one node has one least cost
 pub one_least : {N : Type 0} {Arc : N → N → ℕ → Type 0} {a b : N} {c d : ℕ} → Least Arc a b c → Least Arc a b d → c ≡ d

@@ -1,16 +1,7 @@
 -- A graph has one certificate from a node.
-use Rattle.std.proofs.lemmas.Grind.{common_steps}
-use Rattle.std.proofs.Common.{◌≡◌, ◌⊎◌, inl, inr, refl, sym, ◌∙◌, ap, subst, arith, List, [], ◌∷◌, Contains}
-use Rattle.mesh_atoms.specs.declared.addr.NetAddr.{NetAddr}
-use Rattle.mesh_atoms.specs.Walk.{Least, Fits}
-use Rattle.mesh_atoms.specs.declared.graphs.Graph.{Graph}
-use Rattle.mesh_atoms.specs.declared.graphs.PathRow.{PathRow}
-use Rattle.mesh_atoms.specs.declared.graphs.Certificate.{Certificate}
-use Rattle.mesh_paths.specs.Paths.{InGraph, IsPathRow, AreAscendingRows, IsCertificate, IsOneCertificate}
+use Rattle.mesh_paths.proofs.Common.{common_steps, ◌≡◌, ◌⊎◌, inl, inr, refl, sym, ◌∙◌, ap, subst, arith, List, [], ◌∷◌, Contains, NetAddr, Least, Fits, Graph, PathRow, Certificate, InGraph, IsPathRow, AreAscendingRows, IsCertificate, IsOneCertificate, before_trans, not_before_itself, contains_tail as in_tail, contains_cases}
 use Rattle.mesh_paths.proofs.Order.{same_node, at_most_both, tail_ascends, head_before}
 use Rattle.mesh_paths.proofs.TreeLaw.{one_least}
-use Rattle.mesh_atoms.proofs.Values.{before_trans, not_before_itself}
-use Rattle.mesh_atoms.proofs.Lists.{contains_tail as in_tail, contains_cases}
 
 same_tail : (x : PathRow) (xs ys : List PathRow) → AreAscendingRows (x ∷ xs) → ((z : PathRow) → Contains (x ∷ xs) z → Contains (x ∷ ys) z) → (z : PathRow) → Contains xs z → Contains ys z
 same_tail x xs ys up to z has = elim (contains_cases x ys z (to z (in_tail x xs z has))) [

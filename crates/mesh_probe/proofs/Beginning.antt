@@ -1,28 +1,8 @@
 -- How a probe begins: its number, and its first frames.
-use Rattle.std.proofs.Common.{◌≡◌, refl, ℕ, zero, suc, ◌<◌, ◌≤◌, inl, inr, sym, ◌∙◌, ap, subst, arith, List, [], ◌∷◌, length, Some, None, map, get_or}
-use Rattle.std.proofs.lemmas.Grind.{common_steps}
-use Rattle.std.specs.Prelude.{All}
-use Rattle.std.proofs.lemmas.List.Elements.{All-nil, All-cons, All-append}
-use Rattle.std.proofs.lemmas.Option.{slice_get_cases}
-use Rattle.mesh_atoms.specs.declared.addr.Addr4.{Addr4}
-use Rattle.mesh_atoms.specs.declared.settings.RouterSettings.{RouterSettings}
-use Rattle.mesh_atoms.specs.declared.settings.Scenario.{Scenario}
-use Rattle.mesh_atoms.specs.Radio.{Router}
-use Rattle.mesh_atoms.specs.Settled.{At}
-use Rattle.mesh_atoms.specs.State.{State, IsOriginator}
-use Rattle.mesh_atoms.specs.Validity.{Everywhere}
-use Rattle.mesh_machine.specs.Frames.{on_each}
-use Rattle.mesh_probe.specs.declared.coverage.Coverage.{Coverage}
-use Rattle.mesh_probe.specs.declared.coverage.Probe.TheVariants.{NoNumber, Done}
-use Rattle.mesh_probe.specs.declared.transmission.Transmission.{Transmission}
-use Rattle.mesh_probe.specs.Flood.{sent_by, Flood}
-use Rattle.mesh_probe.specs.Hearing.{CanHear, IsOfInterface, IsLeastUnknown, IsProbeFrame, SendsOnceFrom}
-use Rattle.mesh_probe.specs.Laws.{IsTcOf, tc_key}
-use Rattle.mesh_probe.specs.Probes.{AreRoutersAt, HasLeastNumber, IsKnown, IsProbeFlood, IsTcNoted}
+use Rattle.mesh_probe.proofs.Common.{◌≡◌, refl, ℕ, zero, suc, ◌<◌, ◌≤◌, inl, inr, sym, ◌∙◌, ap, subst, arith, List, [], ◌∷◌, length, Some, None, map, get_or, common_steps, All, All-nil, All-cons, All-append, slice_get_cases, Addr4, RouterSettings, Scenario, Router, At, State, IsOriginator, Everywhere, on_each, Coverage, NoNumber, Done, Transmission, sent_by, Flood, CanHear, IsOfInterface, IsLeastUnknown, IsProbeFrame, SendsOnceFrom, IsTcOf, tc_key, AreRoutersAt, HasLeastNumber, IsKnown, IsProbeFlood, IsTcNoted, same_some}
 use Rattle.mesh_probe.proofs.Prefix.{sends_once}
 use Rattle.mesh_probe.proofs.Queues.{one_sent}
 use Rattle.mesh_probe.proofs.Turns.{state_there}
-use Rattle.mesh_atoms.proofs.Options.{same_some}
 
 -- The number
 

@@ -1,17 +1,7 @@
 -- Frames that carry one message alone.
-use Rattle.std.proofs.Common.{◌≡◌, ℕ, suc, ◌+◌, ◌-◌, ◌≤◌, ◌<◌, refl, sym, ◌∙◌, ap, subst, arith, lit≤, List, [], ◌∷◌, ◌++◌, length, Some}
-use Rattle.std.specs.Prelude.{slice_range}
-use Rattle.std.proofs.lemmas.List.{append_assoc, append-nil, length-append}
-use Rattle.mesh_machine.specs.packet.declared.packet.Span.{Span}
-use Rattle.mesh_machine.specs.packet.Fields.{MessageFields, PacketFields}
-use Rattle.mesh_machine.specs.packet.Grammar.{Spells, SpellsMessage, SpellsMessages, FirstFault}
+use Rattle.mesh_probe.proofs.Common.{◌≡◌, ℕ, suc, ◌+◌, ◌-◌, ◌≤◌, ◌<◌, refl, sym, ◌∙◌, ap, subst, arith, lit≤, List, [], ◌∷◌, ◌++◌, length, Some, slice_range, append_assoc, append-nil, length-append, Span, MessageFields, PacketFields, Spells, SpellsMessage, SpellsMessages, FirstFault, HasHop, one_hop_on, hopped, alone, octets_at, middle_range, some_equal}
 use Rattle.mesh_machine.proofs.packet.Packets.{packet_again, packet_fault}
-use Rattle.mesh_wire.specs.Rehop.{HasHop, one_hop_on, hopped}
-use Rattle.mesh_wire.specs.Writes.{alone}
 use Rattle.mesh_wire.proofs.Hops.{can_hop, hop_spells}
-use Rattle.mesh_machine.specs.Frames.{octets_at}
-use Rattle.mesh_atoms.proofs.Lists.{middle_range}
-use Rattle.mesh_atoms.proofs.Options.{some_equal}
 
 -- the message after so many hops
 abbrev pub at_hop : MessageFields → ℕ → ℕ → MessageFields

@@ -1,14 +1,6 @@
 -- A message reaches each router that a chain of links leads to.
-use Rattle.std.proofs.Common.{◌≡◌, ℕ, zero, suc, ◌+◌, ◌<◌, ◌≤◌, ◌⊎◌, inl, inr, refl, sym, ◌∙◌, ap, subst, arith, List, [], ◌∷◌, ◌++◌, length, Contains, Option, Some}
-use Rattle.std.specs.Prelude.{Bool, true, false, nat_eq}
-use Rattle.std.specs.List.{IsDistinct, AllByRecursion}
-use Rattle.std.proofs.lemmas.Bool.{eq-eqb, eqb-true, cases_Bool, cases_eq, or_right, or_parts, or_cases}
-use Rattle.std.proofs.lemmas.List.Elements.{Contains-append_left, Contains-append_right, Contains-append_cases, Contains-push, Contains-push_cases}
-use Rattle.std.proofs.lemmas.Map.Keys.{IsDistinct-cons}
-use Rattle.std.proofs.lemmas.Map.Steps.{length-le_from_distinct_below}
+use Rattle.mesh_probe.proofs.Common.{◌≡◌, ℕ, zero, suc, ◌+◌, ◌<◌, ◌≤◌, ◌⊎◌, inl, inr, refl, sym, ◌∙◌, ap, subst, arith, List, [], ◌∷◌, ◌++◌, length, Contains, Option, Some, Bool, true, false, nat_eq, IsDistinct, AllByRecursion, eq-eqb, eqb-true, cases_Bool, cases_eq, or_right, or_parts, or_cases, Contains-append_left, Contains-append_right, Contains-append_cases, Contains-push, Contains-push_cases, IsDistinct-cons, length-le_from_distinct_below, contains_tail as in_tail, contains_cases, contains_none as none_of, true_false}
 use Rattle.mesh_probe.proofs.Wave.{has, Spread, Going, frames_on, where_sent, Net, Takes, Deaf, Quiet, Sends, Hears, All_heard, One_hears, Wave, Ends, Goes, WaveFrom, Chain, Itself, On, IsSelected, IsCovering, WaveCovers}
-use Rattle.mesh_atoms.proofs.Lists.{contains_tail as in_tail, contains_cases, contains_none as none_of}
-use Rattle.mesh_atoms.proofs.Options.{true_false}
 use Rattle.std.proofs.Math.Nat.{eq-or-lt_of_le}
 
 -- Lists

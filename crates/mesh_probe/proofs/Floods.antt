@@ -1,19 +1,7 @@
 -- The laws of a flood.
-use Rattle.std.proofs.Common.{◌≡◌, ℕ, ◌<◌, ◌≤◌, inl, inr, sym, subst, List, [], ◌∷◌, length, Contains}
-use Rattle.std.specs.List.{AllPairs}
-use Rattle.std.proofs.lemmas.Option.{slice_get_within}
-use Rattle.mesh_atoms.specs.declared.settings.Scenario.{Scenario}
-use Rattle.mesh_atoms.specs.declared.tc.Tc.{Tc}
-use Rattle.mesh_atoms.specs.Radio.{Joined, Itself, By}
-use Rattle.mesh_atoms.specs.Settled.{AreStates}
-use Rattle.mesh_atoms.specs.State.{State}
-use Rattle.mesh_machine.specs.packet.Fields.{MessageFields}
-use Rattle.mesh_paths.specs.SettledRoutes.{IsSettledNetwork}
+use Rattle.mesh_probe.proofs.Common.{◌≡◌, ℕ, ◌<◌, ◌≤◌, inl, inr, sym, subst, List, [], ◌∷◌, length, Contains, AllPairs, slice_get_within, Scenario, Tc, Joined, Itself, By, AreStates, State, MessageFields, IsSettledNetwork, Transmission, hearers_of, FloodOf, AreUnknown, AllWillFlood, FloodReaches, FloodSendsOnce, AreSentApart}
 use Rattle.mesh_probe.proofs.Wave.{Going, Net, Chain, On, IsCovering, Spread}
 use Rattle.mesh_probe.proofs.Wave as wave
-use Rattle.mesh_probe.specs.declared.transmission.Transmission.{Transmission}
-use Rattle.mesh_probe.specs.Flood.{hearers_of}
-use Rattle.mesh_probe.specs.Laws.{FloodOf, AreUnknown, AllWillFlood, FloodReaches, FloodSendsOnce, AreSentApart}
 use Rattle.mesh_probe.proofs.Covers.{wave_reaches}
 use Rattle.mesh_probe.proofs.Once.{wave_sends_once}
 use Rattle.mesh_probe.proofs.Relaying.{settled_covers}

@@ -1,28 +1,9 @@
 -- What the hearing of a TC does.
-use Rattle.std.proofs.Common.{◌≡◌, ℕ, refl, sym, ◌∙◌, ap, subst, arith, List, [], ◌∷◌}
-use Rattle.std.specs.Prelude.{Bool}
-use Rattle.std.proofs.lemmas.List.{append-nil}
-use Rattle.mesh_atoms.specs.declared.addr.Addr4.{Addr4}
-use Rattle.mesh_atoms.specs.declared.settings.RouterSettings.{RouterSettings}
-use Rattle.mesh_atoms.specs.declared.tc.Tc.{Tc}
-use Rattle.mesh_atoms.specs.Live.{Live}
-use Rattle.mesh_atoms.specs.State.{State, Bases, NotedMessages, IsOriginator}
+use Rattle.mesh_probe.proofs.Common.{◌≡◌, ℕ, refl, sym, ◌∙◌, ap, subst, arith, List, [], ◌∷◌, Bool, append-nil, Addr4, RouterSettings, Tc, Live, State, Bases, NotedMessages, IsOriginator, Span, MessageFields, PacketFields, SpellsMessage, Keeps, BreaksTc, Heading, Forward, Arrival, Frame, octets_at, Hear, Step, Heard_frame, HearsPacket, Hears, IsHeading, ConsidersForwarding, ProcessesTc, Tc_taken, Tc_passed, TakesMessage, Hello_read, Hello_broken, Tc_read, Tc_broken, Other_passed, Other_left, TakesMessages, No_messages, First_message}
 use Rattle.mesh_machine.proofs.packet.OneReading.{one_packet}
-use Rattle.mesh_machine.specs.packet.declared.packet.Span.{Span}
-use Rattle.mesh_machine.specs.packet.Fields.{MessageFields, PacketFields}
-use Rattle.mesh_machine.specs.packet.Grammar.{SpellsMessage}
-use Rattle.mesh_wire.specs.Rules.{Keeps}
-use Rattle.mesh_wire.specs.TcRules.{BreaksTc}
-use Rattle.mesh_flood.specs.declared.verdict.Heading.{Heading}
-use Rattle.mesh_flood.specs.declared.verdict.Forward.{Forward}
-use Rattle.mesh_machine.specs.declared.arrival.Arrival.{Arrival}
 use Rattle.mesh_machine.specs.declared.fate.Fate.{Fate}
 use Rattle.mesh_machine.specs.declared.fate.Heard.{Heard}
 use Rattle.mesh_machine.specs.declared.fate.Heard.TheVariants as heard
-use Rattle.mesh_machine.specs.declared.frame.Frame.{Frame}
-use Rattle.mesh_machine.specs.Frames.{octets_at}
-use Rattle.mesh_machine.specs.Machine.{Hear, Step, Heard_frame, HearsPacket, Hears}
-use Rattle.mesh_machine.specs.Messages.{IsHeading, ConsidersForwarding, ProcessesTc, Tc_taken, Tc_passed, TakesMessage, Hello_read, Hello_broken, Tc_read, Tc_broken, Other_passed, Other_left, TakesMessages, No_messages, First_message}
 use Rattle.mesh_probe.proofs.Carried.{Carries, spanned, no_fault}
 
 -- a TC is flooded

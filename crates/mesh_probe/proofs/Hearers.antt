@@ -1,17 +1,5 @@
 -- Who hears a frame: the ends of the arcs of its interface.
-use Rattle.std.proofs.Common.{◌≡◌, ◌≢◌, ℕ, ◌<◌, ◌⊎◌, inl, inr, refl, sym, ◌∙◌, ap, subst, arith, List, [], ◌∷◌, Contains, length}
-use Rattle.std.specs.Prelude.{Bool, true, false, cond, nat_eq}
-use Rattle.std.proofs.lemmas.Bool.{eq-eqb, eqb-true, and_parts}
-use Rattle.std.proofs.lemmas.Option.{slice_get_within}
-use Rattle.mesh_atoms.specs.declared.settings.RadioArc.{RadioArc}
-use Rattle.mesh_atoms.specs.declared.settings.Scenario.{Scenario}
-use Rattle.mesh_atoms.specs.Radio.{Joined, Itself, By}
-use Rattle.mesh_paths.proofs.Scenarios.{arc_leads_to}
-use Rattle.mesh_probe.specs.declared.coverage.Sending.{Sending}
-use Rattle.mesh_probe.specs.Flood.{is_arc_from, hearers_of}
-use Rattle.mesh_probe.specs.Hearing.{BringsTo}
-use Rattle.mesh_probe.specs.Probes.{HearsOne}
-use Rattle.mesh_atoms.proofs.Lists.{contains_tail as in_tail, contains_cases, contains_cond}
+use Rattle.mesh_probe.proofs.Common.{◌≡◌, ◌≢◌, ℕ, ◌<◌, ◌⊎◌, inl, inr, refl, sym, ◌∙◌, ap, subst, arith, List, [], ◌∷◌, Contains, length, Bool, true, false, cond, nat_eq, eq-eqb, eqb-true, and_parts, slice_get_within, RadioArc, Scenario, Joined, Itself, By, arc_leads_to, Sending, is_arc_from, hearers_of, BringsTo, HearsOne, contains_tail as in_tail, contains_cases, contains_cond}
 
 pub hearer : (arcs : List RadioArc) (x i : ℕ) (arc : RadioArc) → Contains arcs arc → arc.from ≡ x → arc.from_iface ≡ i → Contains (hearers_of arcs x i) (arc.to, arc.to_iface)
 hearer [] x i arc c from at = absurd (omega (arith, c.1))

@@ -19,3 +19,4 @@ mod Simulate
 mod Starts
 mod Turns
 mod Wave
+mod Common

@@ -1,11 +1,6 @@
 -- The numbers with a property are listed, one after the other.
-use Rattle.std.proofs.Common.{ℕ, ◌+◌, ◌<◌, inl, inr, sym, subst, arith, List, [], ◌∷◌, ◌++◌, Contains, get_or}
-use Rattle.std.proofs.lemmas.Grind.{common_steps}
-use Rattle.std.proofs.lemmas.Bool.{cases_eq}
-use Rattle.std.proofs.lemmas.List.Elements.{Contains-append_left, Contains-push, Contains-push_cases, Contains-get_or}
+use Rattle.mesh_probe.proofs.Common.{ℕ, ◌+◌, ◌<◌, inl, inr, sym, subst, arith, List, [], ◌∷◌, ◌++◌, Contains, get_or, common_steps, cases_eq, Contains-append_left, Contains-push, Contains-push_cases, Contains-get_or, ListsNumbers, contains_none as none_of}
 use Rattle.std.proofs.lemmas.List.Quantifiers.{all_pairs_push}
-use Rattle.mesh_probe.specs.Probes.{ListsNumbers}
-use Rattle.mesh_atoms.proofs.Lists.{contains_none as none_of}
 
 module _ (P : ℕ → Type 0) where
   -- those below a number

@@ -1,27 +1,10 @@
 -- What is noted of a message, and what is answered to it.
-use Rattle.std.proofs.Common.{◌≡◌, ℕ, ◌+◌, ◌<◌, ◌≤◌, inl, inr, refl, sym, ◌∙◌, ap, subst, arith, List, [], length, Option, Some, None}
-use Rattle.std.proofs.lemmas.Grind.{common_steps}
-use Rattle.std.specs.Prelude.{Bool, true, false, cond, nat_lt, is_some}
+use Rattle.mesh_probe.proofs.Common.{◌≡◌, ℕ, ◌+◌, ◌<◌, ◌≤◌, inl, inr, refl, sym, ◌∙◌, ap, subst, arith, List, [], length, Option, Some, None, common_steps, Bool, true, false, cond, nat_lt, is_some, lt-ltb, cases_eq, length-le_from_keys, Addr4, FloodKey, Noted, Base, HasDistinctKeys, find, base_of, if_live, Expires, Same, addr_eq, flood_eq, LiveNoted, NotedMessages, Heading, Forward, AfterNote, Notes, key_of, is_full, has_no_hops, forward_by, is_received, is_forwarded, forwarding, IsUnknown, some_of as some_is}
 use Rattle.std.specs.Map.{keys_of}
-use Rattle.std.proofs.lemmas.Bool.{lt-ltb, cases_eq}
 use Rattle.std.proofs.lemmas.Map.Entries.{length-keys_of}
 use Rattle.std.proofs.lemmas.Map.Made.{is_some-lookup}
-use Rattle.std.proofs.lemmas.Map.Steps.{length-le_from_keys}
-use Rattle.mesh_atoms.specs.declared.addr.Addr4.{Addr4}
 use Rattle.mesh_atoms.specs.declared.settings.Times.{Times}
-use Rattle.mesh_atoms.specs.declared.tuples.FloodKey.{FloodKey}
-use Rattle.mesh_atoms.specs.declared.tuples.Noted.{Noted}
-use Rattle.mesh_atoms.specs.Base.{Base, HasDistinctKeys, find, base_of, if_live, Expires, Same, addr_eq, flood_eq}
-use Rattle.mesh_atoms.specs.Live.{LiveNoted}
-use Rattle.mesh_atoms.specs.State.{NotedMessages}
-use Rattle.mesh_flood.specs.declared.verdict.Heading.{Heading}
-use Rattle.mesh_flood.specs.declared.verdict.Forward.{Forward}
 use Rattle.mesh_flood.specs.declared.verdict.Forward.TheVariants as forward
-use Rattle.mesh_flood.specs.Noting.{AfterNote, Notes}
-use Rattle.mesh_flood.specs.Verdict.{key_of, is_full, has_no_hops, forward_by, is_received, is_forwarded}
-use Rattle.mesh_machine.specs.Messages.{forwarding}
-use Rattle.mesh_probe.specs.Laws.{IsUnknown}
-use Rattle.mesh_atoms.proofs.Options.{some_of as some_is}
 use Rattle.mesh_flood.proofs.Keys.{flood_equiv}
 
 -- Verdicts

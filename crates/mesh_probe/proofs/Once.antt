@@ -1,13 +1,7 @@
 -- No router sends a message twice on an interface.
-use Rattle.std.proofs.Common.{◌≡◌, ℕ, zero, suc, ◌<◌, ◌⊎◌, inl, inr, refl, sym, ap, subst, arith, List, [], ◌∷◌, ◌++◌, Contains, Option, slice_index_or}
-use Rattle.std.specs.Prelude.{Bool, true, false}
-use Rattle.std.specs.List.{AllPairs}
-use Rattle.std.proofs.lemmas.Bool.{cases_Bool}
-use Rattle.std.proofs.lemmas.List.Elements.{Contains-append_cases, Contains-push_cases, Contains-get_or}
+use Rattle.mesh_probe.proofs.Common.{◌≡◌, ℕ, zero, suc, ◌<◌, ◌⊎◌, inl, inr, refl, sym, ap, subst, arith, List, [], ◌∷◌, ◌++◌, Contains, Option, slice_index_or, Bool, true, false, AllPairs, cases_Bool, Contains-append_cases, Contains-push_cases, Contains-get_or, contains_tail as in_tail, contains_cases, contains_none as none_of, contains_head as front, true_false}
 use Rattle.mesh_probe.proofs.Wave.{has, Spread, Going, frames_on, where_sent, Net, Takes, Deaf, Quiet, Sends, Hears, All_heard, One_hears, Wave, Ends, Goes, IsApart, WaveSendsOnce}
 use Rattle.mesh_probe.proofs.Covers.{has_first, frame_is, Grows, grows_on, takes_grow}
-use Rattle.mesh_atoms.proofs.Lists.{contains_tail as in_tail, contains_cases, contains_none as none_of, contains_head as front}
-use Rattle.mesh_atoms.proofs.Options.{true_false}
 
 -- no two frames are of one router and one interface
 pub data Apart : List Going → Type 0 where

@@ -1,25 +1,8 @@
 -- A flood, frame by frame: it comes to an end, and the whole of it is a flood.
-use Rattle.std.proofs.Common.{◌≡◌, ℕ, suc, ◌+◌, ◌*◌, ◌<◌, ◌≤◌, inl, inr, sym, ◌∙◌, ap, subst, arith, List, [], ◌∷◌, ◌++◌, length, Contains, true, false, Some, map, drop, take, append_assoc, nat_eq}
-use Rattle.std.proofs.lemmas.Grind.{common_steps}
-use Rattle.std.specs.Prelude.{All, slice_get}
-use Rattle.std.specs.List.{AllPairs, IsDistinct}
-use Rattle.std.proofs.lemmas.Bool.{cases_Bool}
-use Rattle.std.proofs.lemmas.List.{append-nil, drop_more, drop_all, take_all, drop-append-le, take-append-le, take-append-drop, length-map}
-use Rattle.std.proofs.lemmas.List.Elements.{All-head, All-tail, All-append, All-contains}
-use Rattle.std.proofs.lemmas.Map.Keys.{IsDistinct-cons}
-use Rattle.std.proofs.lemmas.Map.Steps.{length-le_from_distinct_below}
-use Rattle.std.proofs.lemmas.Option.{slice_get_within, get_or_from_slice_get}
-use Rattle.mesh_atoms.specs.declared.addr.Addr4.{Addr4}
-use Rattle.mesh_atoms.specs.declared.settings.Scenario.{Scenario}
-use Rattle.mesh_atoms.specs.State.{State}
-use Rattle.mesh_probe.specs.declared.transmission.Transmission.{Transmission}
-use Rattle.mesh_probe.specs.Flood.{hearers_of, IsInterfaceSender, AllHear, Flood, No_frame_waits, First_frame}
-use Rattle.mesh_probe.specs.Hearing.{CanHear, IsOfInterface, FloodsTo, Nothing_heard, One_more, SendsOnceFrom}
-use Rattle.mesh_probe.specs.Laws.{AreSentApart}
+use Rattle.mesh_probe.proofs.Common.{◌≡◌, ℕ, suc, ◌+◌, ◌*◌, ◌<◌, ◌≤◌, inl, inr, sym, ◌∙◌, ap, subst, arith, List, [], ◌∷◌, ◌++◌, length, Contains, true, false, Some, map, drop, take, append_assoc, nat_eq, common_steps, All, slice_get, AllPairs, IsDistinct, cases_Bool, append-nil, drop_more, drop_all, take_all, drop-append-le, take-append-le, take-append-drop, length-map, All-head, All-tail, All-append, All-contains, IsDistinct-cons, length-le_from_distinct_below, slice_get_within, get_or_from_slice_get, Addr4, Scenario, State, Transmission, hearers_of, IsInterfaceSender, AllHear, Flood, No_frame_waits, First_frame, CanHear, IsOfInterface, FloodsTo, Nothing_heard, One_more, SendsOnceFrom, AreSentApart, contains_tail as in_tail, contains_head as here}
 use Rattle.mesh_probe.proofs.Covers.{has_cases, none_distinct, none_equal}
 use Rattle.mesh_probe.proofs.Queues.{take_more}
 use Rattle.mesh_probe.proofs.Wave.{has}
-use Rattle.mesh_atoms.proofs.Lists.{contains_tail as in_tail, contains_head as here}
 
 -- what is left of a flood makes the whole
 completes : {s : Scenario} {now : ℕ} {old : List State} {first : List Transmission} {new : List State} {more heard waiting : List Transmission} {mid : List State} →

@@ -1,16 +1,5 @@
 -- However far a flood of a TC has come, no router has sent it twice on an interface.
-use Rattle.std.proofs.Common.{◌≡◌, ℕ, inl, inr, refl, sym, ◌∙◌, subst, List, [], ◌∷◌, ◌++◌, length, Contains, true, slice_get, append_assoc}
-use Rattle.std.proofs.lemmas.List.Elements.{Contains-append_cases}
-use Rattle.mesh_atoms.specs.declared.settings.Scenario.{Scenario}
-use Rattle.mesh_atoms.specs.declared.tc.Tc.{Tc}
-use Rattle.mesh_atoms.specs.Settled.{At, AreStates}
-use Rattle.mesh_atoms.specs.State.{State}
-use Rattle.mesh_machine.specs.Frames.{on_each}
-use Rattle.mesh_machine.specs.packet.Fields.{MessageFields}
-use Rattle.mesh_probe.specs.declared.transmission.Transmission.{Transmission}
-use Rattle.mesh_probe.specs.Flood.{sent_by}
-use Rattle.mesh_probe.specs.Hearing.{FloodsTo, Nothing_heard, One_more, SendsOnceFrom}
-use Rattle.mesh_probe.specs.Laws.{IsTcOf}
+use Rattle.mesh_probe.proofs.Common.{◌≡◌, ℕ, inl, inr, refl, sym, ◌∙◌, subst, List, [], ◌∷◌, ◌++◌, length, Contains, true, slice_get, append_assoc, Contains-append_cases, Scenario, Tc, At, AreStates, State, on_each, MessageFields, Transmission, sent_by, FloodsTo, Nothing_heard, One_more, SendsOnceFrom, IsTcOf, true_false}
 use Rattle.mesh_probe.proofs.Carried.{Carries, at_hop}
 use Rattle.mesh_probe.proofs.Covers.{frame_is, has_first}
 use Rattle.mesh_probe.proofs.Once.{Apart, Fresh, apart_append, frames_apart, pairs}
@@ -19,7 +8,6 @@ use Rattle.mesh_probe.proofs.Seen.{faces_in}
 use Rattle.mesh_probe.proofs.Simulate.{IsFlooded, net, AreLike, Matches, No_frames, A_frame, matches_append, all, opens}
 use Rattle.mesh_probe.proofs.Starts.{flooded, queue, sent_apart}
 use Rattle.mesh_probe.proofs.Wave.{has, Spread, Going, frames_on}
-use Rattle.mesh_atoms.proofs.Options.{true_false}
 
 module _ (s : Scenario) (states : List State) (now origin : ℕ) (tc : Tc) (limit : ℕ) (routers : AreStates s states) (p : State) (at : At states origin p)
     (bytes : List ℕ) (is : IsTcOf p tc limit bytes) where

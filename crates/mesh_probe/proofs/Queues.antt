@@ -1,13 +1,6 @@
 -- Frames behind one another.
-use Rattle.std.proofs.Common.{◌≡◌, ℕ, ◌+◌, List, [], ◌∷◌, ◌++◌, sym, ◌∙◌, ap, take, append_assoc, add-one, Some, arith}
-use Rattle.std.proofs.lemmas.Grind.{common_steps}
-use Rattle.std.specs.Prelude.{slice_get}
+use Rattle.mesh_probe.proofs.Common.{◌≡◌, ℕ, ◌+◌, List, [], ◌∷◌, ◌++◌, sym, ◌∙◌, ap, take, append_assoc, add-one, Some, arith, common_steps, slice_get, map-append, slice_get_within, get_or_from_slice_get, Frame, Transmission, sent_by}
 use Rattle.std.proofs.Math.Seq.{take-suc}
-use Rattle.std.proofs.lemmas.List.{map-append}
-use Rattle.std.proofs.lemmas.Option.{slice_get_within, get_or_from_slice_get}
-use Rattle.mesh_machine.specs.declared.frame.Frame.{Frame}
-use Rattle.mesh_probe.specs.declared.transmission.Transmission.{Transmission}
-use Rattle.mesh_probe.specs.Flood.{sent_by}
 
 -- so many items and the next one
 pub take_more : {A : Type 0} (xs : List A) (i : ℕ) (x : A) → slice_get xs i ≡ Some x → take (i + 1) xs ≡ take i xs ++ (x ∷ [])

@@ -1,26 +1,6 @@
 -- What the laws of floods say of a coverage.
-use Rattle.std.proofs.Common.{◌≡◌, ◌≢◌, ℕ, ◌<◌, ◌≤◌, inl, inr, refl, sym, ◌∙◌, ap, subst, arith, List, [], length, Contains, Option, Some, None, map, slice_index_or, Result, Ok, Err}
-use Rattle.std.specs.Prelude.{AllPairs, IsSome, IsTrue, IfOk, nat_le}
-use Rattle.std.proofs.lemmas.Bool.{leb-false, cases_Bool}
-use Rattle.std.proofs.lemmas.List.{length-map, get_or-map}
-use Rattle.mesh_atoms.specs.declared.settings.Scenario.{Scenario}
-use Rattle.mesh_atoms.specs.declared.tuples.FloodKey.{FloodKey}
-use Rattle.mesh_atoms.specs.declared.tuples.Noted.{Noted}
-use Rattle.mesh_atoms.specs.Base.{Base, base_of, find, flood_eq}
-use Rattle.mesh_atoms.specs.Radio.{OriginatorOf}
-use Rattle.mesh_atoms.specs.Settled.{AreStates}
-use Rattle.mesh_atoms.specs.State.{State, NotedMessages}
-use Rattle.mesh_flood.specs.Standing.{HasNoted, HasFullSet}
-use Rattle.mesh_flood.specs.Verdict.{is_full}
-use Rattle.mesh_probe.specs.declared.coverage.Coverage.{Coverage}
+use Rattle.mesh_probe.proofs.Common.{◌≡◌, ◌≢◌, ℕ, ◌<◌, ◌≤◌, inl, inr, refl, sym, ◌∙◌, ap, subst, arith, List, [], length, Contains, Option, Some, None, map, slice_index_or, Result, Ok, Err, AllPairs, IsSome, IsTrue, IfOk, nat_le, leb-false, cases_Bool, length-map, get_or-map, Scenario, FloodKey, Noted, Base, base_of, find, flood_eq, OriginatorOf, AreStates, State, NotedMessages, HasNoted, HasFullSet, is_full, Coverage, NoNumber, Done, Sending, Transmission, AreUnknown, AreSentApart, IsUnknown, FloodReaches, FloodSendsOnce, key_of_tc, tc_key, AreRoutersAt, AreReached, HasLeastNumber, IfDone, ReachesAll, SendsOnce, ProbesReach, ProbesSendOnce, TellsFlood, sending_of, contains_map, same_some}
 use Rattle.mesh_probe.specs.declared.coverage.Probe.{Probe}
-use Rattle.mesh_probe.specs.declared.coverage.Probe.TheVariants.{NoNumber, Done}
-use Rattle.mesh_probe.specs.declared.coverage.Sending.{Sending}
-use Rattle.mesh_probe.specs.declared.transmission.Transmission.{Transmission}
-use Rattle.mesh_probe.specs.Laws.{AreUnknown, AreSentApart, IsUnknown, FloodReaches, FloodSendsOnce, key_of_tc, tc_key}
-use Rattle.mesh_probe.specs.Probes.{AreRoutersAt, AreReached, HasLeastNumber, IfDone, ReachesAll, SendsOnce, ProbesReach, ProbesSendOnce, TellsFlood, sending_of}
-use Rattle.mesh_atoms.proofs.Lists.{contains_map}
-use Rattle.mesh_atoms.proofs.Options.{same_some}
 
 -- What no router knows
 

@@ -1,45 +1,20 @@
 -- In a settled network the flooding relays cover: who hears a router has a relay of it beside each of its own neighbours.
-use Rattle.std.proofs.Common.{◌≡◌, ℕ, zero, suc, ◌+◌, ◌≤◌, ◌<◌, ◌⊎◌, inl, inr, refl, sym, ◌∙◌, ap, subst, arith, List, [], ◌∷◌, Contains, Some, None, Option, slice_get, length}
-use Rattle.std.proofs.lemmas.Grind.{common_steps}
-use Rattle.std.specs.Prelude.{Bool, true}
-use Rattle.std.proofs.lemmas.Option.{slice_get_cases, slice_get_within}
-use Rattle.mesh_atoms.specs.declared.addr.Addr4.{Addr4}
-use Rattle.mesh_atoms.specs.declared.codes.metric.Metric.{Metric}
+use Rattle.mesh_probe.proofs.Common.{◌≡◌, ℕ, zero, suc, ◌+◌, ◌≤◌, ◌<◌, ◌⊎◌, inl, inr, refl, sym, ◌∙◌, ap, subst, arith, List, [], ◌∷◌, Contains, Some, None, Option, slice_get, length, common_steps, Bool, true, slice_get_cases, slice_get_within, Addr4, Metric, LinkKey, Link, RouterSettings, Scenario, Base, HasDistinctKeys, base_of, link_eq, metric_value, Says, Flooding, Joins, Adjacent, Router, AddressOf, At, IsTwoHopBy, IsLinkTo, State, state_of, is_symmetric, HasLink, HasTwoHop, HasSymmetric, HasSymmetricWith, HasAddressOn, tests_symmetric, looks_up_links, SelectorOf, Linked, Unlinked, IsSymmetricWith, IsSettledNetwork, owner, same_state, same_settings, address_in, has_address, state_there, apart, known_address, known_originator, known_by, Known, neighbouring, has_with, shown_near, shows_neighbour, hearers_of, IsInterfaceSender, AllWillFlood, cases_Bool, contains_at, contains_tail as in_tail, contains_cases, same_address, true_false}
 use Rattle.mesh_atoms.specs.declared.hello.Willing.{Willing as Wills}
-use Rattle.mesh_atoms.specs.declared.tuples.LinkKey.{LinkKey}
-use Rattle.mesh_atoms.specs.declared.tuples.Link.{Link}
 use Rattle.mesh_atoms.specs.declared.tuples.TwoHop.{TwoHop}
 use Rattle.mesh_atoms.specs.declared.tuples.Neighbour.{Neighbour}
 use Rattle.mesh_atoms.specs.declared.graphs.Near.{Near}
 use Rattle.mesh_atoms.specs.declared.graphs.Direct.{Direct}
 use Rattle.mesh_atoms.specs.declared.graphs.Far.{Far}
 use Rattle.mesh_atoms.specs.declared.graphs.NeighbourGraph.{NeighbourGraph}
-use Rattle.mesh_atoms.specs.declared.settings.RouterSettings.{RouterSettings}
-use Rattle.mesh_atoms.specs.declared.settings.Scenario.{Scenario}
-use Rattle.mesh_atoms.specs.Base.{Base, HasDistinctKeys, base_of, link_eq}
-use Rattle.mesh_atoms.specs.Codes.Codes.{metric_value}
-use Rattle.mesh_atoms.specs.Hello.{Says, Flooding}
-use Rattle.mesh_atoms.specs.Radio.{Joins, Adjacent, Router, AddressOf}
 use Rattle.mesh_atoms.specs.RelayGraphs.{IsFloodingGraph, IsMetricOver, AreRelays}
 use Rattle.mesh_atoms.specs.Relays.{Offers, IsWilling}
-use Rattle.mesh_atoms.specs.Settled.{At, IsTwoHopBy, IsLinkTo}
 use Rattle.mesh_atoms.specs.declared.tuples.LinkState.TheVariants.{Symmetric as Is_symmetric}
-use Rattle.mesh_atoms.specs.State.{State, state_of, is_symmetric, HasLink, HasTwoHop, HasSymmetric, HasSymmetricWith, HasAddressOn}
-use Rattle.mesh_atoms.proofs.Lookups.{tests_symmetric, looks_up_links}
-use Rattle.mesh_machine.specs.links.Links.{SelectorOf, Linked, Unlinked, IsSymmetricWith}
-use Rattle.mesh_paths.specs.SettledRoutes.{IsSettledNetwork}
 use Rattle.mesh_paths.proofs.Admitted.{joins_back}
-use Rattle.mesh_paths.proofs.SettledNeighbours.{owner, same_state, same_settings, address_in, has_address, state_there, apart, known_address, known_originator, known_by, Known, neighbouring, has_with, shown_near, shows_neighbour}
 use Rattle.mesh_paths.proofs.SettledDecisions.{any_or_none}
 use Rattle.mesh_probe.proofs.Wave.{IsCovering, IsSelected}
-use Rattle.mesh_probe.specs.Flood.{hearers_of, IsInterfaceSender}
-use Rattle.mesh_probe.specs.Laws.{AllWillFlood}
 use Rattle.mesh_probe.proofs.Seen.{faces_in, HoldsFlag, AreJoined, net_of}
-use Rattle.std.proofs.lemmas.Bool.{cases_Bool}
 use Rattle.mesh_probe.proofs.Hearers.{hearer, hearer_of}
-use Rattle.mesh_atoms.proofs.Lists.{contains_at, contains_tail as in_tail, contains_cases}
-use Rattle.mesh_atoms.proofs.Values.{same_address}
-use Rattle.mesh_atoms.proofs.Options.{true_false}
 
 -- The least of what has a property
 

@@ -1,16 +1,5 @@
 -- A scenario with its routers' states, as one message sees it.
-use Rattle.std.proofs.Common.{ℕ, ◌+◌, ◌≤◌, List, Option, Some, None, slice_get, length}
-use Rattle.std.specs.Prelude.{Bool}
-use Rattle.mesh_atoms.specs.declared.addr.Addr4.{Addr4}
-use Rattle.mesh_atoms.specs.declared.codes.metric.Metric.{Metric}
-use Rattle.mesh_atoms.specs.declared.settings.RouterSettings.{RouterSettings}
-use Rattle.mesh_atoms.specs.declared.settings.Scenario.{Scenario}
-use Rattle.mesh_atoms.specs.Base.{base_of}
-use Rattle.mesh_atoms.specs.Radio.{Joins}
-use Rattle.mesh_atoms.specs.Settled.{At}
-use Rattle.mesh_atoms.specs.State.{State}
-use Rattle.mesh_machine.specs.links.Links.{SelectorOf}
-use Rattle.mesh_probe.specs.Flood.{hearers_of, IsInterfaceSender}
+use Rattle.mesh_probe.proofs.Common.{ℕ, ◌+◌, ◌≤◌, List, Option, Some, None, slice_get, length, Bool, Addr4, Metric, RouterSettings, Scenario, base_of, Joins, At, State, SelectorOf, hearers_of, IsInterfaceSender}
 use Rattle.mesh_probe.proofs.Wave.{Net}
 
 -- the number of interfaces

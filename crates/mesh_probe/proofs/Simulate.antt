@@ -1,45 +1,10 @@
 -- A flood of the machine's steps is a wave.
-use Rattle.std.proofs.Common.{◌≡◌, ℕ, zero, suc, ◌+◌, ◌-◌, ◌<◌, ◌≤◌, ◌⊎◌, inl, inr, refl, sym, ◌∙◌, ap, subst, arith, List, [], ◌∷◌, ◌++◌, length, Contains, Option, Some, None, slice_get}
-use Rattle.std.specs.Prelude.{Bool, true, false, nat_eq, nat_le, ◌||◌, if◌then◌else◌}
-use Rattle.std.proofs.lemmas.Bool.{eqb-true, cases_eq}
-use Rattle.std.proofs.lemmas.List.{map-append}
-use Rattle.mesh_atoms.specs.declared.addr.Addr4.{Addr4}
-use Rattle.mesh_atoms.specs.declared.settings.RouterSettings.{RouterSettings}
-use Rattle.mesh_atoms.specs.declared.settings.Scenario.{Scenario}
-use Rattle.mesh_atoms.specs.declared.tc.Tc.{Tc}
-use Rattle.mesh_atoms.specs.declared.tuples.FloodKey.{FloodKey}
-use Rattle.mesh_atoms.specs.declared.tuples.Link.{Link}
-use Rattle.mesh_atoms.specs.declared.tuples.LinkKey.{LinkKey}
-use Rattle.mesh_atoms.specs.declared.tuples.Noted.{Noted}
-use Rattle.mesh_atoms.specs.Base.{Base, base_of, find, addr_eq, flood_eq, if_live}
+use Rattle.mesh_probe.proofs.Common.{◌≡◌, ℕ, zero, suc, ◌+◌, ◌-◌, ◌<◌, ◌≤◌, ◌⊎◌, inl, inr, refl, sym, ◌∙◌, ap, subst, arith, List, [], ◌∷◌, ◌++◌, length, Contains, Option, Some, None, slice_get, Bool, true, false, nat_eq, nat_le, ◌||◌, if◌then◌else◌, eqb-true, cases_eq, map-append, Addr4, RouterSettings, Scenario, Tc, FloodKey, Link, LinkKey, Noted, Base, base_of, find, addr_eq, flood_eq, if_live, Live, trim, At, AreStates, State, Neighbourhood, NotedMessages, Bases, IsOriginator, link_at, same_addr, MessageFields, SpellsMessage, Keeps, BreaksTc, hopped, Heading, Forward, AfterNote, Notes, key_of, is_last, is_far, has_no_hops, forward_by, is_received, is_forwarded, IsSettledNetwork, owner, originator_in, Arrival, Frame, on_each, Hear, Step, forwarding, Transmission, hearers_of, IsInterfaceSender, sent_by, BecomesAt, AllHear, All_have_heard, Next_hears, Flood, key_of_tc, IsUnknown, AreUnknown, cases_Bool, lt-leb, one_originator, addr_itself as same_eq, contains_tail as in_tail, contains_cases, contains_none as none_of, true_false, same_some}
 use Rattle.mesh_atoms.specs.Quality.{admit_on}
-use Rattle.mesh_atoms.specs.Live.{Live, trim}
-use Rattle.mesh_atoms.specs.Settled.{At, AreStates}
 use Rattle.mesh_atoms.specs.Sound.{SoundNeighbourhood}
-use Rattle.mesh_atoms.specs.State.{State, Neighbourhood, NotedMessages, Bases, IsOriginator, link_at}
-use Rattle.mesh_atoms.proofs.Lookups.{same_addr}
-use Rattle.mesh_machine.specs.packet.Fields.{MessageFields}
-use Rattle.mesh_machine.specs.packet.Grammar.{SpellsMessage}
 use Rattle.mesh_wire.specs.Hello.{OriginatorIs}
-use Rattle.mesh_wire.specs.Rules.{Keeps}
-use Rattle.mesh_wire.specs.TcRules.{BreaksTc}
-use Rattle.mesh_wire.specs.Rehop.{hopped}
-use Rattle.mesh_flood.specs.declared.verdict.Heading.{Heading}
-use Rattle.mesh_flood.specs.declared.verdict.Forward.{Forward}
 use Rattle.mesh_flood.specs.declared.verdict.Forward.TheVariants as forward
-use Rattle.mesh_flood.specs.Noting.{AfterNote, Notes}
-use Rattle.mesh_flood.specs.Verdict.{key_of, is_last, is_far, has_no_hops, forward_by, is_received, is_forwarded}
-use Rattle.mesh_paths.specs.SettledRoutes.{IsSettledNetwork}
-use Rattle.mesh_paths.proofs.SettledNeighbours.{owner, originator_in}
-use Rattle.mesh_machine.specs.declared.arrival.Arrival.{Arrival}
-use Rattle.mesh_machine.specs.declared.frame.Frame.{Frame}
-use Rattle.mesh_machine.specs.Frames.{on_each}
-use Rattle.mesh_machine.specs.Machine.{Hear, Step}
-use Rattle.mesh_machine.specs.Messages.{forwarding}
 use Rattle.mesh_probe.proofs.Wave.{has, Spread, Going, frames_on, where_sent, Net, Takes, Deaf, Quiet, Sends, Hears, All_heard, One_hears, Wave, Ends, Goes}
-use Rattle.mesh_probe.specs.declared.transmission.Transmission.{Transmission}
-use Rattle.mesh_probe.specs.Flood.{hearers_of, IsInterfaceSender, sent_by, BecomesAt, AllHear, All_have_heard, Next_hears, Flood}
-use Rattle.mesh_probe.specs.Laws.{key_of_tc, IsUnknown, AreUnknown}
 use Rattle.mesh_probe.specs.Flood as flood
 use Rattle.mesh_probe.proofs.Carried.{Carries, at_hop, carried_on}
 use Rattle.mesh_probe.proofs.Seen.{faces_in, HoldsFlag, AreJoined}
@@ -47,12 +12,8 @@ use Rattle.mesh_probe.proofs.Heard.{Hearing, hearing}
 use Rattle.mesh_paths.proofs.LinksStay.{link_stays}
 use Rattle.mesh_probe.proofs.Links.{same_selector}
 use Rattle.mesh_probe.proofs.Noted.{does, never_own, not_twice, deaf, sends_nothing, is_do, unknown_live, unknown_deaf, Stands, stands_live, stands_noted, stands_new}
-use Rattle.std.proofs.lemmas.Bool.{cases_Bool, lt-leb}
 use Rattle.mesh_probe.proofs.Covers.{has_first, has_later, has_cases}
-use Rattle.mesh_atoms.proofs.Values.{one_originator, addr_itself as same_eq}
 use Rattle.mesh_machine.proofs.Soundness.{same_originator}
-use Rattle.mesh_atoms.proofs.Lists.{contains_tail as in_tail, contains_cases, contains_none as none_of}
-use Rattle.mesh_atoms.proofs.Options.{true_false, same_some}
 
 -- Keys
 

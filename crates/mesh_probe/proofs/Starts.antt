@@ -1,18 +1,6 @@
 -- A flood of a TC begins as the message of a wave.
-use Rattle.std.proofs.Common.{◌≡◌, ℕ, zero, suc, ◌<◌, refl, sym, ◌∙◌, ap, subst, arith, List, length, slice_index_or, slice_get}
-use Rattle.std.proofs.lemmas.Grind.{common_steps}
-use Rattle.std.specs.List.{AllPairs}
-use Rattle.mesh_atoms.specs.declared.settings.Scenario.{Scenario}
-use Rattle.mesh_atoms.specs.declared.tc.Tc.{Tc}
-use Rattle.mesh_atoms.specs.Settled.{At, AreStates}
-use Rattle.mesh_atoms.specs.State.{State}
-use Rattle.mesh_machine.specs.packet.Fields.{MessageFields}
+use Rattle.mesh_probe.proofs.Common.{◌≡◌, ℕ, zero, suc, ◌<◌, refl, sym, ◌∙◌, ap, subst, arith, List, length, slice_index_or, slice_get, common_steps, AllPairs, Scenario, Tc, At, AreStates, State, MessageFields, IsSettledNetwork, on_each, Transmission, sent_by, IsTcOf, AreUnknown, AreSentApart}
 use Rattle.mesh_wire.proofs.EachDistance.{kept_on}
-use Rattle.mesh_paths.specs.SettledRoutes.{IsSettledNetwork}
-use Rattle.mesh_machine.specs.Frames.{on_each}
-use Rattle.mesh_probe.specs.declared.transmission.Transmission.{Transmission}
-use Rattle.mesh_probe.specs.Flood.{sent_by}
-use Rattle.mesh_probe.specs.Laws.{IsTcOf, AreUnknown, AreSentApart}
 use Rattle.mesh_probe.proofs.Carried.{Carries, at_hop}
 use Rattle.mesh_probe.proofs.Seen.{faces_in}
 use Rattle.mesh_probe.proofs.Simulate.{IsFlooded, Matches, No_frames, A_frame, on_each_matches}

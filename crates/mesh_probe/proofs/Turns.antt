@@ -1,26 +1,7 @@
 -- The routers at the ends of a frame's arcs hear it, one after the other.
-use Rattle.std.proofs.Common.{◌≡◌, ℕ, ◌+◌, ◌<◌, ◌≤◌, inl, inr, refl, sym, ◌∙◌, ap, subst, arith, List, [], ◌∷◌, ◌++◌, length, Contains, Bool, true, false, Some, map, drop, get_or, append_assoc}
-use Rattle.std.proofs.lemmas.Grind.{common_steps}
-use Rattle.std.specs.Prelude.{All, slice_get, slice_set, cond, option_map}
-use Rattle.std.proofs.lemmas.Bool.{cases_eq}
-use Rattle.std.proofs.lemmas.List.{map-set, length-map, drop_more, drop_all, append-nil}
-use Rattle.std.proofs.lemmas.List.Elements.{All-nil, All-cons, All-head, All-tail, All-append}
-use Rattle.std.proofs.lemmas.Option.{slice_get_within, slice_get-map, slice_get-get_or, slice_get_read}
-use Rattle.mesh_atoms.specs.declared.addr.Addr4.{Addr4}
-use Rattle.mesh_atoms.specs.declared.settings.RadioArc.{RadioArc}
-use Rattle.mesh_atoms.specs.declared.settings.RouterSettings.{RouterSettings}
-use Rattle.mesh_atoms.specs.declared.settings.Scenario.{Scenario}
-use Rattle.mesh_atoms.specs.Radio.{Router}
-use Rattle.mesh_atoms.specs.Settled.{At}
-use Rattle.mesh_atoms.specs.State.{State}
-use Rattle.mesh_machine.specs.declared.frame.Frame.{Frame}
+use Rattle.mesh_probe.proofs.Common.{◌≡◌, ℕ, ◌+◌, ◌<◌, ◌≤◌, inl, inr, refl, sym, ◌∙◌, ap, subst, arith, List, [], ◌∷◌, ◌++◌, length, Contains, Bool, true, false, Some, map, drop, get_or, append_assoc, common_steps, All, slice_get, slice_set, cond, option_map, cases_eq, map-set, length-map, drop_more, drop_all, append-nil, All-nil, All-cons, All-head, All-tail, All-append, slice_get_within, slice_get-map, slice_get-get_or, slice_get_read, Addr4, RadioArc, RouterSettings, Scenario, Router, At, State, Frame, arc_leads_to, Transmission, is_arc_from, hearers_of, BecomesAt, AllHear, All_have_heard, Next_hears, sent_by, CanHear, IsOfInterface, HearsFrame, same_some}
 use Rattle.mesh_machine.specs.Sendable.{IsSendable}
-use Rattle.mesh_paths.proofs.Scenarios.{arc_leads_to}
 use Rattle.mesh_wire.proofs.Standing.{get_set, get_unset}
-use Rattle.mesh_probe.specs.declared.transmission.Transmission.{Transmission}
-use Rattle.mesh_probe.specs.Flood.{is_arc_from, hearers_of, BecomesAt, AllHear, All_have_heard, Next_hears, sent_by}
-use Rattle.mesh_probe.specs.Hearing.{CanHear, IsOfInterface, HearsFrame}
-use Rattle.mesh_atoms.proofs.Options.{same_some}
 
 -- One state is replaced
 

@@ -1,6 +1,5 @@
 -- How one message spreads, by the numbers of routers and interfaces alone.
-use Rattle.std.specs.Prelude.{◌≡◌, ℕ, zero, suc, ◌+◌, ◌<◌, ◌≤◌, ◌⊎◌, ◌++◌, ◌∷◌, [], List, Contains, Option, Some, None, Bool, true, false, nat_eq}
-use Rattle.std.specs.List.{list_any, AllPairs}
+use Rattle.mesh_probe.proofs.Common.{◌≡◌, ℕ, zero, suc, ◌+◌, ◌<◌, ◌≤◌, ◌⊎◌, ◌++◌, ◌∷◌, [], List, Contains, Option, Some, None, Bool, true, false, nat_eq, list_any, AllPairs}
 
 -- whether the number is among them
 abbrev pub has : List ℕ → ℕ → Bool

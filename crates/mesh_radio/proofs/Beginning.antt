@@ -1,23 +1,5 @@
 -- A network before its first event.
-use Rattle.std.proofs.Common.{◌≡◌, ℕ, ◌+◌, ◌<◌, List, [], ◌∷◌, ◌++◌, refl, sym, ◌∙◌, ap, subst, length, get_or, map, All, arith, Some, None, length-append}
-use Rattle.std.specs.Prelude.{slice_get}
-use Rattle.std.proofs.lemmas.List.{length-map, map-append}
-use Rattle.std.proofs.lemmas.Option.{slice_get_read}
-use Rattle.std.proofs.lemmas.List.Elements.{All-nil}
-use Rattle.mesh_atoms.specs.State.{State}
-use Rattle.mesh_atoms.specs.declared.settings.RouterSettings.{RouterSettings}
-use Rattle.mesh_atoms.specs.declared.settings.Scenario.{Scenario}
-use Rattle.mesh_machine.specs.Machine.{IsOpening}
-use Rattle.mesh_radio.specs.declared.scene.Due.{Due}
-use Rattle.mesh_radio.specs.declared.scene.Scene.{Scene}
-use Rattle.mesh_machine.specs.Net.{IsFirstDue}
-use Rattle.mesh_radio.specs.Opening.{AreOpeningUpTo, AreOpening, IsOpeningScene}
-use Rattle.mesh_machine.specs.NetRun.{IsOpeningNet}
-use Rattle.mesh_radio.specs.Scene.{IsSound, IsFlying, net_of}
-use Rattle.mesh_radio.specs.declared.traffic.traffic.RadioTraffic.{RadioTraffic}
-use Rattle.mesh_radio.specs.Traffic.Traffic.{traffic_of}
-use Rattle.mesh_machine.specs.Ways.{AreArcsOut}
-use Rattle.mesh_machine.proofs.Places.{each_more, same_at}
+use Rattle.mesh_radio.proofs.Common.{◌≡◌, ℕ, ◌+◌, ◌<◌, List, [], ◌∷◌, ◌++◌, refl, sym, ◌∙◌, ap, subst, length, get_or, map, All, arith, Some, None, length-append, slice_get, length-map, map-append, slice_get_read, All-nil, State, RouterSettings, Scenario, IsOpening, Due, Scene, IsFirstDue, AreOpeningUpTo, AreOpening, IsOpeningScene, IsOpeningNet, IsSound, IsFlying, net_of, RadioTraffic, traffic_of, AreArcsOut, each_more, same_at}
 
 pub none_opening : {A : Type 0} (state : A → State) (settings : List RouterSettings) (routers : List A) → routers ≡ [] → AreOpeningUpTo settings 0 (map state routers)
 none_opening {A = A} state settings routers none = subst (λ (l : List A). AreOpeningUpTo settings 0 (map state l)) (sym none) (record { count_is = refl; each = λ x s at. absurd (let no : None ≡ Some s = at in cc) })

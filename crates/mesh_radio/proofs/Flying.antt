@@ -1,15 +1,5 @@
 -- What holds of the frames in the air.
-use Rattle.std.proofs.Common.{ℕ, ◌<◌, ◌≤◌, List, length, arith, All, map}
-use Rattle.std.proofs.lemmas.List.Elements.{All-weaker}
-use Rattle.mesh_atoms.specs.declared.settings.RadioArc.{RadioArc}
-use Rattle.mesh_atoms.specs.declared.settings.RouterSettings.{RouterSettings}
-use Rattle.mesh_atoms.specs.declared.settings.Scenario.{Scenario}
-use Rattle.mesh_machine.specs.Sendable.{IsSendable}
-use Rattle.mesh_atoms.specs.declared.network.Emission.{Emission}
-use Rattle.mesh_machine.specs.Traffic.{Traffic, Delivery, SendsAll, leaving, frame_of}
-use Rattle.mesh_radio.specs.Scene.{IsFlying}
-use Rattle.mesh_machine.proofs.Places.{all_turned}
-use Rattle.mesh_machine.proofs.Sent.{flies_by, sent_all, numbered}
+use Rattle.mesh_radio.proofs.Common.{ℕ, ◌<◌, ◌≤◌, List, length, arith, All, map, All-weaker, RadioArc, RouterSettings, Scenario, IsSendable, Emission, Traffic, Delivery, SendsAll, leaving, frame_of, IsFlying, all_turned, flies_by, sent_all, numbered}
 
 -- what flew before still flies, where it is heard no earlier than now
 pub still_flying : (s : Scenario) (earlier now : ℕ) (air : List Delivery) → All (IsFlying s earlier) air → All (λ d. now ≤ d.moment) air → All (IsFlying s now) air

@@ -1,33 +1,9 @@
 -- The events of a network, put together.
-use Rattle.std.proofs.Common.{◌≡◌, ℕ, ◌+◌, ◌<◌, ◌≤◌, ◌∙◌, List, refl, sym, length, map, arith, subst, All, Option, Some, None, Result, Ok, Err, Bool, true, false, is_err, IfOk}
-use Rattle.std.specs.Prelude.{min, slice_get, slice_set, IfSome, MatchOption, option_map}
-use Rattle.std.proofs.lemmas.List.Elements.{All-weaker}
-use Rattle.std.proofs.lemmas.Option.{slice_get_within}
+use Rattle.mesh_radio.proofs.Common.{◌≡◌, ℕ, ◌+◌, ◌<◌, ◌≤◌, ◌∙◌, List, refl, sym, length, map, arith, subst, All, Option, Some, None, Result, Ok, Err, Bool, true, false, is_err, IfOk, min, slice_get, slice_set, IfSome, MatchOption, option_map, All-weaker, slice_get_within, RadioArc, RouterSettings, Scenario, State, Frame, Event, Hear, IsPacket, IsSendable, Emission, RadioTraffic as Kept, Traffic, Delivery, IsHeardFirst, SendsAll, with_heard, frame_of, traffic_of, same_at, all_turned, NetEvent, Due, Scene, NetState, NetStep, By_delivery, By_tick, By_last_tick, IsFirstDue, IsSender, TicksNext, HasOnlyLastTicks, Moves, Delivers, TicksDue, TicksLast, event_of, frames_of, IsOver, IsOfScenario, IsOfPackets, net_event_of, IsSound, AreRouterStates, HadLastTicks, KeepsDue, IsAfterTick, Lands, TicksOne, Stepped, Happens, IsFlying, IsLeft, IsAirQuiet, IsNextTick, Due_first, At_end, HasNoTick, AllStays, TellsEvent, net_of, arc_ends, first_and_others, others_later, sent_lost}
 use Rattle.std.proofs.lemmas.Result.{IfOk-weaker}
 use Rattle.mesh_atoms.specs.declared.addr.Addr4.{Addr4}
-use Rattle.mesh_atoms.specs.declared.settings.RadioArc.{RadioArc}
-use Rattle.mesh_atoms.specs.declared.settings.RouterSettings.{RouterSettings}
-use Rattle.mesh_atoms.specs.declared.settings.Scenario.{Scenario}
-use Rattle.mesh_atoms.specs.State.{State}
-use Rattle.mesh_machine.specs.declared.frame.Frame.{Frame}
-use Rattle.mesh_machine.specs.Machine.{Event, Hear}
-use Rattle.mesh_machine.specs.Sendable.{IsPacket, IsSendable}
-use Rattle.mesh_atoms.specs.declared.network.Emission.{Emission}
-use Rattle.mesh_radio.specs.declared.traffic.traffic.RadioTraffic.{RadioTraffic as Kept}
-use Rattle.mesh_machine.specs.Traffic.{Traffic, Delivery, IsHeardFirst, SendsAll, with_heard, frame_of}
-use Rattle.mesh_radio.specs.Traffic.Traffic.{traffic_of}
-use Rattle.mesh_machine.proofs.Places.{same_at, all_turned}
-use Rattle.mesh_atoms.specs.declared.network.NetEvent.{NetEvent}
 use Rattle.mesh_radio.specs.declared.occurrences.Occurrence.{Occurrence}
-use Rattle.mesh_radio.specs.declared.scene.Due.{Due}
-use Rattle.mesh_radio.specs.declared.scene.Scene.{Scene}
 use Rattle.mesh_radio.specs.declared.scene.Tick.{Tick}
-use Rattle.mesh_machine.specs.Net.{NetState, NetStep, By_delivery, By_tick, By_last_tick, IsFirstDue, IsSender, TicksNext, HasOnlyLastTicks, Moves, Delivers, TicksDue, TicksLast, event_of, frames_of}
-use Rattle.mesh_machine.specs.NetRun.{IsOver, IsOfScenario, IsOfPackets}
-use Rattle.mesh_radio.specs.Occurrences.{net_event_of}
-use Rattle.mesh_radio.specs.Scene.{IsSound, AreRouterStates, HadLastTicks, KeepsDue, IsAfterTick, Lands, TicksOne, Stepped, Happens, IsFlying, IsLeft, IsAirQuiet, IsNextTick, Due_first, At_end, HasNoTick, AllStays, TellsEvent, net_of}
-use Rattle.mesh_machine.proofs.Arcs.{arc_ends}
-use Rattle.mesh_machine.proofs.Sent.{first_and_others, others_later, sent_lost}
 use Rattle.mesh_radio.proofs.Flying.{sent_flying, still_flying}
 use Rattle.mesh_radio.proofs.Keeping.{all_kept}
 use Rattle.mesh_radio.proofs.Soundness.{all_due, due_from, kept_after, later_routers, one_ended, routers_after, same_count, same_first, still_ended}

@@ -1,16 +1,6 @@
 -- Routers, and what is kept of them.
-use Rattle.std.proofs.Common.{◌≡◌, ℕ, ◌≤◌, ◌∙◌, List, sym, subst, get_or, All, Some}
-use Rattle.std.specs.Prelude.{slice_get}
-use Rattle.std.proofs.lemmas.List.{same_lists}
-use Rattle.std.proofs.lemmas.Option.{slice_get-get_or, slice_get_within, get_or_from_slice_get}
-use Rattle.mesh_atoms.specs.State.{State}
-use Rattle.mesh_machine.specs.Machine.{due}
-use Rattle.mesh_machine.specs.Net.{IsFirstDue}
-use Rattle.mesh_core.specs.Deferred.{IsKeptOf}
-use Rattle.mesh_radio.specs.Scene.{AreKeptOf}
-use Rattle.mesh_core.proofs.Kept.{kept_due}
+use Rattle.mesh_radio.proofs.Common.{◌≡◌, ℕ, ◌≤◌, ◌∙◌, List, sym, subst, get_or, All, Some, slice_get, same_lists, slice_get-get_or, slice_get_within, get_or_from_slice_get, State, due, IsFirstDue, IsKeptOf, AreKeptOf, kept_due, item_at as stands}
 use Rattle.mesh_radio.proofs.Soundness.{all_due}
-use Rattle.mesh_atoms.proofs.Lists.{item_at as stands}
 
 module _ (until : ℕ) (wholes rests : List State) (kept : AreKeptOf until wholes rests) where
   -- the router of which this is kept

@@ -10,3 +10,4 @@ mod Standing
 mod Steps
 mod TrafficLemmas
 mod Turning
+mod Common

@@ -1,8 +1,5 @@
 -- Runs of a network.
-use Rattle.std.proofs.Common.{◌≡◌, List, [], ◌∷◌, subst, sym}
-use Rattle.mesh_atoms.specs.declared.network.NetEvent.{NetEvent}
-use Rattle.mesh_machine.specs.Net.{NetState, NetStep}
-use Rattle.mesh_machine.specs.NetRun.{NetRun, IsOver}
+use Rattle.mesh_radio.proofs.Common.{◌≡◌, List, [], ◌∷◌, subst, sym, NetEvent, NetState, NetStep, NetRun, IsOver}
 
 -- whatever run goes on from here, a run from the start leads there
 abbrev pub RunsOn : NetState → NetState → Type 0

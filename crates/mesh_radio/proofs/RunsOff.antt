@@ -1,15 +1,5 @@
 -- Runs to the end in which routers put off relays and routes up to it.
-use Rattle.std.proofs.Common.{◌≡◌, ◌∙◌, Bool, true, false, List, Result, Ok, Err, refl, sym, ap, subst, arith}
-use Rattle.std.specs.Prelude.{OnOk, is_err}
-use Rattle.std.proofs.lemmas.Option.{slice_get_within}
-use Rattle.mesh_atoms.specs.State.{State}
-use Rattle.mesh_atoms.specs.declared.network.NetEvent.{NetEvent}
-use Rattle.mesh_atoms.specs.declared.settings.Scenario.{Scenario}
-use Rattle.mesh_machine.specs.Net.{NetState, NetStep, By_delivery, By_tick, By_last_tick}
-use Rattle.mesh_machine.specs.NetRun.{IsOver, NetRun}
-use Rattle.mesh_radio.specs.declared.scene.Scene.{Scene}
-use Rattle.mesh_radio.specs.Scene.{AreKeptOf, AreSoundStates, Happens, IsLeft, IsSound, RunsOver, net_of}
-use Rattle.mesh_machine.proofs.Places.{same_at}
+use Rattle.mesh_radio.proofs.Common.{◌≡◌, ◌∙◌, Bool, true, false, List, Result, Ok, Err, refl, sym, ap, subst, arith, OnOk, is_err, slice_get_within, State, NetEvent, Scenario, NetState, NetStep, By_delivery, By_tick, By_last_tick, IsOver, NetRun, Scene, AreKeptOf, AreSoundStates, Happens, IsLeft, IsSound, RunsOver, net_of, same_at}
 use Rattle.mesh_radio.proofs.SameSteps.{net_step_from}
 use Rattle.mesh_radio.proofs.Keeping.{all_kept}
 use Rattle.mesh_radio.proofs.Runs.{RunsOn, one_step, run_over}

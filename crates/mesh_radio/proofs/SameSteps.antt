@@ -1,17 +1,7 @@
 -- What happens to what is kept of the routers of a network happens to the routers too.
-use Rattle.std.proofs.Common.{◌≡◌, ℕ, ◌<◌, ◌≤◌, ◌∙◌, List, refl, sym, ap, subst, length, Some, inl, inr, length-set}
-use Rattle.std.specs.Prelude.{slice_get, slice_set}
-use Rattle.mesh_atoms.specs.State.{State}
-use Rattle.mesh_atoms.specs.declared.network.NetEvent.{NetEvent}
-use Rattle.mesh_machine.specs.Net.{NetStep, By_delivery, By_tick, By_last_tick, Moves, HasOnlyLastTicks}
-use Rattle.mesh_machine.specs.Traffic.{Traffic}
-use Rattle.mesh_machine.proofs.Places.{same_at, set_at, set_there}
+use Rattle.mesh_radio.proofs.Common.{◌≡◌, ℕ, ◌<◌, ◌≤◌, ◌∙◌, List, refl, sym, ap, subst, length, Some, inl, inr, length-set, slice_get, slice_set, State, NetEvent, NetStep, By_delivery, By_tick, By_last_tick, Moves, HasOnlyLastTicks, Traffic, same_at, set_at, set_there, Scene, AreKeptOf, AreSoundStates, net_of, kept_through, step_from, set_here}
 use Rattle.mesh_machine.proofs.Soundness.{step_sound}
-use Rattle.mesh_radio.specs.declared.scene.Scene.{Scene}
-use Rattle.mesh_radio.specs.Scene.{AreKeptOf, AreSoundStates, net_of}
-use Rattle.mesh_core.proofs.Kept.{kept_through, step_from}
 use Rattle.mesh_radio.proofs.Keeping.{whole_at, rest_at, dues_of, first_of}
-use Rattle.mesh_atoms.proofs.Lists.{set_here}
 
 -- All routers
 

@@ -1,15 +1,5 @@
 -- What holds of the routers after an event.
-use Rattle.std.proofs.Common.{◌≡◌, ℕ, ◌+◌, ◌≤◌, List, refl, sym, ◌∙◌, ap, subst, length, get_or, arith, All, Some, inl, inr, length-set}
-use Rattle.std.specs.Prelude.{slice_get, slice_set, ◌⊎◌, ◌≢◌}
-use Rattle.std.proofs.lemmas.Option.{slice_get-get_or, slice_get_within}
-use Rattle.mesh_atoms.specs.State.{State}
-use Rattle.mesh_atoms.specs.declared.settings.Scenario.{Scenario}
-use Rattle.mesh_machine.specs.declared.frame.Frame.{Frame}
-use Rattle.mesh_machine.specs.Machine.{Event, due}
-use Rattle.mesh_machine.specs.Net.{IsFirstDue}
-use Rattle.mesh_radio.specs.Scene.{AreRouterStates, AreKeptOf, HadLastTicks, KeepsDue, Stepped, IsAfterTick}
-use Rattle.mesh_machine.proofs.Places.{same_at, set_at}
-use Rattle.mesh_atoms.proofs.Lists.{item_at as stands}
+use Rattle.mesh_radio.proofs.Common.{◌≡◌, ℕ, ◌+◌, ◌≤◌, List, refl, sym, ◌∙◌, ap, subst, length, get_or, arith, All, Some, inl, inr, length-set, slice_get, slice_set, ◌⊎◌, ◌≢◌, slice_get-get_or, slice_get_within, State, Scenario, Frame, Event, due, IsFirstDue, AreRouterStates, AreKeptOf, HadLastTicks, KeepsDue, Stepped, IsAfterTick, same_at, set_at, item_at as stands}
 
 pub later_routers : (s : Scenario) (earlier now : ℕ) (routers : List State) → earlier ≤ now → AreRouterStates s earlier routers → AreRouterStates s now routers
 later_routers s earlier now routers le h = record {

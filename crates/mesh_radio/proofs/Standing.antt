@@ -1,18 +1,5 @@
 -- The routers of a scenario at a moment.
-use Rattle.std.proofs.Common.{◌≡◌, ℕ, ◌<◌, ◌≤◌, List, refl, subst, length, get_or, All, Some}
-use Rattle.std.specs.Prelude.{slice_get}
-use Rattle.std.proofs.lemmas.Option.{slice_get_within, slice_get_read}
-use Rattle.mesh_atoms.specs.State.{State}
-use Rattle.mesh_atoms.specs.declared.settings.RadioArc.{RadioArc}
-use Rattle.mesh_atoms.specs.declared.settings.RouterSettings.{RouterSettings}
-use Rattle.mesh_atoms.specs.declared.settings.Scenario.{Scenario}
-use Rattle.mesh_machine.specs.declared.frame.Frame.{Frame}
-use Rattle.mesh_machine.specs.Machine.{Event}
-use Rattle.mesh_machine.specs.Sendable.{IsSendable}
-use Rattle.mesh_machine.specs.Ways.{EntersInterface}
-use Rattle.mesh_radio.specs.Scene.{AreRouterStates, Stepped}
-use Rattle.mesh_machine.proofs.Places.{same_at}
-use Rattle.mesh_atoms.proofs.Lists.{item_at as stands}
+use Rattle.mesh_radio.proofs.Common.{◌≡◌, ℕ, ◌<◌, ◌≤◌, List, refl, subst, length, get_or, All, Some, slice_get, slice_get_within, slice_get_read, State, RadioArc, RouterSettings, Scenario, Frame, Event, IsSendable, EntersInterface, AreRouterStates, Stepped, same_at, item_at as stands}
 
 pub router_at : (s : Scenario) (now : ℕ) (routers : List State) (x : ℕ) → AreRouterStates s now routers → x < length s.routers → (was : State) × (slice_get routers x ≡ Some was) × (was.last ≤ now)
 router_at s now routers x h lt = let there = stands routers x (rw h.count lt) in (there.0, there.1, h.lasts x there.0 there.1)

@@ -1,15 +1,5 @@
 -- One router takes a step.
-use Rattle.std.proofs.Common.{◌≡◌, ℕ, ◌<◌, ◌≤◌, List, Result, Ok, Err, refl, length, get_or, All, Some, map, arith}
-use Rattle.std.specs.Prelude.{slice_get, slice_set, OnOk}
-use Rattle.std.proofs.lemmas.List.{map-set, length-map}
-use Rattle.std.proofs.lemmas.Option.{slice_get_read, slice_get_within}
-use Rattle.mesh_atoms.specs.State.{State}
-use Rattle.mesh_machine.specs.declared.frame.Frame.{Frame}
-use Rattle.mesh_machine.specs.Machine.{Event, Step, due}
-use Rattle.mesh_machine.specs.Sendable.{IsSendable}
-use Rattle.mesh_core.specs.Deferred.{IsKeptOf}
-use Rattle.mesh_radio.specs.Scene.{Stepped, KeepsDue, IsAfterTick}
-use Rattle.mesh_machine.proofs.Places.{mapped_at, same_at}
+use Rattle.mesh_radio.proofs.Common.{◌≡◌, ℕ, ◌<◌, ◌≤◌, List, Result, Ok, Err, refl, length, get_or, All, Some, map, arith, slice_get, slice_set, OnOk, map-set, length-map, slice_get_read, slice_get_within, State, Frame, Event, Step, due, IsSendable, IsKeptOf, Stepped, KeepsDue, IsAfterTick, mapped_at, same_at}
 
 module _ {A : Type 0} (state : A → State) (routers : List A) (x : ℕ) (here : State) (at : slice_get (map state routers) x ≡ Some here) where
   pub within : x < length routers

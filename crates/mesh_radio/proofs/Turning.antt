@@ -1,11 +1,6 @@
 -- Routers that are taken one by one, and those that are made of them, each with the state of the one of which it is made.
-use Rattle.std.proofs.Common.{◌≡◌, ℕ, ◌<◌, List, [], ◌∷◌, ◌++◌, refl, length, get_or, map}
-use Rattle.std.proofs.lemmas.List.{map-append}
-use Rattle.std.proofs.lemmas.Option.{slice_get_read}
+use Rattle.mesh_radio.proofs.Common.{◌≡◌, ℕ, ◌<◌, List, [], ◌∷◌, ◌++◌, refl, length, get_or, map, map-append, slice_get_read, State, each_more, mapped_at, AreSoundStates}
 use Rattle.mesh_atoms.specs.Sound.{Sound}
-use Rattle.mesh_atoms.specs.State.{State}
-use Rattle.mesh_machine.proofs.Places.{each_more, mapped_at}
-use Rattle.mesh_radio.specs.Scene.{AreSoundStates}
 
 -- one more
 pub one_turned : {A B : Type 0} (state : A → State) (its_state : B → State) (taken : List A) (made more : List B) (one : A) (turned : B) → its_state turned ≡ state one → more ≡ made ++ turned ∷ [] →

@@ -1,29 +1,10 @@
 -- The ways that are kept are the cheapest ones.
-use Rattle.std.proofs.Common.{◌≡◌, ℕ, ◌+◌, ◌≤◌, ◌<◌, ◌⊎◌, Bool, true, false, cond, nat_eq, nat_lt, List, [], ◌∷◌, Some, None, length, get_or, suc, refl, sym, ◌∙◌, ap, subst, inl, inr, arith, All, Ordering, Less, Equal, Greater}
-use Rattle.std.proofs.lemmas.Grind.{common_steps}
-use Rattle.std.specs.Prelude.{Contains, filter_map, IsPermutation}
-use Rattle.std.specs.List.{dedup, dedup_from}
-use Rattle.std.specs.List.Sorted.{IsSorted}
+use Rattle.mesh_relay.proofs.Common.{◌≡◌, ℕ, ◌+◌, ◌≤◌, ◌<◌, ◌⊎◌, Bool, true, false, cond, nat_eq, nat_lt, List, [], ◌∷◌, Some, None, length, get_or, suc, refl, sym, ◌∙◌, ap, subst, inl, inr, arith, All, Ordering, Less, Equal, Greater, common_steps, Contains, filter_map, IsPermutation, dedup, dedup_from, IsSorted, false≢true, true≢false, and_parts, and_from, or_cases, or_left, ltb-true, lt-ltb, eqb-true, cases_lt, Contains-get_or, Contains-permutation, IsPermutation-sym, Addr4, Near, Far, NeighbourGraph, Offers, IsWilling, addr_eq, Way, is_direct_within, AreWilling, IsAt, IsDirect, IsCheapest, HasWay, RisesFrom, AreWays, way_at, way_from, is_no_better, Decides-addr, some_equal, none_is_some, contains_none, contains_head, contains_cases, contains_tail}
 use Rattle.std.specs.Ordering.{MatchOrdering, nat_cmp, ordering_then, is_lt}
 use Rattle.std.proofs.lemmas.Cmp.{ranked}
-use Rattle.std.proofs.lemmas.Bool.{false≢true, true≢false, and_parts, and_from, or_cases, or_left, ltb-true, lt-ltb, eqb-true, cases_lt}
-use Rattle.std.proofs.lemmas.List.Elements.{Contains-get_or}
-use Rattle.std.proofs.lemmas.List.Sorted.{Contains-permutation, IsPermutation-sym}
-use Rattle.mesh_atoms.specs.declared.addr.Addr4.{Addr4}
-use Rattle.mesh_atoms.specs.declared.graphs.Near.{Near}
-use Rattle.mesh_atoms.specs.declared.graphs.Far.{Far}
-use Rattle.mesh_atoms.specs.declared.graphs.NeighbourGraph.{NeighbourGraph}
-use Rattle.mesh_atoms.specs.Relays.{Offers, IsWilling}
-use Rattle.mesh_atoms.specs.Base.{addr_eq}
-use Rattle.mesh_relay.specs.declared.ways.Way.{Way}
-use Rattle.mesh_relay.specs.Tests.{is_direct_within}
-use Rattle.mesh_relay.specs.Ways.{AreWilling, IsAt, IsDirect, IsCheapest, HasWay, RisesFrom, AreWays, way_at, way_from, is_no_better}
-use Rattle.mesh_atoms.proofs.Deciding.{Decides-addr}
 use Rattle.mesh_relay.proofs.Decide.{Decides-direct}
 use Rattle.mesh_relay.proofs.Lists.{given_by, gives, dedup_within, joined, kept_within}
 use Rattle.mesh_relay.proofs.Willing.{one_near}
-use Rattle.mesh_atoms.proofs.Options.{some_equal, none_is_some}
-use Rattle.mesh_atoms.proofs.Lists.{contains_none, contains_head, contains_cases, contains_tail}
 
 -- Ways in order
 

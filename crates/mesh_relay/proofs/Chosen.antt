@@ -1,17 +1,5 @@
 -- What the notes say of the set that is taken.
-use Rattle.std.proofs.Common.{◌≡◌, ℕ, ◌≤◌, ◌<◌, Bool, true, false, ◌&&◌, not, nat_eq, nat_le, List, [], ◌∷◌, length, get_or, set, zero, suc, refl, sym, ◌∙◌, ap, subst, inl, inr, arith}
-use Rattle.std.proofs.lemmas.Grind.{common_steps}
-use Rattle.std.specs.Prelude.{◌↔◌, Contains, IsTrue, MatchBool}
-use Rattle.std.proofs.lemmas.Bool.{false≢true, cases_Bool, cases_lt, or_cases, or_right, or_left, eqb-true, eq-eqb, leb-true, le-leb}
-use Rattle.std.proofs.lemmas.List.{get_or_past}
-use Rattle.mesh_atoms.specs.declared.addr.Addr4.{Addr4}
-use Rattle.mesh_atoms.specs.declared.graphs.Near.{Near}
-use Rattle.mesh_atoms.specs.declared.graphs.NeighbourGraph.{NeighbourGraph}
-use Rattle.mesh_atoms.specs.Relays.{IsWilling, IsRelay, IsOtherRelay, IsAsCheap, Covers, Needed, HasDistinctIds}
-use Rattle.mesh_relay.specs.declared.ways.Way.{Way}
-use Rattle.mesh_relay.specs.Ways.{AreWilling, IsAt, AreWays}
-use Rattle.mesh_relay.specs.Taken.{ids_of, IsTaken, reaches}
-use Rattle.mesh_relay.specs.Soles.{is_fit, AreFit}
+use Rattle.mesh_relay.proofs.Common.{◌≡◌, ℕ, ◌≤◌, ◌<◌, Bool, true, false, ◌&&◌, not, nat_eq, nat_le, List, [], ◌∷◌, length, get_or, set, zero, suc, refl, sym, ◌∙◌, ap, subst, inl, inr, arith, common_steps, ◌↔◌, Contains, IsTrue, MatchBool, false≢true, cases_Bool, cases_lt, or_cases, or_right, or_left, eqb-true, eq-eqb, leb-true, le-leb, get_or_past, Addr4, Near, NeighbourGraph, IsWilling, IsRelay, IsOtherRelay, IsAsCheap, Covers, Needed, HasDistinctIds, Way, AreWilling, IsAt, AreWays, ids_of, IsTaken, reaches, is_fit, AreFit}
 use Rattle.mesh_relay.proofs.Taken.{taken_of, id_taken, taken_at, covers_taken, keeps_costs, dearer_somewhere}
 use Rattle.mesh_relay.proofs.Pruned.{offers_more, not_taken, left_before, always_taken, dearer_without}
 use Rattle.mesh_relay.proofs.Willing.{one_place}

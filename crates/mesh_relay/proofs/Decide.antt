@@ -1,19 +1,7 @@
 -- The tests decide what they are named for.
-use Rattle.std.proofs.Common.{◌≡◌, ℕ, ◌+◌, ◌≤◌, ◌<◌, ◌||◌, not, nat_eq, List, refl, sym, subst, inl, inr, arith, Decides}
-use Rattle.std.proofs.lemmas.Grind.{common_steps}
-use Rattle.std.specs.Prelude.{Contains}
+use Rattle.mesh_relay.proofs.Common.{◌≡◌, ℕ, ◌+◌, ◌≤◌, ◌<◌, ◌||◌, not, nat_eq, List, refl, sym, subst, inl, inr, arith, Decides, common_steps, Contains, Addr4, Near, Far, NeighbourGraph, Decides-eqb, Decides-ltb, Decides-leb, Decides-addr, Decides-and, Decides-or, Decides-not, Decides-if, Decides-if_both, Decides-some, Decides-each, Offers, IsWilling, IsRelay, IsOtherRelay, IsAsCheap, HasSameDistance, Covers, IsMissed, Needed, HasDistinctIds, addr_eq, Willing, Relays, Others, IsDirect, contains, is_in_set, has_way_within, is_direct_within, is_led_to_within, is_offered_within, is_matched, is_as_cheap, are_costs_kept, has_always, are_willing, is_missed, irredundant, covers, are_distinct, are_all_distinct}
 use Rattle.std.specs.Borrow.{Bor}
-use Rattle.mesh_atoms.specs.declared.addr.Addr4.{Addr4}
-use Rattle.mesh_atoms.specs.declared.graphs.Near.{Near}
-use Rattle.mesh_atoms.specs.declared.graphs.Far.{Far}
-use Rattle.mesh_atoms.specs.declared.graphs.NeighbourGraph.{NeighbourGraph}
-use Rattle.mesh_atoms.proofs.Deciding.{Decides-eqb, Decides-ltb, Decides-leb, Decides-addr, Decides-and, Decides-or, Decides-not, Decides-if, Decides-if_both, Decides-some, Decides-each}
-use Rattle.mesh_atoms.specs.Relays.{Offers, IsWilling, IsRelay, IsOtherRelay, IsAsCheap, HasSameDistance, Covers, IsMissed, Needed, HasDistinctIds}
-use Rattle.mesh_atoms.specs.Base.{addr_eq}
 use Rattle.mesh_relay.specs.declared.sets.Among.{Among}
-use Rattle.mesh_relay.specs.declared.sets.Among.TheVariants.{Willing, Relays, Others}
-use Rattle.mesh_relay.specs.Ways.{IsDirect}
-use Rattle.mesh_relay.specs.Tests.{contains, is_in_set, has_way_within, is_direct_within, is_led_to_within, is_offered_within, is_matched, is_as_cheap, are_costs_kept, has_always, are_willing, is_missed, irredundant, covers, are_distinct, are_all_distinct}
 
 le-refl : (n : ℕ) → n ≤ n
 le-refl n = omega arith

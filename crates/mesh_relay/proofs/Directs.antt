@@ -1,14 +1,5 @@
 -- Direct entries in ascending order of address.
-use Rattle.std.proofs.Common.{◌≡◌, ℕ, ◌+◌, ◌≤◌, ◌<◌, Bool, true, false, ◌&&◌, ◌||◌, cond, nat_lt, nat_le, List, [], ◌∷◌, length, drop, get_or, zero, suc, refl, sym, ◌∙◌, ap, inl, inr, arith}
-use Rattle.std.specs.List.{list_any}
-use Rattle.std.specs.List.Sorted.{IsNonDecreasingBy, IsPartitionPoint}
-use Rattle.std.proofs.lemmas.Bool.{false≢true, cases_lt, ltb-true, lt-ltb}
-use Rattle.std.proofs.lemmas.List.{get_or-drop, length-drop}
-use Rattle.mesh_atoms.specs.declared.addr.Addr4.{Addr4}
-use Rattle.mesh_atoms.specs.declared.graphs.Direct.{Direct}
-use Rattle.mesh_atoms.specs.Base.{addr_eq}
-use Rattle.mesh_atoms.proofs.Deciding.{Decides-addr}
-use Rattle.mesh_relay.specs.Ways.{is_offer, is_first_within}
+use Rattle.mesh_relay.proofs.Common.{◌≡◌, ℕ, ◌+◌, ◌≤◌, ◌<◌, Bool, true, false, ◌&&◌, ◌||◌, cond, nat_lt, nat_le, List, [], ◌∷◌, length, drop, get_or, zero, suc, refl, sym, ◌∙◌, ap, inl, inr, arith, list_any, IsNonDecreasingBy, IsPartitionPoint, false≢true, cases_lt, ltb-true, lt-ltb, get_or-drop, length-drop, Addr4, Direct, addr_eq, Decides-addr, is_offer, is_first_within}
 
 -- each address is that one or a later one
 abbrev AreFrom : Addr4 → List Direct → Type 0

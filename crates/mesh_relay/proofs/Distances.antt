@@ -1,13 +1,6 @@
 -- Equal distances.
-use Rattle.std.specs.Prelude.{Contains}
-use Rattle.std.proofs.Common.{List, inl, inr, subst, ◌≡◌, ℕ, ◌≤◌, ◌↔◌, Option, Some, None, refl, ap, arith, sym}
-use Rattle.mesh_atoms.specs.declared.addr.Addr4.{Addr4}
-use Rattle.mesh_atoms.specs.declared.graphs.Near.{Near}
-use Rattle.mesh_atoms.specs.declared.graphs.Far.{Far}
-use Rattle.mesh_atoms.specs.declared.graphs.NeighbourGraph.{NeighbourGraph}
+use Rattle.mesh_relay.proofs.Common.{Contains, List, inl, inr, subst, ◌≡◌, ℕ, ◌≤◌, ◌↔◌, Option, Some, None, refl, ap, arith, sym, Addr4, Near, Far, NeighbourGraph, IsDistance, IsAsCheap, HasSameDistance, IsWilling, IsRelay, Covers, HasDistinctIds, some_equal, none_is_some}
 use Rattle.mesh_relay.specs.Laws.{KeepsDistances}
-use Rattle.mesh_atoms.specs.Relays.{IsDistance, IsAsCheap, HasSameDistance, IsWilling, IsRelay, Covers, HasDistinctIds}
-use Rattle.mesh_atoms.proofs.Options.{some_equal, none_is_some}
 
 equal_from : (l m e f : ℕ) → l ≤ e → e ≤ m → m ≤ f → f ≤ l → l ≡ m
 equal_from l m e f p q r s = omega arith

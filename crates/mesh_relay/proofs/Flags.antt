@@ -1,18 +1,6 @@
 -- Flags of the neighbours with given ids.
-use Rattle.std.proofs.Common.{◌≡◌, ℕ, ◌+◌, ◌≤◌, ◌<◌, ◌≢◌, ◌⊎◌, Bool, true, false, nat_eq, nat_lt, List, length, get_or, set, sym, ◌∙◌, ap, subst, inl, inr, arith}
-use Rattle.std.proofs.lemmas.Grind.{common_steps}
-use Rattle.std.specs.Prelude.{◌↔◌, AllPairs, Contains, IsTrue, replicate}
-use Rattle.std.specs.List.Sorted.{IsNonDecreasingBy, IsPartitionPoint}
-use Rattle.std.proofs.lemmas.Bool.{false≢true, cases_Bool, cases_lt, ltb-true, eqb-true, eq-eqb}
-use Rattle.std.proofs.lemmas.List.{get_or-set_same, get_or-set_other, get_or_default, get_or-replicate, length-set, length-replicate}
-use Rattle.std.proofs.lemmas.List.Elements.{Contains-get_or}
-use Rattle.mesh_atoms.specs.declared.addr.Addr4.{Addr4}
-use Rattle.mesh_atoms.specs.declared.graphs.Near.{Near}
-use Rattle.mesh_atoms.specs.declared.graphs.NeighbourGraph.{NeighbourGraph}
-use Rattle.mesh_atoms.specs.Relays.{IsWilling, IsRelay, IsOtherRelay, IsAsCheap, Covers, Needed}
+use Rattle.mesh_relay.proofs.Common.{◌≡◌, ℕ, ◌+◌, ◌≤◌, ◌<◌, ◌≢◌, ◌⊎◌, Bool, true, false, nat_eq, nat_lt, List, length, get_or, set, sym, ◌∙◌, ap, subst, inl, inr, arith, common_steps, ◌↔◌, AllPairs, Contains, IsTrue, replicate, IsNonDecreasingBy, IsPartitionPoint, false≢true, cases_Bool, cases_lt, ltb-true, eqb-true, eq-eqb, get_or-set_same, get_or-set_other, get_or_default, get_or-replicate, length-set, length-replicate, Contains-get_or, Addr4, Near, NeighbourGraph, IsWilling, IsRelay, IsOtherRelay, IsAsCheap, Covers, Needed, ids_of, IsTaken, AreWilling, IsAt}
 use Rattle.mesh_relay.specs.Asked.{HasPlace, AreFlagsOf, AreWillingIds}
-use Rattle.mesh_relay.specs.Taken.{ids_of, IsTaken}
-use Rattle.mesh_relay.specs.Ways.{AreWilling, IsAt}
 use Rattle.mesh_relay.proofs.Pruned.{offers_more, same_near}
 use Rattle.mesh_relay.proofs.Taken.{taken_of, id_taken}
 use Rattle.mesh_relay.proofs.Directs.{not_lower}

@@ -1,7 +1,5 @@
 -- The neighbour that is taken next.
-use Rattle.std.proofs.Common.{◌≡◌, ℕ, ◌<◌, Bool, true, false, cond, List, [], ◌∷◌, set, zero, suc, arith}
-use Rattle.std.proofs.lemmas.Bool.{true≢false}
-use Rattle.mesh_relay.specs.Taken.{IsFree, free_count}
+use Rattle.mesh_relay.proofs.Common.{◌≡◌, ℕ, ◌<◌, Bool, true, false, cond, List, [], ◌∷◌, set, zero, suc, arith, true≢false, IsFree, free_count}
 
 -- Fewer are left
 

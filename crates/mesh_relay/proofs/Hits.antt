@@ -1,14 +1,5 @@
 -- One pass over the ways in order finds an address that is not reached.
-use Rattle.std.proofs.Common.{◌≡◌, ℕ, ◌≤◌, ◌≢◌, ◌⊎◌, Bool, true, false, ◌&&◌, ◌||◌, cond, List, [], ◌∷◌, refl, sym, ◌∙◌, ap, subst, inl, inr, arith, Decides}
-use Rattle.std.proofs.lemmas.Grind.{common_steps}
-use Rattle.std.specs.Prelude.{Contains}
-use Rattle.std.proofs.lemmas.Bool.{false≢true, true≢false, and_cases, and_parts, or_cases, or_parts}
-use Rattle.mesh_atoms.specs.declared.addr.Addr4.{Addr4}
-use Rattle.mesh_atoms.specs.Base.{addr_eq}
-use Rattle.mesh_relay.specs.declared.ways.Way.{Way}
-use Rattle.mesh_relay.specs.Ways.{RisesFrom, are_all_reached_on, are_all_reached}
-use Rattle.mesh_atoms.proofs.Deciding.{Decides-addr}
-use Rattle.mesh_atoms.proofs.Lists.{contains_head, contains_none, contains_cases, contains_tail}
+use Rattle.mesh_relay.proofs.Common.{◌≡◌, ℕ, ◌≤◌, ◌≢◌, ◌⊎◌, Bool, true, false, ◌&&◌, ◌||◌, cond, List, [], ◌∷◌, refl, sym, ◌∙◌, ap, subst, inl, inr, arith, Decides, common_steps, Contains, false≢true, true≢false, and_cases, and_parts, or_cases, or_parts, Addr4, addr_eq, Way, RisesFrom, are_all_reached_on, are_all_reached, Decides-addr, contains_head, contains_none, contains_cases, contains_tail}
 
 -- some way to y passes the test
 abbrev pub Hit : (Way → Bool) → Addr4 → List Way → Type 0

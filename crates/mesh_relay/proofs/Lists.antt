@@ -1,8 +1,5 @@
 -- Elements of lists.
-use Rattle.std.proofs.Common.{◌≡◌, ◌⊎◌, Bool, true, false, cond, List, [], ◌∷◌, Option, Some, None, refl, sym, subst, inl, inr}
-use Rattle.std.specs.Prelude.{Contains, filter_map}
-use Rattle.std.specs.List.{dedup, dedup_from, cons_option}
-use Rattle.mesh_atoms.proofs.Lists.{contains_head, contains_none, contains_cases, contains_tail, option_cases}
+use Rattle.mesh_relay.proofs.Common.{◌≡◌, ◌⊎◌, Bool, true, false, cond, List, [], ◌∷◌, Option, Some, None, refl, sym, subst, inl, inr, Contains, filter_map, dedup, dedup_from, cons_option, contains_head, contains_none, contains_cases, contains_tail, option_cases}
 
 -- Elements that pass a test
 

@@ -1,17 +1,5 @@
 -- What is found for a far entry.
-use Rattle.std.proofs.Common.{◌≡◌, ℕ, ◌+◌, Bool, true, false, cond, List, [], ◌∷◌, Some, None, Option, refl, sym, ◌∙◌, ap, arith}
-use Rattle.std.proofs.lemmas.Grind.{common_steps}
-use Rattle.std.specs.Prelude.{IsPermutation}
-use Rattle.std.specs.List.{list_any}
-use Rattle.std.proofs.lemmas.List.Sorted.{list_any-IsPermutation}
-use Rattle.mesh_atoms.specs.declared.addr.Addr4.{Addr4}
-use Rattle.mesh_atoms.specs.declared.graphs.Near.{Near}
-use Rattle.mesh_atoms.specs.declared.graphs.Direct.{Direct}
-use Rattle.mesh_atoms.specs.declared.graphs.Far.{Far}
-use Rattle.mesh_atoms.specs.declared.graphs.NeighbourGraph.{NeighbourGraph}
-use Rattle.mesh_relay.specs.declared.ways.Way.{Way}
-use Rattle.mesh_relay.specs.Tests.{is_direct_within}
-use Rattle.mesh_relay.specs.Ways.{way_at, way_from, near_from, is_offer}
+use Rattle.mesh_relay.proofs.Common.{◌≡◌, ℕ, ◌+◌, Bool, true, false, cond, List, [], ◌∷◌, Some, None, Option, refl, sym, ◌∙◌, ap, arith, common_steps, IsPermutation, list_any, list_any-IsPermutation, Addr4, Near, Direct, Far, NeighbourGraph, Way, is_direct_within, way_at, way_from, near_from, is_offer}
 
 -- the way that the entry gives by what was found
 abbrev way_of : NeighbourGraph → Option (ℕ × Near) → Far → Option Way

@@ -1,22 +1,8 @@
 -- Flags and the ids that they stand for.
-use Rattle.std.proofs.Common.{◌≡◌, ℕ, ◌+◌, ◌≤◌, ◌<◌, ◌⊎◌, Bool, true, false, cond, List, [], ◌∷◌, ◌++◌, length, drop, get_or, zero, suc, refl, sym, ◌∙◌, ap, subst, inl, inr, arith}
-use Rattle.std.proofs.lemmas.Grind.{common_steps}
-use Rattle.std.specs.Prelude.{Contains, AllPairs, replicate}
-use Rattle.std.proofs.lemmas.Bool.{false≢true, cases_Bool}
-use Rattle.std.proofs.lemmas.List.{drop_more, append_assoc, get_or-replicate}
-use Rattle.mesh_atoms.specs.declared.addr.Addr4.{Addr4}
-use Rattle.mesh_atoms.specs.declared.graphs.Near.{Near}
-use Rattle.mesh_atoms.specs.declared.graphs.Far.{Far}
-use Rattle.mesh_atoms.specs.declared.graphs.NeighbourGraph.{NeighbourGraph}
-use Rattle.mesh_atoms.specs.Relays.{Offers, IsWilling, IsRelay, IsAsCheap, Covers, HasDistinctIds}
-use Rattle.mesh_atoms.specs.Words.{IsAscending}
-use Rattle.mesh_relay.specs.declared.ways.Way.{Way}
-use Rattle.mesh_relay.specs.Ways.{AreWilling, IsAt, IsCheapest, AreWays}
-use Rattle.mesh_relay.specs.Taken.{ids_of, IsTaken, reaches}
+use Rattle.mesh_relay.proofs.Common.{◌≡◌, ℕ, ◌+◌, ◌≤◌, ◌<◌, ◌⊎◌, Bool, true, false, cond, List, [], ◌∷◌, ◌++◌, length, drop, get_or, zero, suc, refl, sym, ◌∙◌, ap, subst, inl, inr, arith, common_steps, Contains, AllPairs, replicate, false≢true, cases_Bool, drop_more, append_assoc, get_or-replicate, Addr4, Near, Far, NeighbourGraph, Offers, IsWilling, IsRelay, IsAsCheap, Covers, HasDistinctIds, IsAscending, Way, AreWilling, IsAt, IsCheapest, AreWays, ids_of, IsTaken, reaches, contains_none, contains_head, contains_cases, contains_cond, all_pairs_cons}
 use Rattle.mesh_relay.proofs.Decide.{OffersWithin}
 use Rattle.mesh_relay.proofs.Hits.{all_hit, one_missed}
 use Rattle.mesh_relay.proofs.Willing.{one_place, later_order}
-use Rattle.mesh_atoms.proofs.Lists.{contains_none, contains_head, contains_cases, contains_cond, all_pairs_cons}
 
 -- Ids
 

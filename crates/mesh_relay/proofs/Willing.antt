@@ -1,21 +1,6 @@
 -- The willing neighbours in order.
-use Rattle.std.proofs.Common.{◌≡◌, ℕ, ◌≤◌, ◌<◌, Bool, true, false, cond, not, nat_eq, List, [], ◌∷◌, get_or, zero, suc, refl, sym, ◌∙◌, ap, subst, inl, inr, arith}
-use Rattle.std.proofs.lemmas.Grind.{common_steps}
-use Rattle.std.specs.Prelude.{Contains, AllPairs, filter, IsPermutation}
-use Rattle.std.specs.List.{dedup, dedup_from}
-use Rattle.std.specs.List.Sorted.{IsNonDecreasingBy}
-use Rattle.std.proofs.lemmas.Bool.{false≢true, eqb-true, eq-eqb}
-use Rattle.std.proofs.lemmas.List.{get_or_default}
-use Rattle.std.proofs.lemmas.List.Elements.{Contains-get_or}
-use Rattle.std.proofs.lemmas.List.Sorted.{Contains-permutation, IsPermutation-sym}
-use Rattle.mesh_atoms.specs.declared.addr.Addr4.{Addr4}
-use Rattle.mesh_atoms.specs.declared.graphs.Near.{Near}
-use Rattle.mesh_atoms.specs.declared.graphs.NeighbourGraph.{NeighbourGraph}
-use Rattle.mesh_atoms.specs.Relays.{IsWilling, HasDistinctIds}
-use Rattle.mesh_relay.specs.Ways.{AreWilling, IsAt}
-use Rattle.mesh_atoms.proofs.Deciding.{Decides-not, Decides-eqb}
+use Rattle.mesh_relay.proofs.Common.{◌≡◌, ℕ, ◌≤◌, ◌<◌, Bool, true, false, cond, not, nat_eq, List, [], ◌∷◌, get_or, zero, suc, refl, sym, ◌∙◌, ap, subst, inl, inr, arith, common_steps, Contains, AllPairs, filter, IsPermutation, dedup, dedup_from, IsNonDecreasingBy, false≢true, eqb-true, eq-eqb, get_or_default, Contains-get_or, Contains-permutation, IsPermutation-sym, Addr4, Near, NeighbourGraph, IsWilling, HasDistinctIds, AreWilling, IsAt, Decides-not, Decides-eqb, contains_none, contains_filter_cases as passes, contains_filter as stays, contains_cases}
 use Rattle.mesh_relay.proofs.Lists.{dedup_cases, kept_within, joined}
-use Rattle.mesh_atoms.proofs.Lists.{contains_none, contains_filter_cases as passes, contains_filter as stays, contains_cases}
 
 abbrev pub has_same_id : Near → Near → Bool
 has_same_id next last = nat_eq next.id.0 last.id.0

@@ -6,3 +6,4 @@ mod RelaysLemmas
 mod RouterLemmas
 mod SceneLemmas
 mod TrafficLemmas
+mod Common

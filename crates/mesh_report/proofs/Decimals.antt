@@ -1,6 +1,5 @@
 -- Decimal digits, and how many there are.
-use Rattle.std.proofs.Common.{◌≡◌, ℕ, ◌+◌, ◌<◌, ◌≤◌, ◌^◌, ◌/◌, ◌%◌, List, [], ◌∷◌, ◌++◌, length, decimal, ap, ◌∙◌, arith, length-append, append_assoc}
-use Rattle.std.proofs.lemmas.Fmt.{decimal_digit, decimal_step, length-decimal-le}
+use Rattle.mesh_report.proofs.Common.{◌≡◌, ℕ, ◌+◌, ◌<◌, ◌≤◌, ◌^◌, ◌/◌, ◌%◌, List, [], ◌∷◌, ◌++◌, length, decimal, ap, ◌∙◌, arith, length-append, append_assoc, decimal_digit, decimal_step, length-decimal-le}
 
 pub room_u64 : (n : ℕ) → n < 2 ^ 64 → length (decimal n) ≤ 20
 room_u64 n h = length-decimal-le 20 n (omega arith) (omega arith) h

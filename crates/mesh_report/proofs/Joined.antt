@@ -1,5 +1,5 @@
 -- Pieces that were put one behind the other.
-use Rattle.std.proofs.Common.{◌≡◌, List, ℕ, ◌++◌, sym, ap, ◌∙◌, append_assoc}
+use Rattle.mesh_report.proofs.Common.{◌≡◌, List, ℕ, ◌++◌, sym, ap, ◌∙◌, append_assoc}
 
 -- ---- texts of two parts: what stands, and what a piece holds
 

@@ -1,13 +1,5 @@
 -- Octets laid in hexadecimal digits, one by one.
-use Rattle.std.proofs.Common.{◌≡◌, ℕ, suc, ◌+◌, ◌-◌, ◌*◌, ◌/◌, ◌%◌, ◌<◌, ◌≤◌, inl, inr, List, [], ◌∷◌, length, refl, sym, ap, subst, ◌∙◌, arith}
-use Rattle.std.specs.Prelude.{Bool, true, ◌&&◌, nat_eq, slice_index, slice_set}
-use Rattle.std.specs.Simd.Lanes.{put_chunk}
-use Rattle.std.proofs.lemmas.Bool.{cases_eq, cases_lt, eqb-true, and_parts as both}
-use Rattle.std.proofs.lemmas.Simd.{get_or-put_chunk_below, get_or-put_chunk_at}
-use Rattle.std.proofs.lemmas.List.{get_or-set_same, get_or-set_other, length-set}
-use Rattle.hex.specs.Hex.{lower_digits, encode_with}
-use Rattle.mesh_report.specs.declared.hexadecimal.TheConstants.{DIGITS}
-use Rattle.mesh_report.specs.Digits.{HasDigits, AreDigits}
+use Rattle.mesh_report.proofs.Common.{◌≡◌, ℕ, suc, ◌+◌, ◌-◌, ◌*◌, ◌/◌, ◌%◌, ◌<◌, ◌≤◌, inl, inr, List, [], ◌∷◌, length, refl, sym, ap, subst, ◌∙◌, arith, Bool, true, ◌&&◌, nat_eq, slice_index, slice_set, put_chunk, cases_eq, cases_lt, eqb-true, and_parts as both, get_or-put_chunk_below, get_or-put_chunk_at, get_or-set_same, get_or-set_other, length-set, lower_digits, encode_with, DIGITS, HasDigits, AreDigits}
 use Rattle.mesh_report.proofs.Tables.{all_below, below}
 
 digit : ℕ → ℕ

@@ -10,3 +10,4 @@ mod LaidHex
 mod Messages
 mod Readings
 mod Turns
+mod Common

@@ -1,8 +1,5 @@
 -- Messages and their spans, one after the other.
-use Rattle.std.proofs.Common.{◌≡◌, ℕ, ◌+◌, ◌<◌, List, [], ◌∷◌, ◌++◌, length, map, drop, get_or, refl, arith, add-one, drop-cons}
-use Rattle.mesh_packet.specs.Fields.{MessageFields}
-use Rattle.mesh_packet.specs.declared.packet.Span.{Span}
-use Rattle.mesh_report.specs.Packets.{IsMessageText, IsMessagesText}
+use Rattle.mesh_report.proofs.Common.{◌≡◌, ℕ, ◌+◌, ◌<◌, List, [], ◌∷◌, ◌++◌, length, map, drop, get_or, refl, arith, add-one, drop-cons, MessageFields, Span, IsMessageText, IsMessagesText}
 
 -- where no message and no span is left, nothing is to come
 pub none_left : (messages : List MessageFields) (spans : List Span) → length messages ≡ 0 → length spans ≡ 0 → IsMessagesText messages spans []

@@ -1,20 +1,14 @@
 -- A message reads in one way, and a line has one listing.
-use Rattle.std.proofs.Common.{◌≡◌, ℕ, zero, suc, List, [], ◌∷◌, ◌++◌, length, Option, Result, Ok, Err, Bool, true, false, inl, inr, sym, ap, ◌∙◌, arith, refl}
-use Rattle.mesh_atoms.specs.declared.addr.NetAddr.{NetAddr}
+use Rattle.mesh_report.proofs.Common.{◌≡◌, ℕ, zero, suc, List, [], ◌∷◌, ◌++◌, length, Option, Result, Ok, Err, Bool, true, false, inl, inr, sym, ap, ◌∙◌, arith, refl, NetAddr, MessageFields, PacketFields, Span, Keeps, message_text, IsMessagesText, IsPacketListed, recode_line, IsRecodeLine, IsRecode, IsLineText, hello_line, tc_line, broken_line, ReadsMessage, IsReading}
 use Rattle.mesh_atoms.specs.declared.refusal.Refusal.{Refusal}
-use Rattle.mesh_packet.specs.Fields.{MessageFields, PacketFields}
-use Rattle.mesh_packet.specs.declared.packet.Span.{Span}
 use Rattle.mesh_wire.specs.Hello.{HelloIs}
 use Rattle.mesh_wire.specs.HelloRules.{BreaksHello}
-use Rattle.mesh_wire.specs.Rules.{Keeps}
 use Rattle.mesh_wire.specs.Tc.{TcIs}
 use Rattle.mesh_wire.specs.TcRules.{BreaksTc}
 use Rattle.mesh_wire.proofs.OneHello.{one_hello}
 use Rattle.mesh_wire.proofs.OneTc.{one_tc}
 use Rattle.mesh_wire.proofs.Single.{one_broken}
 use Rattle.mesh_packet.proofs.OneForm.{form_once}
-use Rattle.mesh_report.specs.Packets.{message_text, IsMessagesText, IsPacketListed, recode_line, IsRecodeLine, IsRecode, IsLineText}
-use Rattle.mesh_report.specs.Readings.{hello_line, tc_line, broken_line, ReadsMessage, IsReading}
 
 -- two texts that are each of two parts, and the parts are the same
 pub same_both : {a b x x' y y' : List ℕ} → a ≡ x ++ y → b ≡ x' ++ y' → x ≡ x' → y ≡ y' → a ≡ b

@@ -1,12 +1,8 @@
 -- That what is told of a message that was read is how it reads.
-use Rattle.std.proofs.Common.{ℕ, List, Option, Result, Ok, Err, inl, inr, ap, ◌∙◌}
-use Rattle.std.specs.Prelude.{IfOk, IfErr}
-use Rattle.mesh_atoms.specs.declared.addr.NetAddr.{NetAddr}
+use Rattle.mesh_report.proofs.Common.{ℕ, List, Option, Result, Ok, Err, inl, inr, ap, ◌∙◌, IfOk, IfErr, NetAddr, Keeps, FirstBroken, TellsRead, ReadsMessage}
 use Rattle.mesh_wire.specs.Answers.{IfBroken, Sums}
-use Rattle.mesh_wire.specs.Rules.{Keeps, FirstBroken}
 use Rattle.mesh_wire.specs.declared.fault.WireFault.{WireFault}
 use Rattle.mesh_wire.specs.declared.fault.WireFault.TheVariants.{Broken, Memory}
-use Rattle.mesh_report.specs.Readings.{TellsRead, ReadsMessage}
 
 pub told_reads : {X S : Type 0} {Breaks : ℕ → Option NetAddr → Type 0} {Is : X → Type 0} (summary_of : X → S) (line_of : S → List ℕ) {text : List ℕ} (read : Result S WireFault)
     → IfOk read (Sums summary_of Is) → IfOk read (λ summary. Keeps Breaks) → IfErr read (IfBroken (FirstBroken Breaks)) → TellsRead line_of read text → ReadsMessage Breaks Is (λ value. line_of (summary_of value)) text

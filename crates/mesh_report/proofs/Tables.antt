@@ -1,7 +1,5 @@
 -- Tables whose entries pass a test.
-use Rattle.std.proofs.Common.{◌≡◌, ℕ, zero, suc, ◌<◌, inl, inr, sym, subst, arith}
-use Rattle.std.specs.Prelude.{Bool, true, ◌&&◌}
-use Rattle.std.proofs.lemmas.Bool.{cases_lt, and_parts as both}
+use Rattle.mesh_report.proofs.Common.{◌≡◌, ℕ, zero, suc, ◌<◌, inl, inr, sym, subst, arith, Bool, true, ◌&&◌, cases_lt, and_parts as both}
 
 abbrev pub all_below : (ℕ → Bool) → ℕ → Bool
 all_below p zero = true

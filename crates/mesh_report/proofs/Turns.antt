@@ -1,7 +1,5 @@
 -- Places of lanes that are taken in turn from two vectors.
-use Rattle.std.proofs.Common.{◌≡◌, ℕ, ◌+◌, ◌*◌, ◌<◌, List, [], ◌∷◌, refl}
-use Rattle.std.specs.Prelude.{Bool, true, ◌&&◌, nat_eq, slice_index}
-use Rattle.std.proofs.lemmas.Bool.{eqb-true, and_parts as both}
+use Rattle.mesh_report.proofs.Common.{◌≡◌, ℕ, ◌+◌, ◌*◌, ◌<◌, List, [], ◌∷◌, refl, Bool, true, ◌&&◌, nat_eq, slice_index, eqb-true, and_parts as both}
 use Rattle.mesh_report.proofs.Tables.{all_below, below}
 
 abbrev pub turns : List ℕ

@@ -1,8 +1,5 @@
 -- Vectors, lane by lane.
-use Rattle.std.proofs.Common.{◌≡◌, ℕ, ◌/◌, ◌%◌, ◌^◌, ◌<◌, Bool, true, false, cond, List, length, map, get_or, replicate, refl, sym, ap, subst, ◌∙◌, arith, w8}
-use Rattle.std.specs.Simd.Lanes.{zip2, sel_l, mask_l, top, pick_l}
-use Rattle.std.proofs.lemmas.Simd.{length-zip2, get_or-zip2, get_or-replicate, length-sel_l, get_or-sel_l, bit_mask_l, tops_compared}
-use Rattle.std.proofs.lemmas.List.{get_or-map}
+use Rattle.mesh_report.proofs.Common.{◌≡◌, ℕ, ◌/◌, ◌%◌, ◌^◌, ◌<◌, Bool, true, false, cond, List, length, map, get_or, replicate, refl, sym, ap, subst, ◌∙◌, arith, w8, zip2, sel_l, mask_l, top, pick_l, length-zip2, get_or-zip2, get_or-replicate, length-sel_l, get_or-sel_l, bit_mask_l, tops_compared, get_or-map}
 use Rattle.std.proofs.Math.Nat.{zero-div}
 use Rattle.mesh_report.specs.Lanes.{HasLanes}
 

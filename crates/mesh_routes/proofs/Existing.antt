@@ -1,27 +1,7 @@
 -- A router with sound bases has routes.
-use Rattle.std.proofs.Common.{◌≡◌, ◌≢◌, ◌<◌, inl, inr, ℕ, zero, suc, refl, sym, ◌∙◌, subst, arith, List, Some, Contains}
-use Rattle.mesh_atoms.specs.declared.addr.Addr4.{Addr4}
-use Rattle.mesh_atoms.specs.declared.addr.NetAddr.{NetAddr}
-use Rattle.mesh_atoms.specs.declared.codes.metric.Metric.{Metric}
-use Rattle.mesh_atoms.specs.declared.graphs.Graph.{Graph}
-use Rattle.mesh_atoms.specs.declared.graphs.PathRow.{PathRow}
-use Rattle.mesh_atoms.specs.declared.graphs.Route.{Route}
-use Rattle.mesh_atoms.specs.declared.tuples.LinkKey.{LinkKey}
-use Rattle.mesh_atoms.specs.Base.{host}
-use Rattle.mesh_atoms.specs.Nodes.{IsBefore}
-use Rattle.mesh_atoms.specs.Routes.{RouteArc, IsOutside, IsParent, IsWayTo, IsNextHop, AreRoutes}
-use Rattle.mesh_atoms.specs.Sound.{SoundNeighbourhood, SoundTopology}
-use Rattle.mesh_atoms.specs.State.{State, IsOriginator}
-use Rattle.mesh_atoms.specs.Walk.{Walk, Least, FirstNode, AtSelf, Through}
-use Rattle.mesh_atoms.proofs.Lookups.{tests_symmetric}
-use Rattle.mesh_paths.specs.Paths.{IsCertificate}
+use Rattle.mesh_routes.proofs.Common.{◌≡◌, ◌≢◌, ◌<◌, inl, inr, ℕ, zero, suc, refl, sym, ◌∙◌, subst, arith, List, Some, Contains, Addr4, NetAddr, Metric, Graph, PathRow, Route, LinkKey, host, IsBefore, RouteArc, IsOutside, IsParent, IsWayTo, IsNextHop, AreRoutes, SoundNeighbourhood, SoundTopology, State, IsOriginator, Walk, Least, FirstNode, AtSelf, Through, tests_symmetric, IsCertificate, same_node, NeighbourLink, IsGraphOf, route_by, SameOwn, SameArcs, SameWays}
 use Rattle.mesh_paths.proofs.Existing.{certificate_exists}
-use Rattle.mesh_paths.proofs.Order.{same_node}
-use Rattle.mesh_routes.specs.declared.hops.ways.NeighbourLink.{NeighbourLink}
-use Rattle.mesh_routes.specs.Arcs.{IsGraphOf}
 use Rattle.mesh_routes.specs.Existing.{RoutersHaveRoutes}
-use Rattle.mesh_routes.specs.Rows.{route_by}
-use Rattle.mesh_routes.specs.Staying.{SameOwn, SameArcs, SameWays}
 use Rattle.mesh_routes.proofs.FirstNodes.{Entry, first_arc, first_of, known_link}
 use Rattle.mesh_routes.proofs.GraphWalks.{costs_of, rooted, least_of, row_tells, row_reached, walk_by, least_by}
 use Rattle.mesh_routes.proofs.InOrder.{Gives, GivesOne, give_each}

@@ -1,25 +1,7 @@
 -- The first nodes on the way from a router: addresses of its symmetric neighbours with a known metric.
-use Rattle.std.proofs.Common.{◌≡◌, ℕ, refl, sym, ◌∙◌, ap, subst, Some, None, true, IsTrue, Contains}
-use Rattle.std.proofs.lemmas.Map.Views.{Contains-from_lookup, lookup-from_Contains}
-use Rattle.mesh_atoms.specs.declared.addr.Addr4.{Addr4}
-use Rattle.mesh_atoms.specs.declared.addr.NetAddr.{NetAddr}
-use Rattle.mesh_atoms.specs.declared.codes.metric.Metric.{Metric}
-use Rattle.mesh_atoms.specs.declared.tuples.LinkKey.{LinkKey}
-use Rattle.mesh_atoms.specs.declared.tuples.Link.{Link}
-use Rattle.mesh_atoms.specs.declared.tuples.Neighbour.{Neighbour}
-use Rattle.mesh_atoms.specs.declared.tuples.RouterKey.{RouterKey}
-use Rattle.mesh_atoms.specs.declared.tuples.AddressKey.{AddressKey}
-use Rattle.mesh_atoms.specs.declared.tuples.NetworkKey.{NetworkKey}
-use Rattle.mesh_atoms.specs.Base.{base_of, host}
-use Rattle.mesh_atoms.specs.Live.{HasSymmetricOf}
-use Rattle.mesh_atoms.specs.Routes.{RouteArc, To_neighbour, To_two_hop, By_router, By_address, By_network, IsParent}
-use Rattle.mesh_atoms.specs.Sound.{SoundNeighbourhood, SoundTopology}
-use Rattle.mesh_atoms.specs.State.{State, IsOriginator, HasAddress, is_symmetric}
-use Rattle.mesh_atoms.specs.Walk.{FirstNode, AtSelf, Through}
+use Rattle.mesh_routes.proofs.Common.{◌≡◌, ℕ, refl, sym, ◌∙◌, ap, subst, Some, None, true, IsTrue, Contains, Contains-from_lookup, lookup-from_Contains, Addr4, NetAddr, Metric, LinkKey, Link, Neighbour, RouterKey, AddressKey, NetworkKey, base_of, host, HasSymmetricOf, RouteArc, To_neighbour, To_two_hop, By_router, By_address, By_network, IsParent, SoundNeighbourhood, SoundTopology, State, IsOriginator, HasAddress, is_symmetric, FirstNode, AtSelf, Through, same_link, router_equiv, address_equiv, network_equiv, originator_address as is_mine}
 use Rattle.mesh_atoms.specs.Words.{IsLeastMetric}
-use Rattle.mesh_atoms.proofs.Lookups.{same_link, router_equiv, address_equiv, network_equiv}
 use Rattle.mesh_routes.proofs.KnownOwners.{entry_at}
-use Rattle.mesh_paths.proofs.SettledNeighbours.{originator_address as is_mine}
 
 -- the entry of a neighbour
 abbrev pub Entry : Type 0

@@ -1,7 +1,5 @@
 -- The least of a list, and lists in order.
-use Rattle.std.proofs.Common.{◌≡◌, ◌⊎◌, inl, inr, sym, subst, arith, List, [], ◌∷◌, Contains}
-use Rattle.std.specs.List.{AllPairs}
-use Rattle.mesh_atoms.proofs.Lists.{all_pairs_tail, contains_cases, contains_tail as in_tail, contains_none as none_of, contains_head as here, all_pairs_cons, all_pairs_head}
+use Rattle.mesh_routes.proofs.Common.{◌≡◌, ◌⊎◌, inl, inr, sym, subst, arith, List, [], ◌∷◌, Contains, AllPairs, all_pairs_tail, contains_cases, contains_tail as in_tail, contains_none as none_of, contains_head as here, all_pairs_cons, all_pairs_head}
 
 -- The least of a list in an order
 

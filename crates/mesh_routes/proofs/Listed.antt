@@ -1,9 +1,5 @@
 -- Lists of all that has a property.
-use Rattle.std.proofs.Common.{◌≡◌, ◌↔◌, ℕ, zero, suc, ◌<◌, ◌⊎◌, inl, inr, refl, sym, subst, arith, Option, Some, None}
-use Rattle.std.proofs.Common.{List, [], ◌∷◌, ◌++◌, Contains}
-use Rattle.std.proofs.lemmas.Bool.{cases_lt}
-use Rattle.std.proofs.lemmas.List.Elements.{Contains-append_left, Contains-append_right, Contains-append_cases}
-use Rattle.mesh_atoms.proofs.Lists.{contains_cases, contains_tail as in_tail, contains_none as none_of, contains_head as here}
+use Rattle.mesh_routes.proofs.Common.{◌≡◌, ◌↔◌, ℕ, zero, suc, ◌<◌, ◌⊎◌, inl, inr, refl, sym, subst, arith, Option, Some, None, List, [], ◌∷◌, ◌++◌, Contains, cases_lt, Contains-append_left, Contains-append_right, Contains-append_cases, contains_cases, contains_tail as in_tail, contains_none as none_of, contains_head as here}
 
 -- the list has exactly what has the property
 abbrev pub IsListed : {X : Type 0} → (X → Type 0) → Type 0

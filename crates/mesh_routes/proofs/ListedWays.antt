@@ -1,25 +1,10 @@
 -- The ways to a neighbour as a list, and their order.
-use Rattle.std.proofs.Common.{◌≡◌, ℕ, ◌<◌, ◌≤◌, ◌⊎◌, inl, inr, refl, ◌∙◌, subst, arith, length, Some, true, Contains}
-use Rattle.std.proofs.lemmas.Grind.{common_steps}
-use Rattle.std.proofs.lemmas.Bool.{cases_lt}
-use Rattle.std.proofs.lemmas.Option.{slice_get_within}
-use Rattle.mesh_atoms.specs.declared.addr.Addr4.{Addr4}
-use Rattle.mesh_atoms.specs.declared.codes.metric.Metric.{Metric}
-use Rattle.mesh_atoms.specs.declared.tuples.LinkKey.{LinkKey}
-use Rattle.mesh_atoms.specs.declared.tuples.Link.{Link}
-use Rattle.mesh_atoms.specs.Base.{base_of}
-use Rattle.mesh_atoms.specs.Codes.Codes.{metric_value}
-use Rattle.mesh_atoms.specs.Routes.{IsWayTo}
-use Rattle.mesh_atoms.specs.State.{State, is_symmetric}
-use Rattle.mesh_atoms.proofs.Lookups.{tests_symmetric}
-use Rattle.mesh_routes.specs.declared.hops.ways.NeighbourLink.{NeighbourLink}
-use Rattle.mesh_routes.specs.Hops.Ways.{IsNoWorse}
+use Rattle.mesh_routes.proofs.Common.{◌≡◌, ℕ, ◌<◌, ◌≤◌, ◌⊎◌, inl, inr, refl, ◌∙◌, subst, arith, length, Some, true, Contains, common_steps, cases_lt, slice_get_within, Addr4, Metric, LinkKey, Link, base_of, metric_value, IsWayTo, State, is_symmetric, tests_symmetric, NeighbourLink, IsNoWorse, same_address}
 use Rattle.mesh_routes.proofs.FirstNodes.{Entry}
 use Rattle.mesh_routes.proofs.InOrder.{least_of_list}
 use Rattle.mesh_routes.proofs.Listed.{IsListed, listed_one, listed_where, listed_known, listed_each, listed_below}
 use Rattle.mesh_routes.proofs.OwnGraph.{base_at, base_has}
 use Rattle.mesh_routes.proofs.OwnArcs.{is_or_not}
-use Rattle.mesh_atoms.proofs.Values.{same_address}
 
 -- Which of two ways is no worse
 

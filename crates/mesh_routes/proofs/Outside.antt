@@ -1,21 +1,6 @@
 -- The nodes outside a router: neither own addresses nor own attached networks.
-use Rattle.std.proofs.Common.{◌≡◌, ◌≢◌, ◌⊎◌, inl, inr, refl, sym, ap, subst, List, Contains}
-use Rattle.std.proofs.lemmas.Bool.{cases_eq}
-use Rattle.mesh_atoms.specs.declared.addr.Addr4.{Addr4}
-use Rattle.mesh_atoms.specs.declared.addr.NetAddr.{NetAddr}
-use Rattle.mesh_atoms.specs.declared.settings.Attached4.{Attached4}
-use Rattle.mesh_atoms.specs.declared.settings.Interface.{Interface}
-use Rattle.mesh_atoms.specs.Base.{host}
-use Rattle.mesh_atoms.specs.NextHop.{HasAddressIn}
-use Rattle.mesh_atoms.specs.Routes.{IsOutside}
-use Rattle.mesh_atoms.specs.State.{State, IsOriginator}
-use Rattle.mesh_atoms.proofs.Nets.{same_net}
-use Rattle.mesh_paths.proofs.Order.{same_node}
+use Rattle.mesh_routes.proofs.Common.{◌≡◌, ◌≢◌, ◌⊎◌, inl, inr, refl, sym, ap, subst, List, Contains, cases_eq, Addr4, NetAddr, Attached4, Interface, host, HasAddressIn, IsOutside, State, IsOriginator, same_net, same_node, HasNetworkIn, IsOutsideOf, contains_or_not, originator_address as is_mine, contains_at as at_place, place_in as place_of}
 use Rattle.mesh_paths.proofs.SettledDecisions.{any_or_none}
-use Rattle.mesh_routes.specs.Hops.Own.{HasNetworkIn, IsOutsideOf}
-use Rattle.mesh_atoms.proofs.Values.{contains_or_not}
-use Rattle.mesh_paths.proofs.SettledNeighbours.{originator_address as is_mine}
-use Rattle.mesh_atoms.proofs.Lists.{contains_at as at_place, place_in as place_of}
 
 module _ (s : State) where
   pub out_of : (node : NetAddr) → IsOutsideOf s.settings node → IsOutside s node

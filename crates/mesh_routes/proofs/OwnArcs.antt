@@ -1,29 +1,8 @@
 -- The arcs of a router's own graph, as a list.
-use Rattle.std.proofs.Common.{◌≡◌, ◌≢◌, ◌⊎◌, inl, inr, ℕ, refl, ap, subst, Some, true, Bool, false, IsTrue, Contains}
-use Rattle.std.proofs.lemmas.Bool.{cases_eq, false≢true}
-use Rattle.mesh_atoms.specs.declared.addr.Addr4.{Addr4}
-use Rattle.mesh_atoms.specs.declared.addr.NetAddr.{NetAddr}
-use Rattle.mesh_atoms.specs.declared.codes.metric.Metric.{Metric}
-use Rattle.mesh_atoms.specs.declared.graphs.Arc4.{Arc4}
-use Rattle.mesh_atoms.specs.declared.graphs.Graph.{Graph}
-use Rattle.mesh_atoms.specs.declared.tuples.TwoHopKey.{TwoHopKey}
-use Rattle.mesh_atoms.specs.declared.tuples.TwoHop.{TwoHop}
-use Rattle.mesh_atoms.specs.declared.tuples.RouterKey.{RouterKey}
-use Rattle.mesh_atoms.specs.declared.tuples.RouterTuple.{RouterTuple}
-use Rattle.mesh_atoms.specs.declared.tuples.AddressKey.{AddressKey}
-use Rattle.mesh_atoms.specs.declared.tuples.AddressTuple.{AddressTuple}
-use Rattle.mesh_atoms.specs.declared.tuples.NetworkKey.{NetworkKey}
-use Rattle.mesh_atoms.specs.declared.tuples.NetworkTuple.{NetworkTuple}
-use Rattle.mesh_atoms.specs.Base.{Base, host}
-use Rattle.mesh_atoms.specs.Routes.{RouteArc, To_neighbour, To_two_hop, By_router, By_address, By_network}
-use Rattle.mesh_atoms.specs.State.{State, IsOriginator}
-use Rattle.mesh_routes.specs.Arcs.{router_arc, address_arc, network_arc, IsGraphOf}
-use Rattle.mesh_routes.specs.Hops.Arcs.{arc_at}
+use Rattle.mesh_routes.proofs.Common.{◌≡◌, ◌≢◌, ◌⊎◌, inl, inr, ℕ, refl, ap, subst, Some, true, Bool, false, IsTrue, Contains, cases_eq, false≢true, Addr4, NetAddr, Metric, Arc4, Graph, TwoHopKey, TwoHop, RouterKey, RouterTuple, AddressKey, AddressTuple, NetworkKey, NetworkTuple, Base, host, RouteArc, To_neighbour, To_two_hop, By_router, By_address, By_network, State, IsOriginator, router_arc, address_arc, network_arc, IsGraphOf, arc_at, same_address, one_originator, contains_at as at_place, place_in as place_of}
 use Rattle.mesh_routes.proofs.FirstNodes.{Entry}
 use Rattle.mesh_routes.proofs.Listed.{IsListed, listed_one, listed_where, listed_known, listed_either, listed_each}
 use Rattle.mesh_routes.proofs.OwnGraph.{graph_by}
-use Rattle.mesh_atoms.proofs.Values.{same_address, one_originator}
-use Rattle.mesh_atoms.proofs.Lists.{contains_at as at_place, place_in as place_of}
 
 -- a test holds, or it doesn't
 pub is_or_not : (b : Bool) → (b ≡ true) ⊎ (b ≡ true → ⊥)

@@ -1,45 +1,12 @@
 -- Routes that are made from what the bases give are those of the router.
-use Rattle.std.proofs.Common.{◌≡◌, ◌≢◌, ℕ, ◌<◌, ◌⊎◌, inl, inr, refl, sym, ◌∙◌, ap, subst, arith, List, [], length, Option, Some, None, true, IsTrue, Contains}
-use Rattle.std.specs.Prelude.{IsSome}
+use Rattle.mesh_routes.proofs.Common.{◌≡◌, ◌≢◌, ℕ, ◌<◌, ◌⊎◌, inl, inr, refl, sym, ◌∙◌, ap, subst, arith, List, [], length, Option, Some, None, true, IsTrue, Contains, IsSome, cases_Bool, lookup-from_Contains, slice_get_within, Addr4, NetAddr, Metric, LinkKey, Link, Graph, PathRow, Route, RouterSettings, base_of, host, metric_value, RouteArc, IsOutside, IsParent, IsWayTo, IsNextHop, AreRoutes, SoundNeighbourhood, SoundTopology, State, Neighbourhood, TopologyBase, IsOriginator, link_at, is_symmetric, Walk, Least, FirstNode, AtSelf, Through, link_equiv, tests_symmetric, IsCertificate, of_each, SymmetricNeighbour, NeighbourLink, IsArcOfAll, IsGraphOf, NodeMap, first_at, IsParentIn, AreFirsts, addr_cmp, OwnerMap, owner_at, owner_by, AreOwners, Adds, IsHop, HasNoHop, HasNoRoute, route_by, AreRoutesOf, way_at, IsWayOfAll, contains_at as at_place}
 use Rattle.std.specs.BTreeMap as tree
-use Rattle.std.proofs.lemmas.Bool.{cases_Bool}
-use Rattle.std.proofs.lemmas.Map.Views.{lookup-from_Contains}
-use Rattle.std.proofs.lemmas.Option.{slice_get_within}
-use Rattle.mesh_atoms.specs.declared.addr.Addr4.{Addr4}
-use Rattle.mesh_atoms.specs.declared.addr.NetAddr.{NetAddr}
-use Rattle.mesh_atoms.specs.declared.codes.metric.Metric.{Metric}
-use Rattle.mesh_atoms.specs.declared.tuples.LinkKey.{LinkKey}
-use Rattle.mesh_atoms.specs.declared.tuples.Link.{Link}
-use Rattle.mesh_atoms.specs.declared.graphs.Graph.{Graph}
-use Rattle.mesh_atoms.specs.declared.graphs.PathRow.{PathRow}
-use Rattle.mesh_atoms.specs.declared.graphs.Route.{Route}
-use Rattle.mesh_atoms.specs.declared.settings.RouterSettings.{RouterSettings}
-use Rattle.mesh_atoms.specs.Base.{base_of, host}
-use Rattle.mesh_atoms.specs.Codes.Codes.{metric_value}
-use Rattle.mesh_atoms.specs.Routes.{RouteArc, IsOutside, IsParent, IsWayTo, IsNextHop, AreRoutes}
-use Rattle.mesh_atoms.specs.Sound.{SoundNeighbourhood, SoundTopology}
-use Rattle.mesh_atoms.specs.State.{State, Neighbourhood, TopologyBase, IsOriginator, link_at, is_symmetric}
-use Rattle.mesh_atoms.specs.Walk.{Walk, Least, FirstNode, AtSelf, Through}
-use Rattle.mesh_atoms.proofs.Lookups.{link_equiv, tests_symmetric}
-use Rattle.mesh_paths.specs.Paths.{IsCertificate}
-use Rattle.mesh_paths.proofs.Rows.{of_each}
-use Rattle.mesh_routes.specs.declared.hops.owners.SymmetricNeighbour.{SymmetricNeighbour}
-use Rattle.mesh_routes.specs.declared.hops.ways.NeighbourLink.{NeighbourLink}
-use Rattle.mesh_routes.specs.Arcs.{IsArcOfAll, IsGraphOf}
-use Rattle.mesh_routes.specs.Firsts.{NodeMap, first_at, IsParentIn, AreFirsts}
-use Rattle.mesh_routes.specs.Hops.Owners.{addr_cmp, OwnerMap, owner_at, owner_by}
-use Rattle.mesh_routes.specs.Owners.{AreOwners}
-use Rattle.mesh_routes.specs.Passes.{Adds}
-use Rattle.mesh_routes.specs.Rows.{IsHop, HasNoHop, HasNoRoute, route_by, AreRoutesOf}
-use Rattle.mesh_routes.specs.Hops.Ways.{way_at}
-use Rattle.mesh_routes.specs.Ways.{IsWayOfAll}
 use Rattle.mesh_routes.proofs.FirstNodes.{Entry, IsFirst, first_arc, first_of, known_link}
 use Rattle.mesh_routes.proofs.GraphWalks.{least_of, row_tells, row_reached}
 use Rattle.mesh_routes.proofs.KnownOwners.{one_at, owner_of, owner_known}
 use Rattle.mesh_routes.proofs.ListedWays.{IsWayBy, no_worse}
 use Rattle.mesh_routes.proofs.Outside.{out_of, to_out, beyond}
 use Rattle.mesh_routes.proofs.OwnGraph.{is_graph, base_at, base_has}
-use Rattle.mesh_atoms.proofs.Lists.{contains_at as at_place}
 
 -- what the parts of the making say
 pub record Made (settings : RouterSettings) (near : Neighbourhood) (topology : TopologyBase) (now : ℕ) (self : Addr4) (owners : OwnerMap) (count : ℕ) (g : Graph) (rows : List PathRow) (firsts : NodeMap) (ways : List NeighbourLink) (routes : List Route) : Type 0 where

@@ -1,26 +1,10 @@
 -- The same neighbourhood but for moments, and the same topology, give the same of all that routes and graphs are made of.
-use Rattle.std.proofs.Common.{◌≡◌, ◌↔◌, ℕ, refl, sym, ◌∙◌, ap, subst, Option, Some, None}
-use Rattle.std.specs.Prelude.{Bool, true, false, cond, option_map}
-use Rattle.std.specs.Cmp.{IsEquivalence}
-use Rattle.mesh_atoms.specs.declared.addr.Addr4.{Addr4}
-use Rattle.mesh_atoms.specs.declared.codes.metric.Metric.{Metric}
-use Rattle.mesh_atoms.specs.declared.tuples.LinkKey.{LinkKey}
-use Rattle.mesh_atoms.specs.declared.tuples.TwoHopKey.{TwoHopKey}
-use Rattle.mesh_atoms.specs.declared.tuples.Link.{Link}
-use Rattle.mesh_atoms.specs.declared.tuples.TwoHop.{TwoHop}
-use Rattle.mesh_atoms.specs.declared.tuples.Neighbour.{Neighbour}
-use Rattle.mesh_atoms.specs.declared.settings.RouterSettings.{RouterSettings}
-use Rattle.mesh_atoms.specs.Base.{Base, Has, HasDistinctKeys, find}
-use Rattle.mesh_atoms.specs.Routes.{IsWayTo}
-use Rattle.mesh_atoms.specs.Live.{HasTables}
-use Rattle.mesh_atoms.specs.Sound.{SoundNeighbourhood, SoundTopology}
-use Rattle.mesh_atoms.specs.State.{Neighbourhood, TopologyBase, State, is_symmetric, link_at, two_hop_at, neighbour_at, HasTwoHop, HasSymmetric, HasAddress, IsOriginator}
-use Rattle.mesh_atoms.proofs.Lookups.{tests_symmetric, looks_up_links, looks_up_two_hops, looks_up_neighbours, has_found, router_equiv, same_router, address_equiv, same_address, network_equiv, same_network}
+use Rattle.mesh_routes.proofs.Common.{◌≡◌, ◌↔◌, ℕ, refl, sym, ◌∙◌, ap, subst, Option, Some, None, Bool, true, false, cond, option_map, IsEquivalence, Addr4, Metric, LinkKey, TwoHopKey, Link, TwoHop, Neighbour, RouterSettings, Base, Has, HasDistinctKeys, find, IsWayTo, HasTables, SoundNeighbourhood, SoundTopology, Neighbourhood, TopologyBase, State, is_symmetric, link_at, two_hop_at, neighbour_at, HasTwoHop, HasSymmetric, HasAddress, IsOriginator, tests_symmetric, looks_up_links, looks_up_two_hops, looks_up_neighbours, has_found, router_equiv, same_router, address_equiv, network_equiv, same_network, SameOwn, SameWays, SameTwoHops, BasesGiveSame}
+use Rattle.mesh_atoms.proofs.Lookups.{same_address}
 use Rattle.mesh_nbrs.specs.Same.{SameNear, way_at}
 use Rattle.mesh_topo.specs.Same.{SameAdvertised}
 use Rattle.mesh_topo.specs.TcSets.Same.{SaysSame}
 use Rattle.mesh_topo.specs.TcSets.Tuples.{router_says, address_says, network_says}
-use Rattle.mesh_routes.specs.Staying.{SameOwn, SameWays, SameTwoHops, BasesGiveSame}
 use Rattle.mesh_routes.proofs.StayingLaw.{TellsAlso, same_own, arcs_stay}
 
 -- The same neighbourhood but for moments

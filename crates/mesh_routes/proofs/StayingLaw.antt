@@ -1,32 +1,5 @@
 -- Where all that routes and graphs are made of is the same, they stay.
-use Rattle.std.proofs.Common.{◌≡◌, ◌↔◌, ℕ, sym, subst, List, Contains, Some}
-use Rattle.std.specs.List.{AllPairs}
-use Rattle.mesh_atoms.specs.declared.addr.Addr4.{Addr4}
-use Rattle.mesh_atoms.specs.declared.addr.NetAddr.{NetAddr}
-use Rattle.mesh_atoms.specs.declared.codes.metric.Metric.{Metric}
-use Rattle.mesh_atoms.specs.declared.settings.Attached4.{Attached4}
-use Rattle.mesh_atoms.specs.declared.graphs.NeighbourGraph.{NeighbourGraph}
-use Rattle.mesh_atoms.specs.declared.graphs.Route.{Route}
-use Rattle.mesh_atoms.specs.declared.tuples.Neighbour.{Neighbour}
-use Rattle.mesh_atoms.specs.declared.tuples.LinkKey.{LinkKey}
-use Rattle.mesh_atoms.specs.declared.tuples.Link.{Link}
-use Rattle.mesh_atoms.specs.declared.tuples.TwoHop.{TwoHop}
-use Rattle.mesh_atoms.specs.declared.tuples.TwoHopKey.{TwoHopKey}
-use Rattle.mesh_atoms.specs.declared.tuples.LinkState.TheVariants.{Symmetric as Is_symmetric}
-use Rattle.mesh_atoms.specs.declared.tuples.RouterKey.{RouterKey}
-use Rattle.mesh_atoms.specs.declared.tuples.RouterTuple.{RouterTuple}
-use Rattle.mesh_atoms.specs.declared.tuples.AddressKey.{AddressKey}
-use Rattle.mesh_atoms.specs.declared.tuples.AddressTuple.{AddressTuple}
-use Rattle.mesh_atoms.specs.declared.tuples.NetworkKey.{NetworkKey}
-use Rattle.mesh_atoms.specs.declared.tuples.NetworkTuple.{NetworkTuple}
-use Rattle.mesh_atoms.specs.Base.{Has, host}
-use Rattle.mesh_atoms.specs.Codes.Codes.{metric_value}
-use Rattle.mesh_atoms.specs.Nodes.{IsBefore}
-use Rattle.mesh_atoms.specs.RelayGraphs.{IsMetricOver, IsRoutingGraph, IsFloodingGraph}
-use Rattle.mesh_atoms.specs.Routes.{RouteArc, To_neighbour, To_two_hop, By_router, By_address, By_network, IsOutside, IsParent, IsWayTo, IsNextHop}
-use Rattle.mesh_atoms.specs.State.{State, TopologyBase, state_of, HasLink, HasTwoHop, HasSymmetric, HasAddress, IsOriginator}
-use Rattle.mesh_atoms.specs.Walk.{FirstNode, AtSelf, Through}
-use Rattle.mesh_routes.specs.Staying.{SameOwn, SameArcs, SameWays, SameTwoHops, RoutesStay, GraphsStay}
+use Rattle.mesh_routes.proofs.Common.{◌≡◌, ◌↔◌, ℕ, sym, subst, List, Contains, Some, AllPairs, Addr4, NetAddr, Metric, Attached4, NeighbourGraph, Route, Neighbour, LinkKey, Link, TwoHop, TwoHopKey, Symmetric as Is_symmetric, RouterKey, RouterTuple, AddressKey, AddressTuple, NetworkKey, NetworkTuple, Has, host, metric_value, IsBefore, IsMetricOver, IsRoutingGraph, IsFloodingGraph, RouteArc, To_neighbour, To_two_hop, By_router, By_address, By_network, IsOutside, IsParent, IsWayTo, IsNextHop, State, TopologyBase, state_of, HasLink, HasTwoHop, HasSymmetric, HasAddress, IsOriginator, FirstNode, AtSelf, Through, SameOwn, SameArcs, SameWays, SameTwoHops, RoutesStay, GraphsStay}
 use Rattle.mesh_routes.proofs.GraphWalks.{walk_by, least_by, fits_by}
 
 -- What is the router's own

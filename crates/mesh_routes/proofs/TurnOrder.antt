@@ -1,16 +1,5 @@
 -- The order of turns.
-use Rattle.std.proofs.Common.{◌≡◌, ℕ, ◌≤◌, ◌∙◌, ap, arith}
-use Rattle.std.proofs.lemmas.Grind.{common_steps}
-use Rattle.std.specs.Ordering.{nat_cmp, ordering_then}
-use Rattle.std.specs.declared.cmp.Ordering.TheVariants.{Less}
-use Rattle.std.specs.Cmp.{IsTotalOrder}
-use Rattle.std.proofs.lemmas.Cmp.{then_total, on_total, nat_cmp_total, ranked}
-use Rattle.std.proofs.lemmas.Map.Lookups.{CmpEqualImpliesEq, exact_unsigned}
-use Rattle.mesh_atoms.specs.declared.addr.NetAddr.{NetAddr}
-use Rattle.mesh_atoms.specs.Nodes.{net_cmp}
-use Rattle.mesh_atoms.proofs.NetOrder.{net_total, net_exact, then_equal, then_less}
-use Rattle.mesh_routes.specs.declared.firsts.Turn.{Turn}
-use Rattle.mesh_routes.specs.Firsts.{turn_cmp}
+use Rattle.mesh_routes.proofs.Common.{◌≡◌, ℕ, ◌≤◌, ◌∙◌, ap, arith, common_steps, nat_cmp, ordering_then, Less, IsTotalOrder, then_total, on_total, nat_cmp_total, ranked, CmpEqualImpliesEq, exact_unsigned, NetAddr, net_cmp, net_total, net_exact, then_equal, then_less, Turn, turn_cmp}
 
 pub turn_total : IsTotalOrder turn_cmp
 turn_total = then_total (on_total (λ (a : Turn). a.metric) nat_cmp_total) (then_total (on_total (λ (a : Turn). a.node) net_total) (on_total (λ (a : Turn). a.parent) net_total))

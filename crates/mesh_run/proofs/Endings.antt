@@ -1,26 +1,12 @@
 -- What a run leaves by its answer, part by part.
-use Rattle.std.proofs.Common.{◌≡◌, ℕ, ◌^◌, ◌<◌, ◌≤◌, List, map, take, length, Option, Some, None, Result, Ok, Err, refl, sym, ap, subst, arith, inl, inr}
-use Rattle.std.specs.Prelude.{OnOk}
+use Rattle.mesh_run.proofs.Common.{◌≡◌, ℕ, ◌^◌, ◌<◌, ◌≤◌, List, map, take, length, Option, Some, None, Result, Ok, Err, refl, sym, ap, subst, arith, inl, inr, OnOk, Port, RunSetup, Sound, State, IsKeptOf, keeps_same, stops_in, Report, TellsMore, Completes, FinishesTurns, Spends, ToldNothing, RouterMakes, RouterEnds, EndsRun, StatesSetup, ToldInCall, told, ArePortsAttached, IsTold, WholeRouterRun, SpendsTurns, RunsShort, RouterRunMakes, IsReport, RunFault, attached_report, moment_of, DoesTurns, StopsTurns, Ended}
 use Rattle.std.proofs.Math.Seq.{take-length}
-use Rattle.mesh_atoms.specs.declared.settings.Port.{Port}
-use Rattle.mesh_atoms.specs.declared.settings.RunSetup.{RunSetup}
-use Rattle.mesh_atoms.specs.Sound.{Sound}
-use Rattle.mesh_atoms.specs.State.{State}
 use Rattle.mesh_config.specs.RunSettings.{run_refusals}
-use Rattle.mesh_core.specs.Deferred.{IsKeptOf}
-use Rattle.mesh_io.proofs.Fronts.{keeps_same}
-use Rattle.mesh_io.proofs.Pieces.{stops_in}
-use Rattle.mesh_io.specs.Airs.{Report}
 use Rattle.mesh_io.specs.Faults.{Rose, RoseByOne}
 use Rattle.mesh_io.specs.Pieces.{MakesOne, PutsAll, PutsPieces}
-use Rattle.mesh_io.specs.Told.{TellsMore}
 use Rattle.mesh_io.specs.declared.stop.Stop.{Stop}
 use Rattle.mesh_io.specs.declared.stop.Stop.TheVariants as stop
-use Rattle.mesh_run.specs.Ends.{Completes, FinishesTurns, Spends, ToldNothing, RouterMakes, RouterEnds, EndsRun}
-use Rattle.mesh_run.specs.Run.{StatesSetup, ToldInCall, told, ArePortsAttached, IsTold, WholeRouterRun, SpendsTurns, RunsShort, RouterRunMakes}
 use Rattle.mesh_run.specs.Run.RunsShort.{Before_turns, In_turns}
-use Rattle.mesh_run.specs.Text.{IsReport}
-use Rattle.mesh_run.specs.declared.fault.RunFault.{RunFault}
 use Rattle.mesh_run.specs.declared.fault.RunFault.TheVariants as fault
 use Rattle.mesh_run.proofs.Moments.{below_end, reaches_end}
 use Rattle.mesh_config.specs.Keys.Faults.{first}
@@ -28,8 +14,6 @@ use Rattle.mesh_run.proofs.TurnsLemmas.Kept.{whole_at_end}
 use Rattle.mesh_run.proofs.TurnsLemmas.Runs.{keep_sound}
 use Rattle.mesh_run.proofs.TurnsLemmas.Tellings.{tells_more}
 use Rattle.mesh_run.proofs.TurnsLemmas.Whole.{stops_behind}
-use Rattle.mesh_run.specs.Turns.Turns.{attached_report, moment_of, DoesTurns, StopsTurns}
-use Rattle.mesh_run.specs.declared.turns.tally.Ended.{Ended}
 
 -- Behind the attaches
 

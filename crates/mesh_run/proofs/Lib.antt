@@ -1,3 +1,4 @@
 mod Endings
 mod Moments
 mod TurnsLemmas
+mod Common

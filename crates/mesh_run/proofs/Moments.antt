@@ -1,10 +1,6 @@
 -- The moments that a clock told in turns, and the end of a run.
-use Rattle.std.proofs.Common.{ℕ, ◌^◌, ◌<◌, ◌≤◌, List, [], ◌∷◌, All, refl, arith}
+use Rattle.mesh_run.proofs.Common.{ℕ, ◌^◌, ◌<◌, ◌≤◌, List, [], ◌∷◌, All, refl, arith, Report, DoesEvent, Position, RunsTurns, Stays, Then_begins, Then_listens, ReachesEnd}
 use Rattle.std.proofs.lemmas.List.Elements.{All-nil, All-cons, All-append}
-use Rattle.mesh_io.specs.Airs.{Report}
-use Rattle.mesh_run.specs.Turns.Turns.{DoesEvent, Position, RunsTurns}
-use Rattle.mesh_run.specs.Turns.Turns.RunsTurns.{Stays, Then_begins, Then_listens}
-use Rattle.mesh_run.specs.Text.{ReachesEnd}
 
 module _ (end count : ℕ) (early : end < 2 ^ 62) (start : Position) (before : start.moment < end) where
   -- all moments are below the end, where the last turn's is

@@ -1,29 +1,11 @@
 -- From the least gap of each kind to the first gap.
-use Rattle.std.proofs.Common.{◌≡◌, ◌≢◌, ℕ, ◌+◌, ◌<◌, ◌≤◌, ◌⊎◌, inl, inr, refl, sym, ◌∙◌, ap, subst, arith, length, List, Option, Some, None, true, false, map}
-use Rattle.std.specs.Prelude.{◌↔◌, is_some, IfSome, IsNone}
-use Rattle.std.proofs.lemmas.Bool.{false≢true}
-use Rattle.mesh_atoms.specs.declared.graphs.RadioGraph.{RadioGraph}
-use Rattle.mesh_atoms.specs.declared.settings.Scenario.{Scenario}
-use Rattle.mesh_atoms.specs.Base.{host}
-use Rattle.mesh_atoms.specs.Settled.{At, Settled}
-use Rattle.mesh_atoms.specs.State.{State}
-use Rattle.mesh_settled.specs.declared.gaps.found.Found.{Found}
+use Rattle.mesh_settled.proofs.Common.{◌≡◌, ◌≢◌, ℕ, ◌+◌, ◌<◌, ◌≤◌, ◌⊎◌, inl, inr, refl, sym, ◌∙◌, ap, subst, arith, length, List, Option, Some, None, true, false, map, ◌↔◌, is_some, IfSome, IsNone, false≢true, RadioGraph, Scenario, host, At, Settled, State, Found, GapKey, Link, Neighbour, TwoHop, Router, Address, Network, IsLeastGap, Look, look, AreSame, HasNoGap, IsFirstGap, rank_of, IsNetwork, IsTopologyKey, IsFirstFound, IsFirstAt, IsFirstOf, reported, IsLinkKey, IsNeighbourKey, IsTwoHopKey, same_some}
 use Rattle.mesh_atoms.specs.declared.gap.Gap.{Gap}
-use Rattle.mesh_atoms.specs.declared.gap.GapKey.{GapKey}
-use Rattle.mesh_atoms.specs.declared.gap.GapKey.TheVariants.{Link, Neighbour, TwoHop, Router, Address, Network}
-use Rattle.mesh_settled.specs.Gaps.Found.{IsLeastGap}
-use Rattle.mesh_settled.specs.Gaps.Gaps.{Look, look, AreSame, HasNoGap, IsFirstGap, rank_of}
-use Rattle.mesh_settled.specs.Gaps.Network.{IsNetwork}
-use Rattle.mesh_settled.specs.Kinds.{IsTopologyKey, IsFirstFound, IsFirstAt, IsFirstOf, reported}
-use Rattle.mesh_settled.specs.Gaps.Links.{IsLinkKey}
-use Rattle.mesh_settled.specs.Gaps.Neighbours.{IsNeighbourKey}
-use Rattle.mesh_settled.specs.Gaps.TwoHops.{IsTwoHopKey}
 use Rattle.mesh_settled.proofs.GapsLemmas.GapLaw.{law}
 use Rattle.mesh_settled.proofs.GapsLemmas.JointLemmas.{same_state, next_place}
 use Rattle.mesh_settled.proofs.GapsLemmas.Leasts.{before_cases}
 use Rattle.mesh_settled.proofs.GapsLemmas.PeerLemmas.{within}
 use Rattle.mesh_settled.proofs.GapsLemmas.Sides.{gaps_differ}
-use Rattle.mesh_atoms.proofs.Options.{same_some}
 
 -- Kinds
 

@@ -6,3 +6,4 @@ pub mod GapsLemmas  -- emulate
 -- Lemmas of this crate alone.
 mod KindLemmas
 mod RouteLaw
+mod Common

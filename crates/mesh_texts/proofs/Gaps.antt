@@ -1,12 +1,6 @@
 -- The first gap of a network at its end, or none where it is settled.
-use Rattle.std.proofs.Common.{◌≡◌, ℕ, ◌↔◌, refl, List, Option, Some, None, true, false}
-use Rattle.std.specs.Prelude.{IsNone, IfSome}
-use Rattle.mesh_atoms.specs.declared.settings.Scenario.{Scenario}
-use Rattle.mesh_atoms.specs.Settled.{Settled}
-use Rattle.mesh_atoms.specs.State.{State}
-use Rattle.mesh_atoms.specs.declared.gap.Gap.{Gap}
+use Rattle.mesh_texts.proofs.Common.{◌≡◌, ℕ, ◌↔◌, refl, List, Option, Some, None, true, false, IsNone, IfSome, Scenario, Settled, State, Gap, IsGapOf}
 use Rattle.mesh_settled.specs.Gaps.Gaps.{IsFirstGap}
-use Rattle.mesh_texts.specs.Network.{IsGapOf}
 
 pub gap_is : (s : Scenario) (states : List State) (now : ℕ) (gap : Option Gap) → IsNone gap ↔ Settled s states now →
     IfSome gap (IsFirstGap s states now) → IsGapOf s states now gap

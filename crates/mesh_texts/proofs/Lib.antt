@@ -16,3 +16,4 @@ mod SectionTexts
 mod SectionsLemmas
 mod States
 mod WholeTexts
+mod Common

@@ -1,14 +1,6 @@
 -- Texts as lists of lines, and what stands under a heading there.
-use Rattle.std.proofs.Common.{◌≡◌, ℕ, zero, suc, Bool, true, false, not, ◌&&◌, List, [], ◌∷◌, ◌++◌, length, map, ◌⊎◌, inl, inr, refl, sym, ap, ◌∙◌, subst, arith, append_assoc, codes, length-append}
-use Rattle.std.specs.Prelude.{Contains, nat_eq}
-use Rattle.std.specs.List.{AllByRecursion as Each, flat_map}
-use Rattle.std.proofs.lemmas.Bool.{eqb-true}
-use Rattle.std.proofs.lemmas.Grind.{flat_map-append}
-use Rattle.std.proofs.lemmas.List.{append-nil}
-use Rattle.mesh_texts.specs.Lines.Marks.{joined}
-use Rattle.mesh_texts.specs.Printed.{IsLine, BeginsWith}
+use Rattle.mesh_texts.proofs.Common.{◌≡◌, ℕ, zero, suc, Bool, true, false, not, ◌&&◌, List, [], ◌∷◌, ◌++◌, length, map, ◌⊎◌, inl, inr, refl, sym, ap, ◌∙◌, subst, arith, append_assoc, codes, length-append, Contains, nat_eq, AllByRecursion as Each, flat_map, eqb-true, flat_map-append, append-nil, joined, IsLine, BeginsWith, heads_equal, tails_equal}
 use Rattle.mesh_texts.proofs.Cuts.{lacks, first_cut, inside_lacks}
-use Rattle.mesh_atoms.proofs.Lists.{heads_equal, tails_equal}
 
 -- Lists
 

@@ -1,30 +1,10 @@
 -- Each line of a text is a line, and which of them are headings or routes.
-use Rattle.std.proofs.Common.{◌≡◌, ℕ, true, false, ltb, List, [], ◌∷◌, ◌++◌, length, map, get_or, Some, refl, sym, ap, ◌∙◌, arith, append_assoc, codes, decimal}
-use Rattle.std.specs.Prelude.{nat_eq, slice_index_or, is_some, ◌≢◌}
-use Rattle.std.specs.List.{AllByRecursion, sum}
-use Rattle.std.proofs.lemmas.Bool.{eq-eqb, ltb-true}
-use Rattle.std.proofs.lemmas.List.Elements.{All-nil, All-append, All-from_recursion}
-use Rattle.mesh_atoms.specs.declared.addr.Addr4.{Addr4}
-use Rattle.mesh_atoms.specs.declared.addr.NetAddr.{NetAddr}
-use Rattle.mesh_atoms.specs.declared.graphs.Route.{Route}
-use Rattle.mesh_atoms.specs.declared.settings.Interface.{Interface}
-use Rattle.mesh_atoms.specs.declared.settings.RadioArc.{RadioArc}
-use Rattle.mesh_atoms.specs.declared.settings.RouterSettings.{RouterSettings}
-use Rattle.mesh_atoms.specs.declared.settings.Scenario.{Scenario}
+use Rattle.mesh_texts.proofs.Common.{◌≡◌, ℕ, true, false, ltb, List, [], ◌∷◌, ◌++◌, length, map, get_or, Some, refl, sym, ap, ◌∙◌, arith, append_assoc, codes, decimal, nat_eq, slice_index_or, is_some, ◌≢◌, AllByRecursion, sum, eq-eqb, ltb-true, All-nil, All-append, All-from_recursion, Addr4, NetAddr, Route, Interface, RadioArc, RouterSettings, Scenario, LinkKey, Bases, state_of, Gap, router_name, joined, line_of, dotted, slashed, node_text, metric_text, choice_text, status_text, nearness_text, relays_text, face_name, faces_of, router_line, link_line, neighbour_line, held_line, flooding_line, routing_line, route_line, row_line, tick_line, heard_line, flooding_relays_line, routing_relays_line, sent_line, loss_line, counts_line, key_text, gap_line, IsLine, BeginsWith, IsPlain, ArePlain}
 use Rattle.mesh_atoms.specs.declared.tuples.Link.{Link}
-use Rattle.mesh_atoms.specs.declared.tuples.LinkKey.{LinkKey}
 use Rattle.mesh_atoms.specs.declared.tuples.Neighbour.{Neighbour}
-use Rattle.mesh_atoms.specs.State.{Bases, state_of}
 use Rattle.mesh_atoms.specs.declared.network.Counts.{Counts}
-use Rattle.mesh_atoms.specs.declared.gap.Gap.{Gap}
 use Rattle.mesh_atoms.specs.declared.gap.GapKey.{GapKey}
 use Rattle.mesh_atoms.specs.declared.gap.GapKey.TheVariants.{Link as Of_link, Neighbour as Of_neighbour, TwoHop as Of_two_hop, Router as Of_router, Address as Of_address, Network as Of_network}
-use Rattle.mesh_settled.specs.machine.Names.{router_name}
-use Rattle.mesh_texts.specs.Lines.Marks.{joined, line_of, dotted, slashed, node_text, metric_text, choice_text, status_text, nearness_text, relays_text, face_name, faces_of}
-use Rattle.mesh_texts.specs.Lines.Lines.{router_line, link_line, neighbour_line, held_line, flooding_line, routing_line, route_line, row_line}
-use Rattle.mesh_texts.specs.Trace.{tick_line, heard_line, flooding_relays_line, routing_relays_line, sent_line, loss_line}
-use Rattle.mesh_texts.specs.Network.{counts_line, key_text, gap_line}
-use Rattle.mesh_texts.specs.Printed.{IsLine, BeginsWith, IsPlain, ArePlain}
 use Rattle.mesh_texts.proofs.Cuts.{lacks, lacks_both, each_lacks, has_front}
 use Rattle.mesh_texts.proofs.Marked.{decimal_lacks, dotted_lacks, slashed_lacks, node_lacks, metric_lacks, choice_lacks, status_lacks, nearness_lacks, relays_lack, face_name_lacks, own_name_lacks, router_name_lacks, hex_lacks, name_lacks}
 

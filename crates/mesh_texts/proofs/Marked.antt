@@ -1,20 +1,10 @@
 -- Which marks the parts of a line lack: a part has letters, digits, dots and slashes at most.
-use Rattle.std.proofs.Common.{◌≡◌, ℕ, zero, suc, ◌+◌, ◌<◌, ◌/◌, ◌%◌, Bool, true, false, not, ◌&&◌, cond, List, [], ◌∷◌, ◌++◌, Option, Some, None, refl, ap, ◌∙◌, arith, codes, decimal}
-use Rattle.std.specs.Prelude.{nat_eq, nat_lt, slice_get, slice_index, ◌==◌}
-use Rattle.std.specs.Fmt.{digits, digits_onto, digit_glyph}
-use Rattle.std.proofs.lemmas.Bool.{ne_eqb, lt-leb}
-use Rattle.hex.specs.Hex.{encode_with, encode_lower, lower_digits}
-use Rattle.mesh_atoms.specs.declared.addr.Addr4.{Addr4}
-use Rattle.mesh_atoms.specs.declared.addr.NetAddr.{NetAddr}
+use Rattle.mesh_texts.proofs.Common.{◌≡◌, ℕ, zero, suc, ◌+◌, ◌<◌, ◌/◌, ◌%◌, Bool, true, false, not, ◌&&◌, cond, List, [], ◌∷◌, ◌++◌, Option, Some, None, refl, ap, ◌∙◌, arith, codes, decimal, nat_eq, nat_lt, slice_get, slice_index, ◌==◌, digits, digits_onto, digit_glyph, ne_eqb, lt-leb, encode_with, encode_lower, lower_digits, Addr4, NetAddr, Interface, RouterSettings, IsName, is_name_octet, router_name, dotted, slashed, node_text, metric_text, choice_text, status_text, nearness_text, relays_text, spaced, name_of_face, face_name}
 use Rattle.mesh_atoms.specs.declared.codes.metric.Metric.{Metric}
-use Rattle.mesh_atoms.specs.declared.settings.Interface.{Interface}
-use Rattle.mesh_atoms.specs.declared.settings.RouterSettings.{RouterSettings}
 use Rattle.mesh_atoms.specs.Codes.Codes.{metric_value}
-use Rattle.mesh_atoms.specs.Settings.{IsName, is_name_octet}
 use Rattle.mesh_atoms.specs.declared.tuples.LinkState.{LinkState}
 use Rattle.mesh_atoms.specs.declared.tuples.LinkState.TheVariants.{Pending as Is_pending, Lost as Is_lost, Symmetric as Is_symmetric, Heard as Is_heard}
-use Rattle.mesh_settled.specs.machine.Names.{name_of_router, router_name}
-use Rattle.mesh_texts.specs.Lines.Marks.{dotted, slashed, node_text, metric_text, choice_text, status_text, nearness_text, relays_text, spaced, name_of_face, face_name}
+use Rattle.mesh_settled.specs.machine.Names.{name_of_router}
 use Rattle.mesh_texts.proofs.Cuts.{lacks, lacks_both, lacks_by, lacks_rest, not_here}
 
 -- Numbers

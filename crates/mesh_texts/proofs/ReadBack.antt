@@ -1,27 +1,8 @@
 -- The text of a run read back: whether it was settled, and the routes under a router's name.
-use Rattle.std.proofs.Common.{◌≡◌, ◌↔◌, ℕ, zero, suc, ◌<◌, Bool, false, List, [], ◌∷◌, ◌++◌, length, map, Option, Some, None, refl, sym, ap, ◌∙◌, subst, arith, append_assoc, codes, length-append}
-use Rattle.std.proofs.lemmas.Grind.{common_steps}
-use Rattle.std.specs.Prelude.{slice_get, Contains, option_map}
-use Rattle.std.specs.List.{AllByRecursion as Each, IsDistinct}
+use Rattle.mesh_texts.proofs.Common.{◌≡◌, ◌↔◌, ℕ, zero, suc, ◌<◌, Bool, false, List, [], ◌∷◌, ◌++◌, length, map, Option, Some, None, refl, sym, ap, ◌∙◌, subst, arith, append_assoc, codes, length-append, common_steps, slice_get, Contains, option_map, AllByRecursion as Each, append-nil, map-append, All-from_recursion, recursion_from_All, slice_get-map, Addr4, NetAddr, Route, Scenario, RouterSettings, name_eq, At, State, Gap, dotted, face_name, router_line, row_line, route_line, IsGapOf, settled_text, WholeRun, TellsWhetherSettled, IsRunText, IsLine, BeginsWith, SaysSettled, IsPlain, ArePlain, StandsUnder, PrintsBy}
+use Rattle.std.specs.List.{IsDistinct}
 use Rattle.std.proofs.lemmas.Cmp.{nat_list_eq_equiv}
-use Rattle.std.proofs.lemmas.List.{append-nil, map-append}
-use Rattle.std.proofs.lemmas.List.Elements.{All-from_recursion, recursion_from_All}
-use Rattle.std.proofs.lemmas.Option.{slice_get-map}
-use Rattle.mesh_atoms.specs.declared.addr.Addr4.{Addr4}
-use Rattle.mesh_atoms.specs.declared.addr.NetAddr.{NetAddr}
-use Rattle.mesh_atoms.specs.declared.graphs.Route.{Route}
-use Rattle.mesh_atoms.specs.declared.settings.Scenario.{Scenario}
-use Rattle.mesh_atoms.specs.declared.settings.RouterSettings.{RouterSettings}
-use Rattle.mesh_atoms.specs.Settings.{name_eq}
-use Rattle.mesh_atoms.specs.Settled.{At}
-use Rattle.mesh_atoms.specs.State.{State}
 use Rattle.mesh_atoms.proofs.Kept.{distinct_is}
-use Rattle.mesh_atoms.specs.declared.gap.Gap.{Gap}
-use Rattle.mesh_texts.specs.Lines.Marks.{dotted, face_name}
-use Rattle.mesh_texts.specs.Lines.Lines.{router_line, row_line, route_line}
-use Rattle.mesh_texts.specs.Network.{IsGapOf, settled_text}
-use Rattle.mesh_texts.specs.Runs.{WholeRun, TellsWhetherSettled, IsRunText}
-use Rattle.mesh_texts.specs.Printed.{IsLine, BeginsWith, SaysSettled, IsPlain, ArePlain, StandsUnder, PrintsBy}
 use Rattle.mesh_texts.specs.Laws.{EndsSettled, PrintsRows, PrintsRowsBy}
 use Rattle.mesh_texts.proofs.Gaps.{no_gap}
 use Rattle.mesh_texts.proofs.Cuts.{first_cut, same_front}

@@ -1,25 +1,15 @@
 -- The states at the end of a run of a network are those of its scenario's routers, in order, and they are a network's at one moment.
-use Rattle.std.proofs.Common.{◌≡◌, ℕ, List, [], ◌∷◌, length, map, inl, inr, refl, sym, ap, ◌∙◌, subst, arith, length-set}
-use Rattle.std.proofs.lemmas.Option.{slice_get_within, slice_get_cases}
+use Rattle.mesh_texts.proofs.Common.{◌≡◌, ℕ, List, [], ◌∷◌, length, map, inl, inr, refl, sym, ap, ◌∙◌, subst, arith, length-set, slice_get_within, slice_get_cases, RouterSettings, Scenario, At, AreStates, Settled, State, NetEvent, same_some, NetState, NetStep, By_delivery, By_tick, By_last_tick, Moves, event_of, frames_of, NetRun, events_at, WholeRun, RoutersAreRuns}
 use Rattle.mesh_atoms.specs.declared.graphs.RadioGraph.{RadioGraph}
-use Rattle.mesh_atoms.specs.declared.settings.RouterSettings.{RouterSettings}
-use Rattle.mesh_atoms.specs.declared.settings.Scenario.{Scenario}
 use Rattle.mesh_atoms.specs.Radio.{Router, IsRadioGraph}
-use Rattle.mesh_atoms.specs.Settled.{At, AreStates, Settled}
-use Rattle.mesh_atoms.specs.State.{State}
 use Rattle.mesh_settled.specs.machine.declared.frame.Frame.{Frame}
 use Rattle.mesh_settled.specs.machine.Machine.{Event, Step, Heard_frame, Ticked, Steps, No_events, First_event, Run}
 use Rattle.mesh_settled.proofs.machine.Effects.{hears_settings}
-use Rattle.mesh_atoms.specs.declared.network.NetEvent.{NetEvent}
-use Rattle.mesh_atoms.proofs.Options.{same_some}
-use Rattle.mesh_settled.specs.machine.Net.{NetState, NetStep, By_delivery, By_tick, By_last_tick, Moves, event_of, frames_of}
 use Rattle.mesh_settled.specs.machine.Traffic.{Traffic, with_heard}
-use Rattle.mesh_settled.specs.machine.NetRun.{NetRun, events_at}
 use Rattle.mesh_settled.proofs.paths.Scenarios.{sound_scenario}
 use Rattle.mesh_settled.specs.paths.SettledRoutes.{IsSettledNetwork}
 use Rattle.mesh_settled.proofs.machine.Through.{are_machines, end_together}
 use Rattle.mesh_settled.specs.Gaps.Network.{IsNetwork}
-use Rattle.mesh_texts.specs.Runs.{WholeRun, RoutersAreRuns}
 
 -- Settings stay
 

@@ -1,16 +1,8 @@
 -- What stands under the headings of sections.
-use Rattle.std.proofs.Common.{◌≡◌, ℕ, zero, suc, List, [], ◌∷◌, ◌++◌, map, Some, inl, inr, refl, sym, ap, ◌∙◌, subst, append_assoc, codes}
-use Rattle.std.specs.Prelude.{slice_get}
-use Rattle.std.specs.List.{AllByRecursion as Each}
-use Rattle.mesh_atoms.specs.declared.addr.Addr4.{Addr4}
-use Rattle.mesh_atoms.specs.State.{State}
-use Rattle.mesh_texts.specs.Lines.Marks.{line_of, dotted}
-use Rattle.mesh_texts.specs.Lines.Lines.{router_line, row_line}
-use Rattle.mesh_texts.specs.Printed.{BeginsWith, IsPlain}
+use Rattle.mesh_texts.proofs.Common.{◌≡◌, ℕ, zero, suc, List, [], ◌∷◌, ◌++◌, map, Some, inl, inr, refl, sym, ap, ◌∙◌, subst, append_assoc, codes, slice_get, AllByRecursion as Each, Addr4, State, line_of, dotted, router_line, row_line, BeginsWith, IsPlain, heads_equal, tails_equal}
 use Rattle.mesh_texts.proofs.LineLists.{Heads, Stands, Under, each_both, each_front, each_back, each_map, each_weaker, each_has, stands_in_two, under_past, under_behind}
 use Rattle.mesh_texts.proofs.LineTexts.{IsNeither, plain_neither, router_no_route, row_no_heading}
 use Rattle.mesh_texts.proofs.WholeTexts.{AreSectionLines}
-use Rattle.mesh_atoms.proofs.Lists.{heads_equal, tails_equal}
 
 -- a line that begins like a route
 abbrev pub Routes : List ℕ → Type 0

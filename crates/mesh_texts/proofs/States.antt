@@ -1,7 +1,5 @@
 -- The states of routers, one after the other.
-use Rattle.std.proofs.Common.{◌≡◌, ℕ, ◌+◌, ◌<◌, List, ◌∷◌, length, map, drop, get_or, sym, ap, ◌∙◌}
-use Rattle.std.proofs.lemmas.List.{drop_more}
-use Rattle.mesh_atoms.specs.State.{State}
+use Rattle.mesh_texts.proofs.Common.{◌≡◌, ℕ, ◌+◌, ◌<◌, List, ◌∷◌, length, map, drop, get_or, sym, ap, ◌∙◌, drop_more, State}
 
 -- the states of those from the next one on
 pub next_state : {X : Type 0} (f : X → State) (xs : List X) (i : ℕ) (x : X) → i < length xs → x ≡ get_or xs i x →

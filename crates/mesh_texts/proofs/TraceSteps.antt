@@ -1,9 +1,5 @@
 -- Traces, event by event.
-use Rattle.std.proofs.Common.{ℕ, List, [], ◌∷◌}
-use Rattle.mesh_atoms.specs.declared.network.NetEvent.{NetEvent}
-use Rattle.mesh_settled.specs.machine.Net.{NetState}
-use Rattle.mesh_settled.specs.machine.NetRun.{NetRun}
-use Rattle.mesh_texts.specs.Runs.{Traces}
+use Rattle.mesh_texts.proofs.Common.{ℕ, List, [], ◌∷◌, NetEvent, NetState, NetRun, Traces}
 
 -- what is traced is a run
 pub traces_run : (old : NetState) (events : List NetEvent) (new : NetState) (text : List ℕ) → Traces old events new text →

@@ -1,28 +1,7 @@
 -- The text of a run as lines: those of its trace, the counts, each router's section, and what is said of the gap.
-use Rattle.std.proofs.Common.{◌≡◌, ℕ, ◌+◌, ◌<◌, Bool, true, false, List, [], ◌∷◌, ◌++◌, length, map, Option, Some, None, refl, sym, ap, ◌∙◌, subst, arith, append_assoc, codes, length-append}
-use Rattle.std.proofs.lemmas.Grind.{common_steps}
-use Rattle.std.specs.Prelude.{slice_get}
-use Rattle.std.specs.List.{AllByRecursion as Each, flat_map, enumerate_from}
-use Rattle.std.proofs.lemmas.List.{append-nil}
-use Rattle.std.proofs.lemmas.List.Elements.{recursion_from_All}
-use Rattle.std.proofs.lemmas.List.Folds.{flat_map-map}
-use Rattle.mesh_atoms.specs.declared.addr.Addr4.{Addr4}
-use Rattle.mesh_atoms.specs.declared.settings.Interface.{Interface}
-use Rattle.mesh_atoms.specs.declared.settings.RadioArc.{RadioArc}
-use Rattle.mesh_atoms.specs.declared.settings.RouterSettings.{RouterSettings}
-use Rattle.mesh_atoms.specs.declared.settings.Scenario.{Scenario}
-use Rattle.mesh_atoms.specs.State.{State}
+use Rattle.mesh_texts.proofs.Common.{◌≡◌, ℕ, ◌+◌, ◌<◌, Bool, true, false, List, [], ◌∷◌, ◌++◌, length, map, Option, Some, None, refl, sym, ap, ◌∙◌, subst, arith, append_assoc, codes, length-append, common_steps, slice_get, AllByRecursion as Each, flat_map, enumerate_from, append-nil, recursion_from_All, flat_map-map, Addr4, Interface, RadioArc, RouterSettings, Scenario, State, NetEvent, NetState, Gap, face_name, router_line, link_line, neighbour_line, held_line, flooding_line, routing_line, row_line, AreAllLinkLines, ways_text, IsSection, AreSections, event_line, flooding_relays_line, relays_lines, lost_line, sent_line, sent_lines, event_text, counts_line, gap_line, settled_text, Traces, WholeRun, IsTrace, IsRunText, IsLine, BeginsWith, IsPlain, ArePlain}
 use Rattle.mesh_atoms.specs.declared.network.Emission.{Emission}
-use Rattle.mesh_atoms.specs.declared.network.NetEvent.{NetEvent}
-use Rattle.mesh_settled.specs.machine.Net.{NetState}
-use Rattle.mesh_atoms.specs.declared.gap.Gap.{Gap}
-use Rattle.mesh_texts.specs.Lines.Marks.{face_name}
-use Rattle.mesh_texts.specs.Lines.Lines.{router_line, link_line, neighbour_line, held_line, flooding_line, routing_line, row_line}
-use Rattle.mesh_texts.specs.Sections.Section.{AreAllLinkLines, ways_text, IsSection, AreSections}
-use Rattle.mesh_texts.specs.Trace.{happened_line, event_line, flooding_relays_line, relays_lines, arc_line, lost_line, sent_line, sent_lines, event_text, IsEventText, Of_taken, Of_refused}
-use Rattle.mesh_texts.specs.Network.{counts_line, gap_line, settled_text}
-use Rattle.mesh_texts.specs.Runs.{Traces, WholeRun, IsTrace, IsRunText}
-use Rattle.mesh_texts.specs.Printed.{IsLine, BeginsWith, IsPlain, ArePlain}
+use Rattle.mesh_texts.specs.Trace.{happened_line, arc_line, IsEventText, Of_taken, Of_refused}
 use Rattle.mesh_texts.proofs.LineLists.{flat, flat_both, each_both, each_map, each_weaker}
 use Rattle.mesh_texts.proofs.LineTexts.{IsNeither, plain_neither, router_no_settled, row_no_settled, link_plain, neighbour_plain, held_plain, flooding_plain, routing_plain, tick_plain, heard_plain, flooding_relays_plain, routing_relays_plain, sent_plain, loss_plain, counts_plain, gap_plain, settled_neither, unsettled_plain, router_is_line, row_is_line}
 

@@ -1,14 +1,5 @@
 -- What is spelled so is read, whatever follows, and a first fault is the one that is answered.
-use Rattle.std.proofs.Common.{◌≡◌, ℕ, ◌+◌, ◌-◌, ◌%◌, ◌<◌, ◌≤◌, Bool, true, false, cond, ltb, ◌||◌, List, [], ◌∷◌, ◌++◌, length, Option, Some, None, Ok, refl, sym, ap, subst, ◌∙◌, arith, inl, inr, ◌⊎◌, append_assoc}
-use Rattle.std.proofs.lemmas.Grind.{common_steps}
-use Rattle.std.specs.Prelude.{slice_range}
-use Rattle.std.proofs.lemmas.Bool.{le-ltb, lt-ltb, le-leb, lt-leb, ne_eqb}
-use Rattle.std.proofs.lemmas.List.{length-append}
-use Rattle.mesh_atoms.specs.Reading.{has, refuse}
-use Rattle.mesh_atoms.proofs.Reading.{range_length, next_is, text_is, octet_again, octet_cut, short_again, short_cut, two_long}
-use Rattle.mesh_tlv.specs.Fields.{AddrTlvFields}
-use Rattle.mesh_tlv.specs.Reading.{flags_at, extension_at, index_octet_at, indexes_at, length_at, value_at, part_count, tlv_of_at}
-use Rattle.mesh_tlv.specs.Grammar.{SpellsExtension, SpellsIndex, SpellsLength, SpellsValue, HasEqualParts, SpellsTlvOf, IsBroken, two_indexes, wide_nothing, multi_nothing, not_taken, Opens, Extends, Indexes, IsCut, TlvFault, flags_cut, flags_broken, ext_cut, start_cut, start_high, stop_cut, stop_wrong, length_cut, length_uneven, value_cut}
+use Rattle.mesh_tlv.proofs.Common.{◌≡◌, ℕ, ◌+◌, ◌-◌, ◌%◌, ◌<◌, ◌≤◌, Bool, true, false, cond, ltb, ◌||◌, List, [], ◌∷◌, ◌++◌, length, Option, Some, None, Ok, refl, sym, ap, subst, ◌∙◌, arith, inl, inr, ◌⊎◌, append_assoc, common_steps, slice_range, le-ltb, lt-ltb, le-leb, lt-leb, ne_eqb, length-append, has, refuse, range_length, next_is, text_is, octet_again, octet_cut, short_again, short_cut, two_long, AddrTlvFields, flags_at, extension_at, index_octet_at, indexes_at, length_at, value_at, part_count, tlv_of_at, SpellsExtension, SpellsIndex, SpellsLength, SpellsValue, HasEqualParts, SpellsTlvOf, IsBroken, two_indexes, wide_nothing, multi_nothing, not_taken, Opens, Extends, Indexes, IsCut, TlvFault, flags_cut, flags_broken, ext_cut, start_cut, start_high, stop_cut, stop_wrong, length_cut, length_uneven, value_cut}
 use Rattle.mesh_tlv.proofs.Flags.{unsound_if, sound_if}
 use Rattle.mesh_tlv.proofs.Takes.{divides_if, divided_if}
 

@@ -1,16 +1,5 @@
 -- Blocks, which are a length of 16 bits and items that fill it: read, spelled and refused as their items are.
-use Rattle.std.proofs.Common.{◌≡◌, ℕ, ◌+◌, ◌-◌, ◌≤◌, ltb, List, ◌++◌, length, Ok, Err, refl, sym, ap, subst, ◌∙◌, arith, append_assoc}
-use Rattle.std.specs.Prelude.{MatchResult, slice_range}
-use Rattle.std.proofs.lemmas.Bool.{ltb-false, ltb-true, le-ltb, lt-ltb}
-use Rattle.std.proofs.lemmas.List.{length-append}
-use Rattle.std.proofs.lemmas.Result.{MatchResult-weaker}
-use Rattle.mesh_atoms.specs.declared.refusal.Refusal.{Refusal}
-use Rattle.mesh_atoms.specs.Grammar.{SpellsShort}
-use Rattle.mesh_atoms.specs.Reading.{Reading, refuse, short_at}
-use Rattle.mesh_atoms.proofs.Reading.{meets_bind, meets_if, Takes, takes_both, takes_range, range_length, text_is, short_takes, short_again, short_cut, two_long}
-use Rattle.mesh_tlv.specs.Items.{SpellsItems, ItemsFault, FirstFaultAt, items_at}
-use Rattle.mesh_tlv.specs.Reading.{range_at, block_at}
-use Rattle.mesh_tlv.specs.Grammar.{SpellsTlvs, TlvsFault, block_cut, block_long, in_block}
+use Rattle.mesh_tlv.proofs.Common.{◌≡◌, ℕ, ◌+◌, ◌-◌, ◌≤◌, ltb, List, ◌++◌, length, Ok, Err, refl, sym, ap, subst, ◌∙◌, arith, append_assoc, MatchResult, slice_range, ltb-false, ltb-true, le-ltb, lt-ltb, length-append, MatchResult-weaker, Refusal, SpellsShort, Reading, refuse, short_at, meets_bind, meets_if, Takes, takes_both, takes_range, range_length, text_is, short_takes, short_again, short_cut, two_long, SpellsItems, ItemsFault, FirstFaultAt, items_at, range_at, block_at, SpellsTlvs, TlvsFault, block_cut, block_long, in_block}
 use Rattle.mesh_tlv.proofs.Items.{IsReader, ItemsTook, items_take, items_again, items_fault}
 
 -- a block that was read stands between the places

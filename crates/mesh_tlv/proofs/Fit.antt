@@ -1,12 +1,5 @@
 -- What is read of an address block's TLVs can be written.
-use Rattle.std.proofs.Common.{ℕ, ◌<◌, ◌≤◌, Bool, true, false, List, [], ◌∷◌, arith}
-use Rattle.std.proofs.lemmas.Grind.{common_steps}
-use Rattle.std.specs.Prelude.{All}
-use Rattle.std.proofs.lemmas.List.Elements.{All-nil, All-cons}
-use Rattle.mesh_tlv.specs.Fields.{AddrTlvFields}
-use Rattle.mesh_tlv.specs.Items.{SpellsItems}
-use Rattle.mesh_tlv.specs.Grammar.{SpellsIndex, SpellsAddrTlv}
-use Rattle.mesh_tlv.specs.Least.{IsFit}
+use Rattle.mesh_tlv.proofs.Common.{ℕ, ◌<◌, ◌≤◌, Bool, true, false, List, [], ◌∷◌, arith, common_steps, All, All-nil, All-cons, AddrTlvFields, SpellsItems, SpellsIndex, SpellsAddrTlv, IsFit}
 
 index_fit : (single several : Bool) (count first last : ℕ) (text : List ℕ) → 0 < count → SpellsIndex single several count first last text → (first ≤ last) × (last < count)
 index_fit true false count first last text pos h = (omega (arith, h.1), omega (arith, h.0, h.1))

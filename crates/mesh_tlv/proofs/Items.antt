@@ -1,11 +1,5 @@
 -- Items that fill a range of a frame, one after the other: read, spelled and refused as each of them is.
-use Rattle.std.proofs.Common.{◌≡◌, ℕ, zero, suc, ◌+◌, ◌-◌, ◌<◌, ◌≤◌, eqb, List, [], ◌∷◌, ◌++◌, length, Ok, refl, sym, ap, subst, ◌∙◌, arith, append_assoc}
-use Rattle.std.specs.Prelude.{MatchResult, slice_range}
-use Rattle.std.proofs.lemmas.Bool.{eqb-true, eqb-false, eq-eqb, ne_eqb}
-use Rattle.std.proofs.lemmas.List.{length-append}
-use Rattle.mesh_atoms.specs.Reading.{Reading, refuse}
-use Rattle.mesh_atoms.proofs.Reading.{meets_bind, meets_if, Takes, range_length, range_nil, text_is}
-use Rattle.mesh_tlv.specs.Items.{SpellsItems, ItemsFault, FirstFaultAt, items_at}
+use Rattle.mesh_tlv.proofs.Common.{◌≡◌, ℕ, zero, suc, ◌+◌, ◌-◌, ◌<◌, ◌≤◌, eqb, List, [], ◌∷◌, ◌++◌, length, Ok, refl, sym, ap, subst, ◌∙◌, arith, append_assoc, MatchResult, slice_range, eqb-true, eqb-false, eq-eqb, ne_eqb, length-append, Reading, refuse, meets_bind, meets_if, Takes, range_length, range_nil, text_is, SpellsItems, ItemsFault, FirstFaultAt, items_at}
 
 -- the text that a reader took from a place, and what it spells
 abbrev pub Took : {A : Type 0} → List ℕ → ℕ → ℕ → (A → List ℕ → Type 0) → A × ℕ → Type 0

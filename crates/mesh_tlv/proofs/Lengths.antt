@@ -1,13 +1,7 @@
 -- How long the items of a list are written.
-use Rattle.std.proofs.Common.{◌≡◌, ℕ, zero, suc, ◌+◌, ◌<◌, ◌≤◌, ◌++◌, ◌∙◌, [], ◌∷◌, append_assoc, sym, List, length, map, take, get_or, Option, Some, None, refl, arith, inl, inr}
-use Rattle.std.proofs.lemmas.Grind.{common_steps}
-use Rattle.std.specs.List.{flat_map}
-use Rattle.std.proofs.lemmas.Bool.{lt-ltb}
-use Rattle.std.proofs.lemmas.List.{length-append, append-nil}
+use Rattle.mesh_tlv.proofs.Common.{◌≡◌, ℕ, zero, suc, ◌+◌, ◌<◌, ◌≤◌, ◌++◌, ◌∙◌, [], ◌∷◌, append_assoc, sym, List, length, map, take, get_or, Option, Some, None, refl, arith, inl, inr, common_steps, flat_map, lt-ltb, length-append, append-nil, TlvFields, AddrTlvFields, fields, indexed, length_within, least_length, least_value, least_head, least_addr_tlv, least_tlv, IsLong, HasLongValue, AreTooLong}
 use Rattle.std.proofs.lemmas.List.Folds.{length-flat_map-take, flat_map-map}
 use Rattle.mesh_tlv.specs.declared.tlv.Tlv.{Tlv}
-use Rattle.mesh_tlv.specs.Fields.{TlvFields, AddrTlvFields, fields, indexed}
-use Rattle.mesh_tlv.specs.Least.{length_within, least_length, least_value, least_head, least_addr_tlv, least_tlv, IsLong, HasLongValue, AreTooLong}
 
 module _ {A B : Type 0} (view : A → B) (least : B → List ℕ) (xs : List A) (i : ℕ) (d : A) where
   item_fits : i < length xs → length (flat_map least (map view (take i xs))) + length (least (view (get_or xs i d))) ≤ length (flat_map least (map view xs))

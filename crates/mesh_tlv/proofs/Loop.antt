@@ -1,12 +1,7 @@
 -- Reading items one after the other, as a loop does, where reading may want memory.
-use Rattle.std.proofs.Common.{◌≡◌, ℕ, suc, ◌+◌, ◌-◌, ◌≤◌, ◌<◌, List, [], ◌∷◌, ◌++◌, Ok, Err, refl, sym, ap, ◌∙◌, append_assoc, arith, eqb, true}
-use Rattle.std.proofs.lemmas.List.{append-nil}
-use Rattle.std.proofs.lemmas.Bool.{ne_eqb}
-use Rattle.mesh_atoms.specs.declared.refusal.Refusal.{Refusal}
+use Rattle.mesh_tlv.proofs.Common.{◌≡◌, ℕ, suc, ◌+◌, ◌-◌, ◌≤◌, ◌<◌, List, [], ◌∷◌, ◌++◌, Ok, Err, refl, sym, ap, ◌∙◌, append_assoc, arith, eqb, true, append-nil, ne_eqb, Refusal, ◌>>=◌, Reading, Fails, items_at}
 use Rattle.mesh_atoms.specs.declared.refusal.DecodeFault.{DecodeFault}
 use Rattle.mesh_atoms.specs.declared.refusal.DecodeFault.TheVariants as faults
-use Rattle.mesh_atoms.specs.Reading.{◌>>=◌, Reading, Fails}
-use Rattle.mesh_tlv.specs.Items.{items_at}
 
 -- what was read before, and what is still read
 abbrev pub with_front : {A : Type 0} → List A → Reading (List A) → Reading (List A)

@@ -1,19 +1,7 @@
 -- The least form is a spelling.
-use Rattle.std.proofs.Common.{◌≡◌, ℕ, ◌+◌, ◌/◌, ◌%◌, ◌<◌, ◌≤◌, Bool, true, false, not, ◌&&◌, eqb, ltb, bit_and, List, [], ◌∷◌, ◌++◌, length, Option, Some, None, refl, sym, arith}
-use Rattle.std.proofs.lemmas.Grind.{common_steps}
-use Rattle.std.specs.Prelude.{All}
-use Rattle.std.specs.List.{flat_map}
-use Rattle.std.specs.Int.Bits.{and_zero_r}
-use Rattle.std.proofs.lemmas.Bool.{eqb-true}
+use Rattle.mesh_tlv.proofs.Common.{◌≡◌, ℕ, ◌+◌, ◌/◌, ◌%◌, ◌<◌, ◌≤◌, Bool, true, false, not, ◌&&◌, eqb, ltb, bit_and, List, [], ◌∷◌, ◌++◌, length, Option, Some, None, refl, sym, arith, common_steps, All, flat_map, and_zero_r, eqb-true, All-head, All-tail, All-weaker, SpellsShort, has, TlvFields, AddrTlvFields, indexed, SpellsItems, SpellsExtension, SpellsIndex, SpellsLength, SpellsValue, HasEqualParts, SpellsTlvOf, SpellsTlv, SpellsAddrTlv, SpellsTlvs, SpellsTlvBlock, SpellsAddrTlvBlock, IsFit, flag, octet_if, has_value, is_wide, least_flags, least_head, least_short, least_length, least_value, least_addr_tlv, least_tlv, least_block}
 use Rattle.std.proofs.lemmas.List.Concat.{flat_map-cons}
-use Rattle.std.proofs.lemmas.List.Elements.{All-head, All-tail, All-weaker}
-use Rattle.mesh_atoms.specs.Grammar.{SpellsShort}
-use Rattle.mesh_atoms.specs.Reading.{has}
 use Rattle.mesh_tlv.proofs.Trying.{both, both_is, same, same_is}
-use Rattle.mesh_tlv.specs.Fields.{TlvFields, AddrTlvFields, indexed}
-use Rattle.mesh_tlv.specs.Items.{SpellsItems}
-use Rattle.mesh_tlv.specs.Grammar.{SpellsExtension, SpellsIndex, SpellsLength, SpellsValue, HasEqualParts, SpellsTlvOf, SpellsTlv, SpellsAddrTlv, SpellsTlvs, SpellsTlvBlock, SpellsAddrTlvBlock}
-use Rattle.mesh_tlv.specs.Least.{IsFit, flag, octet_if, has_value, is_wide, least_flags, least_head, least_short, least_length, least_value, least_addr_tlv, least_tlv, least_block}
 
 -- ---- each flag is told from the sum of the flags, by trying all sums
 

@@ -1,14 +1,5 @@
 -- What is read is spelled so, and what is refused has its first fault there.
-use Rattle.std.proofs.Common.{◌≡◌, ℕ, ◌+◌, ◌-◌, ◌%◌, ◌<◌, ◌≤◌, Bool, true, false, not, cond, eqb, ltb, leb, ◌||◌, List, [], ◌∷◌, ◌++◌, length, Option, Ok, Err, refl, sym, ap, subst, ◌∙◌, arith, inl, inr, ◌⊎◌}
-use Rattle.std.specs.Prelude.{MatchResult, slice_range}
-use Rattle.std.proofs.lemmas.Bool.{ltb-false, ltb-true, leb-false, leb-true, eqb-true, eqb-false, false_from_ne_true as not_true, not-true, not-false}
-use Rattle.std.proofs.lemmas.List.{length-append}
-use Rattle.mesh_atoms.specs.declared.refusal.Refusal.{Refusal}
-use Rattle.mesh_atoms.specs.Reading.{Reading, has, refuse, octet_at}
-use Rattle.mesh_atoms.proofs.Reading.{meets_bind, meets_if, Takes, takes_none, takes_both, takes_range, range_length, octet_takes, short_takes}
-use Rattle.mesh_tlv.specs.Reading.{is_sound, flags_at, extension_at, index_octet_at, indexes_at, length_at, value_at, part_count, tlv_of_at}
-use Rattle.mesh_tlv.specs.Grammar.{SpellsExtension, SpellsIndex, SpellsLength, SpellsValue, Divides, HasEqualParts, SpellsTlvOf, IsBroken, two_indexes, wide_nothing, multi_nothing, Opens, Extends, Indexes, IsCut, TlvFault, flags_cut, flags_broken, ext_cut, start_cut, start_high, stop_cut, stop_wrong, length_cut, length_uneven, value_cut}
-use Rattle.mesh_tlv.specs.Items.{FirstFaultAt}
+use Rattle.mesh_tlv.proofs.Common.{◌≡◌, ℕ, ◌+◌, ◌-◌, ◌%◌, ◌<◌, ◌≤◌, Bool, true, false, not, cond, eqb, ltb, leb, ◌||◌, List, [], ◌∷◌, ◌++◌, length, Option, Ok, Err, refl, sym, ap, subst, ◌∙◌, arith, inl, inr, ◌⊎◌, MatchResult, slice_range, ltb-false, ltb-true, leb-false, leb-true, eqb-true, eqb-false, false_from_ne_true as not_true, not-true, not-false, length-append, Refusal, Reading, has, refuse, octet_at, meets_bind, meets_if, Takes, takes_none, takes_both, takes_range, range_length, octet_takes, short_takes, is_sound, flags_at, extension_at, index_octet_at, indexes_at, length_at, value_at, part_count, tlv_of_at, SpellsExtension, SpellsIndex, SpellsLength, SpellsValue, Divides, HasEqualParts, SpellsTlvOf, IsBroken, two_indexes, wide_nothing, multi_nothing, Opens, Extends, Indexes, IsCut, TlvFault, flags_cut, flags_broken, ext_cut, start_cut, start_high, stop_cut, stop_wrong, length_cut, length_uneven, value_cut, FirstFaultAt}
 use Rattle.mesh_tlv.proofs.Items.{Took}
 use Rattle.mesh_tlv.proofs.Flags.{broken_if, not_broken_if, taken_if}
 

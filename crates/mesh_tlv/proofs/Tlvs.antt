@@ -1,13 +1,6 @@
 -- The two kinds of TLV, each with its reader.
-use Rattle.std.proofs.Common.{◌≡◌, ℕ, ◌<◌, false, bit_and, Option, Some, None, List, length, refl, sym, ap, ◌∙◌, arith}
-use Rattle.std.specs.Int.Bits.{and_zero_l}
+use Rattle.mesh_tlv.proofs.Common.{◌≡◌, ℕ, ◌<◌, false, bit_and, Option, Some, None, List, length, refl, sym, ap, ◌∙◌, arith, and_zero_l, has, meets_bind, AddrTlvFields, indexed, unindexed, FirstFaultAt, tlv_of_at, tlv_at, addr_tlv_at, SpellsTlvOf, SpellsTlv, SpellsAddrTlv, HasEqualParts, TlvFault}
 use Rattle.std.proofs.lemmas.Nat.{and_assoc}
-use Rattle.mesh_atoms.specs.Reading.{has}
-use Rattle.mesh_atoms.proofs.Reading.{meets_bind}
-use Rattle.mesh_tlv.specs.Fields.{AddrTlvFields, indexed, unindexed}
-use Rattle.mesh_tlv.specs.Items.{FirstFaultAt}
-use Rattle.mesh_tlv.specs.Reading.{tlv_of_at, tlv_at, addr_tlv_at}
-use Rattle.mesh_tlv.specs.Grammar.{SpellsTlvOf, SpellsTlv, SpellsAddrTlv, HasEqualParts, TlvFault}
 use Rattle.mesh_tlv.proofs.Items.{IsReader, Took}
 use Rattle.mesh_tlv.proofs.Takes.{tlv_of_takes}
 use Rattle.mesh_tlv.proofs.Again.{tlv_of_again, fault_again}

@@ -1,6 +1,5 @@
 -- What is told of flags by trying all of them.
-use Rattle.std.proofs.Common.{◌≡◌, Bool, true, false, not, ◌&&◌, refl}
-use Rattle.std.proofs.lemmas.Bool.{and_parts, false≢true}
+use Rattle.mesh_tlv.proofs.Common.{◌≡◌, Bool, true, false, not, ◌&&◌, refl, and_parts, false≢true}
 
 -- of both
 abbrev pub both : (Bool → Bool) → Bool

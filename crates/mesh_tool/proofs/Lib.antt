@@ -1,3 +1,4 @@
 mod AnswersLemmas
 mod JobsLemmas
 mod WordsLemmas
+mod Common

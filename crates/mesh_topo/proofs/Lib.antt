@@ -5,3 +5,4 @@ pub mod TcSetsLemmas  -- core
 -- Lemmas of this crate alone.
 pub mod Full
 mod RowKinds
+mod Common

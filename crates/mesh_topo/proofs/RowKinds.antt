@@ -1,24 +1,13 @@
 -- What the rows of a TC give, in the words of the definitions.
-use Rattle.std.proofs.Common.{◌≡◌, ℕ, inl, inr, Bool, true, false, cond, Option, Some, None, Contains, refl, sym, ap, ◌∙◌, arith}
-use Rattle.std.proofs.lemmas.Grind.{common_steps}
-use Rattle.std.specs.Prelude.{option_map, IsTrue}
-use Rattle.mesh_atoms.specs.declared.addr.Addr4.{Addr4}
-use Rattle.mesh_atoms.specs.declared.addr.NetAddr.{NetAddr}
-use Rattle.mesh_atoms.specs.declared.codes.metric.Metric.{Metric}
-use Rattle.mesh_atoms.specs.declared.tc.Tc.{Tc}
-use Rattle.mesh_atoms.specs.declared.tc.TcRow.{TcRow}
+use Rattle.mesh_topo.proofs.Common.{◌≡◌, ℕ, inl, inr, Bool, true, false, cond, Option, Some, None, Contains, refl, sym, ap, ◌∙◌, arith, common_steps, option_map, IsTrue, Addr4, NetAddr, Metric, Tc, TcRow, Base, host, router_eq, address_eq, network_eq, BecomesSet, GivesRouter, GivesAddress, GivesNetwork, GivenBy, router_of, address_of, network_of, network_with}
 use Rattle.mesh_atoms.specs.declared.tuples.RouterKey.{RouterKey}
 use Rattle.mesh_atoms.specs.declared.tuples.RouterTuple.{RouterTuple}
 use Rattle.mesh_atoms.specs.declared.tuples.AddressKey.{AddressKey}
 use Rattle.mesh_atoms.specs.declared.tuples.AddressTuple.{AddressTuple}
 use Rattle.mesh_atoms.specs.declared.tuples.NetworkKey.{NetworkKey}
 use Rattle.mesh_atoms.specs.declared.tuples.NetworkTuple.{NetworkTuple}
-use Rattle.mesh_atoms.specs.Base.{Base, host, router_eq, address_eq, network_eq}
-use Rattle.mesh_atoms.specs.AfterTc.{BecomesSet, GivesRouter, GivesAddress, GivesNetwork}
 use Rattle.mesh_atoms.proofs.Nets.{same_net}
-use Rattle.mesh_topo.specs.TcSets.Sets.{GivenBy}
 use Rattle.mesh_topo.specs.Tuples.{HasHosts}
-use Rattle.mesh_topo.specs.TcSets.Tuples.{router_of, address_of, network_of, network_with}
 use Rattle.mesh_topo.proofs.TcSetsLemmas.Laws.{set_by}
 
 -- a value that is there by a test and an option

@@ -1,23 +1,11 @@
 -- What expiry and TCs keep of a topology.
-use Rattle.std.proofs.Common.{◌≡◌, ℕ, ◌+◌, ◌<◌, ◌⊎◌, inl, inr, Bool, true, false, cond, [], Option, Some, None, Result, Ok, Err, refl, sym, ap, subst, ◌∙◌, arith}
-use Rattle.std.proofs.lemmas.Grind.{common_steps}
-use Rattle.std.specs.Prelude.{nat_lt, IfOk, OnOk}
+use Rattle.mesh_topo.proofs.Common.{◌≡◌, ℕ, ◌+◌, ◌<◌, ◌⊎◌, inl, inr, Bool, true, false, cond, [], Option, Some, None, Result, Ok, Err, refl, sym, ap, subst, ◌∙◌, arith, common_steps, nat_lt, IfOk, OnOk, lt-ltb, Addr4, Tc, if_not_dropped, Becomes, BecomesSet, Given, Left, AfterTc, TcAnswer, TakesTc, Is_old, Overfull, Takes, Base, find, if_live, Expires, IsFresh, SetsOnly, addr_eq, router_eq, address_eq, network_eq, LiveTopology, distinct_none, TopologyBase, IsOriginator, AreFew, AreFresh, same_addr}
 use Rattle.std.specs.declared.alloc.AllocError.{AllocError}
-use Rattle.std.proofs.lemmas.Bool.{lt-ltb}
-use Rattle.mesh_atoms.specs.declared.addr.Addr4.{Addr4}
 use Rattle.mesh_atoms.specs.declared.settings.RouterSettings.{RouterSettings}
-use Rattle.mesh_atoms.specs.declared.tc.Tc.{Tc}
 use Rattle.mesh_atoms.specs.declared.tuples.Advertiser.{Advertiser}
-use Rattle.mesh_atoms.specs.AfterTc.{if_not_dropped, Becomes, BecomesSet, Given, Left, AfterTc, TcAnswer, TakesTc, Is_old, Overfull, Takes}
-use Rattle.mesh_atoms.specs.Base.{Base, find, if_live, Expires, IsFresh, SetsOnly, addr_eq, router_eq, address_eq, network_eq}
-use Rattle.mesh_atoms.specs.Live.{LiveTopology}
 use Rattle.mesh_atoms.specs.Sound.{IsWithin, SoundTopology}
-use Rattle.mesh_expire.proofs.Laws.{distinct_none}
-use Rattle.mesh_atoms.specs.State.{TopologyBase, IsOriginator}
 use Rattle.mesh_topo.specs.declared.topology.TcTaken.{TcTaken}
 use Rattle.mesh_topo.specs.Answers.{answer_of}
-use Rattle.mesh_topo.specs.Sets.{AreFew, AreFresh}
-use Rattle.mesh_atoms.proofs.Lookups.{same_addr}
 
 -- ---- expiry
 

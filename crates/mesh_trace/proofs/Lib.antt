@@ -5,3 +5,4 @@ pub mod PositionsLemmas  -- replay
 pub mod SpellingLemmas  -- replay
 -- Lemmas of this crate alone.
 pub mod ReadingLemmas
+mod Common

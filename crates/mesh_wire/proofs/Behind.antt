@@ -1,14 +1,6 @@
 -- Where the TLVs of a message begin, and where its address blocks.
-use Rattle.std.proofs.Common.{◌≡◌, ℕ, ◌+◌, ◌*◌, Bool, true, false, List, ◌∷◌, ◌++◌, length, drop, Option, Some, None, sym, ap, subst, ◌∙◌, arith}
-use Rattle.std.proofs.lemmas.List.{length-append, append_assoc}
-use Rattle.std.proofs.Math.Seq.{drop-append_seam}
-use Rattle.mesh_addr.specs.declared.records.RawAddr.{RawAddr}
-use Rattle.mesh_packet.specs.Fields.{MessageFields}
-use Rattle.mesh_packet.specs.Grammar.{SpellsOctet, SpellsNumber, SpellsOriginator, SpellsMessage}
-use Rattle.mesh_tlv.specs.Fields.{TlvFields}
-use Rattle.mesh_tlv.specs.Grammar.{SpellsTlvBlock}
+use Rattle.mesh_wire.proofs.Common.{◌≡◌, ℕ, ◌+◌, ◌*◌, Bool, true, false, List, ◌∷◌, ◌++◌, length, drop, Option, Some, None, sym, ap, subst, ◌∙◌, arith, length-append, append_assoc, drop-append_seam, RawAddr, MessageFields, SpellsOctet, SpellsNumber, SpellsOriginator, SpellsMessage, TlvFields, SpellsTlvBlock, heads_equal, tails_equal}
 use Rattle.mesh_wire.specs.Sizes.{size_if, size_before}
-use Rattle.mesh_atoms.proofs.Lists.{heads_equal, tails_equal}
 
 octet_size : (set : Bool) (x : Option ℕ) (text : List ℕ) → SpellsOctet set x text → length text ≡ size_if 1 x
 octet_size true (Some n) text e = ap length e

@@ -1,13 +1,6 @@
 -- What is kept of a network after all entries is what they say of it.
-use Rattle.std.proofs.Common.{◌≡◌, ℕ, ◌⊎◌, inl, inr, refl, sym, ap, subst, Bool, true, List, [], ◌∷◌, ◌++◌}
-use Rattle.std.specs.Prelude.{Option, Some, None, cond}
-use Rattle.std.proofs.lemmas.Bool.{cases_Bool}
-use Rattle.mesh_atoms.specs.declared.addr.NetAddr.{NetAddr}
-use Rattle.mesh_wire.specs.declared.parts.RowParts.{RowParts}
-use Rattle.mesh_wire.specs.Entries.{Entry, is_of, put_said, collected}
-use Rattle.mesh_wire.specs.KeptParts.{no_parts}
+use Rattle.mesh_wire.proofs.Common.{◌≡◌, ℕ, ◌⊎◌, inl, inr, refl, sym, ap, subst, Bool, true, List, [], ◌∷◌, ◌++◌, Option, Some, None, cond, cases_Bool, NetAddr, RowParts, Entry, is_of, put_said, collected, no_parts, some_equal}
 use Rattle.mesh_wire.proofs.Slots.{IsMoreOf, RowIs, row_more, row_same, row_none}
-use Rattle.mesh_atoms.proofs.Options.{some_equal}
 
 -- one of the entries is so
 abbrev pub AnyOf : (Entry → Type 0) → List Entry → Type 0

@@ -1,18 +1,6 @@
 -- Entries of networks, and what is kept after them.
-use Rattle.std.proofs.Common.{◌≡◌, ℕ, zero, suc, slice_range, take, ◌-◌, ◌<◌, ◌≤◌, inl, inr, refl, sym, ◌∙◌, ap, subst, arith, Bool, true, false, cond, List, length, Option, Some, None, [], ◌∷◌, ◌++◌}
-use Rattle.std.specs.Prelude.{drop}
-use Rattle.std.proofs.lemmas.Bool.{eq-eqb, eqb-true, and_parts as both}
-use Rattle.mesh_atoms.specs.declared.addr.NetAddr.{NetAddr}
-use Rattle.mesh_atoms.proofs.Nets.{same_net}
-use Rattle.mesh_addr.specs.declared.records.RawAddr.{RawAddr}
-use Rattle.mesh_wire.specs.declared.parts.RowParts.{RowParts}
-use Rattle.mesh_wire.specs.Entries.{Entry, entry_on, is_of, standing, put_said, collected}
-use Rattle.mesh_wire.specs.Parts.{IsIn}
-use Rattle.mesh_wire.specs.Standing.{after}
-use Rattle.mesh_wire.specs.KeptParts.{no_parts}
+use Rattle.mesh_wire.proofs.Common.{◌≡◌, ℕ, zero, suc, slice_range, take, ◌-◌, ◌<◌, ◌≤◌, inl, inr, refl, sym, ◌∙◌, ap, subst, arith, Bool, true, false, cond, List, length, Option, Some, None, [], ◌∷◌, ◌++◌, drop, eq-eqb, eqb-true, and_parts as both, NetAddr, same_net, RawAddr, RowParts, Entry, entry_on, is_of, standing, put_said, collected, IsIn, after, no_parts, cond_same, same_addr}
 use Rattle.mesh_wire.proofs.Collected.{AnyOf, StandsOf}
-use Rattle.mesh_atoms.proofs.Options.{cond_same}
-use Rattle.mesh_atoms.proofs.Values.{same_addr}
 
 -- ---- one entry
 

@@ -1,6 +1,5 @@
 -- Summaries of values.
-use Rattle.std.proofs.Common.{◌≡◌, sym, ap, ◌∙◌}
-use Rattle.mesh_wire.specs.Answers.{Sums}
+use Rattle.mesh_wire.proofs.Common.{◌≡◌, sym, ap, ◌∙◌, Sums}
 
 -- values that are one have one summary
 pub one_sum : {X S : Type 0} (summary_of : X → S) (Is : X → Type 0) → ((x y : X) → Is x → Is y → x ≡ y) → (s t : S) → Sums summary_of Is s → Sums summary_of Is t → s ≡ t

@@ -1,19 +1,6 @@
 -- What a message says before its rows is told, or it isn't there.
-use Rattle.std.proofs.Common.{◌≡◌, ℕ, ◌<◌, ◌%◌, ◌*◌, ◌+◌, ◌⊎◌, inl, inr, refl, sym, ap, subst, ◌∙◌, arith, Bool, true, false, cond, List, [], ◌∷◌, map, filter, length}
-use Rattle.std.specs.Prelude.{◌==◌, ◌&&◌, Contains, Option, Some, None}
-use Rattle.std.proofs.lemmas.Bool.{cases_Bool, cases_lt, cases_eq}
-use Rattle.mesh_atoms.specs.Codes.Codes.{time_at_distance}
-use Rattle.mesh_packet.specs.Fields.{MessageFields}
-use Rattle.mesh_tlv.specs.Fields.{TlvFields}
-use Rattle.mesh_wire.specs.Hello.{HasWilling}
-use Rattle.mesh_wire.specs.HelloHeading.{IsOther}
-use Rattle.mesh_wire.specs.Kinds.{interval_time, validity_time, mpr_willing}
-use Rattle.mesh_wire.specs.Laws.{HasOctets}
-use Rattle.mesh_wire.specs.Parts.{octets_of, values_of}
-use Rattle.mesh_wire.specs.Tc.{ContentIs, contents_of}
-use Rattle.mesh_wire.specs.Times.{HasTime, ValidityIs, IntervalIs}
+use Rattle.mesh_wire.proofs.Common.{◌≡◌, ℕ, ◌<◌, ◌%◌, ◌*◌, ◌+◌, ◌⊎◌, inl, inr, refl, sym, ap, subst, ◌∙◌, arith, Bool, true, false, cond, List, [], ◌∷◌, map, filter, length, ◌==◌, ◌&&◌, Contains, Option, Some, None, cases_Bool, cases_lt, cases_eq, time_at_distance, MessageFields, TlvFields, HasWilling, IsOther, interval_time, validity_time, mpr_willing, HasOctets, octets_of, values_of, ContentIs, contents_of, HasTime, ValidityIs, IntervalIs, contains_head as at_head, contains_tail as in_tail, contains_cases, contains_none as none_in}
 use Rattle.mesh_wire.proofs.Single.{one_time}
-use Rattle.mesh_atoms.proofs.Lists.{contains_head as at_head, contains_tail as in_tail, contains_cases, contains_none as none_in}
 
 -- there is one, or there is none
 abbrev pub IsThere : (X : Type 0) → (X → Type 0) → Type 0

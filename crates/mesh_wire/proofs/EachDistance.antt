@@ -1,22 +1,6 @@
 -- A TC that has a validity at each distance keeps its rules at each.
-use Rattle.std.proofs.Common.{◌≡◌, ℕ, ◌+◌, ◌<◌, ◌%◌, inl, inr, refl, List, [], ◌∷◌, length, Option, Some, None}
-use Rattle.mesh_atoms.specs.declared.addr.NetAddr.{NetAddr}
-use Rattle.mesh_atoms.specs.declared.codes.metric.Metric.{Metric}
-use Rattle.mesh_atoms.specs.declared.tc.Tc.{Tc}
+use Rattle.mesh_wire.proofs.Common.{◌≡◌, ℕ, ◌+◌, ◌<◌, ◌%◌, inl, inr, refl, List, [], ◌∷◌, length, Option, Some, None, NetAddr, Metric, Tc, time_at_distance, IsTimeValue, MessageFields, validity_time, nbr_addr_type, gateway, link_metric, values_of, TlvFields, MetricKind, ShowsMetric, HasWrongMetric, after_hops, HasPart, HasValue, HasType, HasOtherLength, HasTwoValues, Keeps, BreaksTc, AddressWidth, NoOriginator, NoSequence, NoValidity, WrongInterval, Content, AddrType, TwoAddrTypes, ShortPrefix, GatewayOctet, TwoGateways, Beside, WrongMetric, distance_of, IntervalIs, WritesTc}
 use Rattle.mesh_atoms.specs.declared.tc_rule.TheConstants as rule
-use Rattle.mesh_atoms.specs.Codes.Codes.{time_at_distance}
-use Rattle.mesh_atoms.specs.Validity.{IsTimeValue}
-use Rattle.mesh_packet.specs.Fields.{MessageFields}
-use Rattle.mesh_wire.specs.Kinds.{validity_time, nbr_addr_type, gateway, link_metric}
-use Rattle.mesh_wire.specs.Parts.{values_of}
-use Rattle.mesh_tlv.specs.Fields.{TlvFields}
-use Rattle.mesh_wire.specs.Metrics.{MetricKind, ShowsMetric, HasWrongMetric}
-use Rattle.mesh_wire.specs.Rehop.{after_hops}
-use Rattle.mesh_wire.specs.Rows.{HasPart, HasValue, HasType, HasOtherLength, HasTwoValues}
-use Rattle.mesh_wire.specs.Rules.{Keeps}
-use Rattle.mesh_wire.specs.TcRules.{BreaksTc, AddressWidth, NoOriginator, NoSequence, NoValidity, WrongInterval, Content, AddrType, TwoAddrTypes, ShortPrefix, GatewayOctet, TwoGateways, Beside, WrongMetric}
-use Rattle.mesh_wire.specs.Times.{distance_of, IntervalIs}
-use Rattle.mesh_wire.specs.Writes.{WritesTc}
 use Rattle.mesh_wire.proofs.Further.{odd, above}
 
 interval_on : (m : MessageFields) (limit hops : ℕ) → ((ticks : Option ℕ) → IntervalIs (after_hops m limit hops) (hops + 1) ticks → ⊥) →

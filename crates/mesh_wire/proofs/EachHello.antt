@@ -1,23 +1,6 @@
 -- Each message reads as a HELLO or breaks a first rule of one.
-use Rattle.std.proofs.Common.{◌≡◌, ℕ, ◌<◌, ◌/◌, ◌%◌, inl, inr, refl, arith, List, map}
-use Rattle.std.specs.Prelude.{Option, Some, None}
-use Rattle.std.proofs.lemmas.Bool.{cases_eq}
-use Rattle.mesh_atoms.specs.declared.addr.Addr4.{Addr4}
-use Rattle.mesh_atoms.specs.declared.hello.Hello.{Hello}
-use Rattle.mesh_atoms.specs.Octets.{address_in}
-use Rattle.mesh_addr.specs.declared.records.RawAddr.{RawAddr}
-use Rattle.mesh_packet.specs.Fields.{MessageFields}
-use Rattle.mesh_wire.specs.declared.hello.HelloHeader.{HelloHeader}
-use Rattle.mesh_wire.specs.declared.collect.AddressParts.{AddressParts}
-use Rattle.mesh_wire.specs.Entries.{of_blocks}
-use Rattle.mesh_wire.specs.Hello.{OriginatorIs, HelloIs}
-use Rattle.mesh_wire.specs.HelloHeading.{HeadingIs}
-use Rattle.mesh_wire.specs.HelloRows.{hello_row}
-use Rattle.mesh_wire.specs.HelloRules.{BreaksHello, AddressWidth, HopLimit, HopCount, NoValidity, WrongInterval, WrongWilling}
-use Rattle.mesh_wire.specs.Laws.{HasOctets, ReadsOrBreaks}
-use Rattle.mesh_wire.specs.Made.{BreakNone}
-use Rattle.mesh_wire.specs.RowRules.{hello_rule}
-use Rattle.mesh_wire.specs.Rules.{Keeps}
+use Rattle.mesh_wire.proofs.Common.{◌≡◌, ℕ, ◌<◌, ◌/◌, ◌%◌, inl, inr, refl, arith, List, map, Option, Some, None, cases_eq, Addr4, Hello, address_in, RawAddr, MessageFields, HelloHeader, AddressParts, of_blocks, OriginatorIs, HelloIs, HeadingIs, hello_row, BreaksHello, HopLimit, HopCount, WrongWilling, HasOctets, ReadsOrBreaks, BreakNone, hello_rule, Keeps}
+use Rattle.mesh_wire.specs.HelloRules.{AddressWidth, NoValidity, WrongInterval}
 use Rattle.mesh_wire.proofs.Deciding.{other_or, validity_or, interval_or, willing_or, willing_octet}
 use Rattle.mesh_wire.proofs.HelloHeading.{first_number, width_kept, limit_kept, count_kept, validity_kept, interval_kept, willing_kept}
 use Rattle.mesh_wire.proofs.HelloRead.{rule_found, rows_found}

@@ -1,25 +1,5 @@
 -- Each message reads as a TC or breaks a first rule of one.
-use Rattle.std.proofs.Common.{◌≡◌, ℕ, ◌<◌, ◌⊎◌, inl, inr, refl, arith, List, map}
-use Rattle.std.specs.Prelude.{Option, Some, None}
-use Rattle.std.proofs.lemmas.Bool.{cases_eq}
-use Rattle.mesh_atoms.specs.declared.addr.Addr4.{Addr4}
-use Rattle.mesh_atoms.specs.declared.tc.Tc.{Tc}
-use Rattle.mesh_atoms.specs.Octets.{address_in}
-use Rattle.mesh_atoms.proofs.Options.{none_not}
-use Rattle.mesh_addr.specs.declared.records.RawAddr.{RawAddr}
-use Rattle.mesh_packet.specs.Fields.{MessageFields}
-use Rattle.mesh_wire.specs.declared.tc.TcHeader.{TcHeader}
-use Rattle.mesh_wire.specs.declared.collect.AddressParts.{AddressParts}
-use Rattle.mesh_wire.specs.Entries.{of_blocks}
-use Rattle.mesh_wire.specs.Hello.{OriginatorIs}
-use Rattle.mesh_wire.specs.Laws.{HasOctets, ReadsOrBreaks}
-use Rattle.mesh_wire.specs.Made.{BreakNone}
-use Rattle.mesh_wire.specs.RowRules.{tc_rule}
-use Rattle.mesh_wire.specs.Rules.{Keeps}
-use Rattle.mesh_wire.specs.Tc.{TcIs}
-use Rattle.mesh_wire.specs.TcHeading.{TcHeadingIs, tc_row}
-use Rattle.mesh_wire.specs.TcRules.{BreaksTc, AddressWidth, NoOriginator, NoSequence, NoValidity, WrongInterval, Content}
-use Rattle.mesh_wire.specs.Times.{distance_of}
+use Rattle.mesh_wire.proofs.Common.{◌≡◌, ℕ, ◌<◌, ◌⊎◌, inl, inr, refl, arith, List, map, Option, Some, None, cases_eq, Addr4, Tc, address_in, none_not, RawAddr, MessageFields, TcHeader, AddressParts, of_blocks, OriginatorIs, HasOctets, ReadsOrBreaks, BreakNone, tc_rule, Keeps, TcIs, TcHeadingIs, tc_row, BreaksTc, AddressWidth, NoOriginator, NoSequence, NoValidity, WrongInterval, Content, distance_of}
 use Rattle.mesh_wire.proofs.Deciding.{validity_or, interval_or, content_or}
 use Rattle.mesh_wire.proofs.InOrder.{NoneBelow, Decided, Outcome, first_or_none, of_either, of_rows}
 use Rattle.mesh_wire.proofs.TcHeading.{first_number, width_kept, header_kept, validity_kept, interval_kept, content_kept, an_originator}

@@ -1,18 +1,8 @@
 -- The entries of a message say what the message does.
-use Rattle.std.proofs.Common.{◌≡◌, ℕ, zero, suc, ◌+◌, ◌-◌, ◌<◌, ◌≤◌, inl, inr, refl, sym, ◌∙◌, ap, subst, arith, List, [], ◌∷◌, Contains, slice_range}
-use Rattle.std.specs.Prelude.{Some, None, slice_get, drop, ◌==◌}
-use Rattle.std.proofs.lemmas.Bool.{cases_Bool, eq-eqb, eqb-true}
-use Rattle.mesh_atoms.specs.declared.addr.NetAddr.{NetAddr}
-use Rattle.mesh_addr.specs.declared.records.RawAddr.{RawAddr}
-use Rattle.mesh_tlv.specs.Fields.{TlvFields, AddrTlvFields}
-use Rattle.mesh_packet.specs.Fields.{BlockFields, MessageFields}
-use Rattle.mesh_wire.specs.Entries.{Entry, standing, tellings, of_tlv, of_tlvs, of_block, of_blocks}
-use Rattle.mesh_wire.specs.Parts.{IsIn, octets_of, value_at}
-use Rattle.mesh_wire.specs.Rows.{HoldsAddress, HasValue}
+use Rattle.mesh_wire.proofs.Common.{◌≡◌, ℕ, zero, suc, ◌+◌, ◌-◌, ◌<◌, ◌≤◌, inl, inr, refl, sym, ◌∙◌, ap, subst, arith, List, [], ◌∷◌, Contains, slice_range, Some, None, slice_get, drop, ◌==◌, cases_Bool, eq-eqb, eqb-true, NetAddr, RawAddr, TlvFields, AddrTlvFields, BlockFields, MessageFields, Entry, standing, tellings, of_tlv, of_tlvs, of_block, of_blocks, IsIn, octets_of, value_at, HoldsAddress, HasValue, contains_head as at_head, contains_tail as in_tail, contains_cases, contains_none as none_in}
 use Rattle.mesh_wire.proofs.Collected.{AnyOf, StandsOf, SaysOf, any_front, any_back, any_either}
 use Rattle.mesh_wire.proofs.Collecting.{of_one, one_of}
 use Rattle.mesh_wire.proofs.Standing.{get_drop, get_take, covered}
-use Rattle.mesh_atoms.proofs.Lists.{contains_head as at_head, contains_tail as in_tail, contains_cases, contains_none as none_in}
 
 -- ---- addresses
 

@@ -1,26 +1,8 @@
 -- Small messages and what they read as.
-use Rattle.std.proofs.Common.{◌≡◌, ℕ, zero, suc, ◌≤◌, inl, inr, List, [], ◌∷◌, refl, sym, ap, subst, ◌∙◌, arith, lit≤, lit<}
-use Rattle.std.specs.Prelude.{Contains, Option, Some, None, slice_get}
-use Rattle.mesh_atoms.specs.declared.addr.NetAddr.{NetAddr}
-use Rattle.mesh_atoms.specs.declared.hello.HelloRow.{HelloRow}
-use Rattle.mesh_atoms.specs.declared.hello.LocalIf.TheVariants.{This}
-use Rattle.mesh_wire.specs.Hello.{HelloIs, IsReadHelloRow}
-use Rattle.mesh_wire.specs.Kinds.{local_if, link_status, link_metric}
-use Rattle.mesh_addr.specs.declared.records.RawAddr.{RawAddr}
-use Rattle.mesh_tlv.specs.Fields.{TlvFields, AddrTlvFields}
-use Rattle.mesh_packet.specs.Fields.{BlockFields, MessageFields}
-use Rattle.mesh_wire.specs.Parts.{IsIn, part_at, octets_of}
-use Rattle.mesh_wire.specs.Rows.{HoldsAddressAt, HoldsAddress, HasPart, HasValue}
-use Rattle.mesh_wire.specs.HelloRules.{BreaksHello, AddressWidth, HopLimit, HopCount, NoValidity, WrongInterval, WrongWilling, Undefined, TwoValues, ShortPrefix, WrongMetric}
-use Rattle.mesh_wire.specs.Rules.{FirstBroken, Keeps}
-use Rattle.mesh_wire.specs.Examples.{own, own_net, local, own_block, lone, own_row, lone_hello, bare, near, near_net, states, two_near}
-use Rattle.mesh_wire.specs.declared.octets.OctetKind.{OctetKind}
-use Rattle.mesh_wire.specs.declared.octets.OctetKind.TheVariants.{Local}
-use Rattle.mesh_wire.specs.OctetKinds.{type_of, is_value, IsOctetOf}
+use Rattle.mesh_wire.proofs.Common.{◌≡◌, ℕ, zero, suc, ◌≤◌, inl, inr, List, [], ◌∷◌, refl, sym, ap, subst, ◌∙◌, arith, lit≤, lit<, Contains, Option, Some, None, slice_get, NetAddr, HelloRow, This, HelloIs, IsReadHelloRow, local_if, link_status, link_metric, RawAddr, TlvFields, AddrTlvFields, BlockFields, MessageFields, IsIn, part_at, octets_of, HoldsAddressAt, HoldsAddress, HasPart, HasValue, BreaksHello, HopLimit, HopCount, WrongWilling, Undefined, TwoValues, FirstBroken, Keeps, own, own_net, local, own_block, lone, own_row, lone_hello, bare, near, near_net, states, two_near, OctetKind, Local, type_of, is_value, IsOctetOf, same_net, contains_one as only}
+use Rattle.mesh_wire.specs.HelloRules.{AddressWidth, NoValidity, WrongInterval, ShortPrefix, WrongMetric}
 use Rattle.mesh_wire.proofs.OctetKinds.{same_type}
 use Rattle.mesh_wire.proofs.Statuses.{sender_alone}
-use Rattle.mesh_atoms.proofs.Nets.{same_net}
-use Rattle.mesh_atoms.proofs.Lists.{contains_one as only}
 
 -- ---- lists of one
 

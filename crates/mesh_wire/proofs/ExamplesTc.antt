@@ -1,21 +1,7 @@
 -- A TC whose addresses are of no known type: the first rule that is broken, and the least address.
-use Rattle.std.proofs.Common.{◌≡◌, ℕ, zero, suc, ◌≤◌, ◌⊎◌, inl, inr, List, [], ◌∷◌, false, refl, sym, ap, ◌∙◌, subst, arith, lit≤, lit<}
-use Rattle.std.specs.Prelude.{Option, Some, None, slice_get}
-use Rattle.std.proofs.lemmas.Bool.{false≢true}
-use Rattle.mesh_atoms.specs.declared.addr.NetAddr.{NetAddr}
-use Rattle.mesh_atoms.specs.Nodes.{IsAtMost}
-use Rattle.mesh_wire.specs.Kinds.{nbr_addr_type}
-use Rattle.mesh_addr.specs.declared.records.RawAddr.{RawAddr}
-use Rattle.mesh_packet.specs.Fields.{BlockFields}
-use Rattle.mesh_wire.specs.Parts.{IsIn}
-use Rattle.mesh_wire.specs.Rows.{HoldsAddressAt, HoldsAddress, HasValue}
-use Rattle.mesh_wire.specs.Rules.{FirstBroken, IsLow}
+use Rattle.mesh_wire.proofs.Common.{◌≡◌, ℕ, zero, suc, ◌≤◌, ◌⊎◌, inl, inr, List, [], ◌∷◌, false, refl, sym, ap, ◌∙◌, subst, arith, lit≤, lit<, Option, Some, None, slice_get, false≢true, NetAddr, IsAtMost, nbr_addr_type, RawAddr, BlockFields, IsIn, HoldsAddressAt, HoldsAddress, HasValue, FirstBroken, IsLow, is_value, IsOctetOf, BreaksTc, AddressWidth, NoOriginator, NoSequence, NoValidity, WrongInterval, Content, AddrType, TwoAddrTypes, ShortPrefix, own, own_net, near, unknown, pair, odd_types, contains_one as only}
 use Rattle.mesh_wire.specs.declared.octets.OctetKind.TheVariants as kinds
-use Rattle.mesh_wire.specs.OctetKinds.{is_value, IsOctetOf}
-use Rattle.mesh_wire.specs.TcRules.{BreaksTc, AddressWidth, NoOriginator, NoSequence, NoValidity, WrongInterval, Content, AddrType, TwoAddrTypes, ShortPrefix}
-use Rattle.mesh_wire.specs.Examples.{own, own_net, near, unknown, pair, odd_types}
 use Rattle.mesh_wire.proofs.Examples.{says}
-use Rattle.mesh_atoms.proofs.Lists.{contains_one as only}
 
 own_at : HoldsAddressAt odd_types pair 1 own_net
 own_at = record { address = own; in_message = (0, lit< tt, refl); in_block = refl; is_in = record { prefix = refl; number = refl } }

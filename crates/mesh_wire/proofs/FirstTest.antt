@@ -1,9 +1,5 @@
 -- The number of the first of several tests that is passed.
-use Rattle.std.proofs.Common.{◌≡◌, ℕ, ◌≤◌, inl, inr, refl, ◌∙◌, ap, subst, arith, Bool, true, false, List, [], ◌∷◌}
-use Rattle.std.specs.Prelude.{Contains, Option, Some, None, slice_get}
-use Rattle.mesh_atoms.proofs.Lists.{contains_at, contains_cases, contains_none as none_in}
-use Rattle.mesh_atoms.proofs.Options.{some_equal}
-use Rattle.mesh_wire.specs.RowRules.{first_passed}
+use Rattle.mesh_wire.proofs.Common.{◌≡◌, ℕ, ◌≤◌, inl, inr, refl, ◌∙◌, ap, subst, arith, Bool, true, false, List, [], ◌∷◌, Contains, Option, Some, None, slice_get, contains_at, contains_cases, contains_none as none_in, some_equal, first_passed}
 
 -- numbers rise, from that one on
 abbrev pub Rise : ℕ → List (Bool × ℕ) → Type 0

@@ -1,29 +1,10 @@
 -- Messages of at most 1,100 lines can be encoded, and fit a datagram.
-use Rattle.std.proofs.Common.{◌≡◌, ℕ, ◌+◌, ◌*◌, ◌<◌, ◌≤◌, List, [], ◌∷◌, ◌++◌, length, take, drop, map, refl, sym, ap, subst, ◌∙◌, arith, lit≤, lit<, length-append, length-take, length-drop}
-use Rattle.std.specs.Prelude.{Contains, All, Option, Some, None, Bool, true, false, cond}
-use Rattle.std.specs.Option.{option_map}
-use Rattle.std.specs.List.{flat_map, AllByRecursion}
-use Rattle.std.proofs.lemmas.List.{length-map}
-use Rattle.std.proofs.lemmas.List.Elements.{All-from_recursion, Contains-append_left, Contains-append_right}
-use Rattle.mesh_atoms.specs.declared.addr.Addr4.{Addr4}
-use Rattle.mesh_addr.specs.declared.records.RawAddr.{RawAddr}
-use Rattle.mesh_addr.specs.Grammar.{prefixes, SpellsMids, SpellsBlock, AreAtMost, AreRaw}
+use Rattle.mesh_wire.proofs.Common.{◌≡◌, ℕ, ◌+◌, ◌*◌, ◌<◌, ◌≤◌, List, [], ◌∷◌, ◌++◌, length, take, drop, map, refl, sym, ap, subst, ◌∙◌, arith, lit≤, lit<, length-append, length-take, length-drop, Contains, All, Option, Some, None, Bool, true, false, cond, option_map, flat_map, AllByRecursion, length-map, All-from_recursion, Contains-append_left, Contains-append_right, Addr4, RawAddr, prefixes, SpellsMids, SpellsBlock, AreAtMost, AreRaw, BlockFields, MessageFields, IsPaddedOriginator, IsEncodableBlock, IsEncodableMessage, least_octet, least_number, least_originator, message_flags, LeastPair, LeastBody, LeastMessage, LeastForm, SpellsItems, IsFit, octet_if, least_short, least_length, least_value, least_addr_tlv, least_tlv, least_block, Octet, LinkIn, LinkOut, NearIn, NearOut, AddressRecord, OctetKind, whole, saying, heading_of, FitsAlone, columns, metric_columns, raw_of, has_part, IsBlock, AreBlocks, contains_head as at_head, contains_tail as in_tail, contains_map_cases}
 use Rattle.mesh_addr.specs.Least.{IsLeast}
-use Rattle.mesh_packet.specs.Fields.{BlockFields, MessageFields}
 use Rattle.mesh_packet.specs.Least as packets
-use Rattle.mesh_packet.specs.Least.{IsPaddedOriginator, IsEncodableBlock, IsEncodableMessage, least_octet, least_number, least_originator, message_flags, LeastPair, LeastBody, LeastMessage, LeastForm}
-use Rattle.mesh_tlv.specs.Items.{SpellsItems}
 use Rattle.mesh_tlv.specs.Least as tlvs
-use Rattle.mesh_tlv.specs.Least.{IsFit, octet_if, least_short, least_length, least_value, least_addr_tlv, least_tlv, least_block}
-use Rattle.mesh_wire.specs.declared.lines.AddressTlvKind.TheVariants.{Octet, LinkIn, LinkOut, NearIn, NearOut}
-use Rattle.mesh_wire.specs.declared.lines.AddressRecord.{AddressRecord}
-use Rattle.mesh_wire.specs.declared.octets.OctetKind.{OctetKind}
-use Rattle.mesh_wire.specs.Drafts.{whole, saying, heading_of, FitsAlone}
-use Rattle.mesh_wire.specs.Lines.{columns, metric_columns}
-use Rattle.mesh_wire.specs.Runs.{raw_of, has_part, IsBlock, AreBlocks}
 use Rattle.mesh_wire.proofs.Laid.{runs_of_all, all_short, octets_in}
 use Rattle.mesh_wire.proofs.RunLaws.{head_long, length_short}
-use Rattle.mesh_atoms.proofs.Lists.{contains_head as at_head, contains_tail as in_tail, contains_map_cases}
 
 -- ---- what can be encoded
 

@@ -1,13 +1,5 @@
 -- The validity that a value of times tells, at each distance.
-use Rattle.std.proofs.Common.{◌≡◌, ℕ, ◌%◌, ◌<◌, List, [], ◌∷◌, length, refl, arith}
-use Rattle.std.specs.Prelude.{Bool, true, false, cond, nat_lt}
-use Rattle.mesh_atoms.specs.Codes.Codes.{time_value, IsSentCode, time_at_distance}
-use Rattle.mesh_atoms.specs.Validity.{IsTimeValue, Everywhere, Up_to}
-use Rattle.mesh_atoms.proofs.CodesLemmas.CodeLaws.{time-less}
-use Rattle.mesh_packet.specs.Fields.{MessageFields}
-use Rattle.mesh_wire.specs.Kinds.{validity_time}
-use Rattle.mesh_wire.specs.Parts.{values_of}
-use Rattle.mesh_wire.specs.Times.{ValidityIs}
+use Rattle.mesh_wire.proofs.Common.{◌≡◌, ℕ, ◌%◌, ◌<◌, List, [], ◌∷◌, length, refl, arith, Bool, true, false, cond, nat_lt, time_value, IsSentCode, time_at_distance, IsTimeValue, Everywhere, Up_to, time-less, MessageFields, validity_time, values_of, ValidityIs}
 
 pub code_above : (code : ℕ) → IsSentCode code → 0 < time_value code
 code_above code sent = let less : time_value 0 < time_value code = time-less 0 code (omega (arith, sent.0)) in omega (arith, less)

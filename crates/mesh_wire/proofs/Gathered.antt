@@ -1,22 +1,10 @@
 -- The rows of a message's addresses, once all is told, are what is kept of its networks.
-use Rattle.std.proofs.Common.{◌≡◌, ℕ, zero, suc, ◌⊎◌, inl, inr, refl, sym, ◌∙◌, ap, subst, arith, List, [], ◌∷◌, ◌++◌, length, take}
-use Rattle.std.specs.Prelude.{Contains, Option, Some, None, slice_get}
+use Rattle.mesh_wire.proofs.Common.{◌≡◌, ℕ, zero, suc, ◌⊎◌, inl, inr, refl, sym, ◌∙◌, ap, subst, arith, List, [], ◌∷◌, ◌++◌, length, take, Contains, Option, Some, None, slice_get, NetAddr, RawAddr, BlockFields, MessageFields, AddressParts, RowParts, AreCollected, Entry, standing, of_tlvs, of_block, of_blocks, collected, IsIn, addresses, IsRowOf, IsTable, AreAt, TellsRows, after, tell, no_parts, contains_cases, contains_none as none_in, item_at as get_some, contains_at, place_in}
 use Rattle.std.proofs.lemmas.List.{take_at}
-use Rattle.mesh_atoms.specs.declared.addr.NetAddr.{NetAddr}
-use Rattle.mesh_addr.specs.declared.records.RawAddr.{RawAddr}
-use Rattle.mesh_packet.specs.Fields.{BlockFields, MessageFields}
-use Rattle.mesh_wire.specs.declared.collect.AddressParts.{AddressParts}
-use Rattle.mesh_wire.specs.declared.parts.RowParts.{RowParts}
-use Rattle.mesh_wire.specs.Collects.{AreCollected}
-use Rattle.mesh_wire.specs.Entries.{Entry, standing, of_tlvs, of_block, of_blocks, collected}
-use Rattle.mesh_wire.specs.Parts.{IsIn}
-use Rattle.mesh_wire.specs.Standing.{addresses, IsRowOf, IsTable, AreAt, TellsRows, after, tell}
-use Rattle.mesh_wire.specs.KeptParts.{no_parts}
 use Rattle.mesh_wire.proofs.Collected.{AnyOf, At, StandsOf, any_front, any_back, collected_is}
 use Rattle.mesh_wire.proofs.Collecting.{one_net, in_none, all_after}
 use Rattle.mesh_wire.proofs.Entries.{there_stands, has_of}
 use Rattle.mesh_wire.proofs.Standing.{get_within, get_or_index, at_told, told_at}
-use Rattle.mesh_atoms.proofs.Lists.{contains_cases, contains_none as none_in, item_at as get_some, contains_at, place_in}
 
 either_part : {X : Type 0} (xs ys : List X) (p : ℕ) (x : X) → slice_get (xs ++ ys) p ≡ Some x → (slice_get xs p ≡ Some x) ⊎ ((q : ℕ) × (slice_get ys q ≡ Some x))
 either_part [] ys p x e = inr (p, e)

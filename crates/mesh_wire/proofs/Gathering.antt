@@ -1,20 +1,8 @@
 -- What is kept of a message's addresses, made by no more than its entries.
-use Rattle.std.proofs.Common.{◌≡◌, ℕ, ◌-◌, ◌%◌, ◌^◌, ◌⊎◌, inl, inr, refl, sym, subst, ◌∙◌, arith, List, [], ◌∷◌}
-use Rattle.std.specs.Prelude.{Contains, AllPairs, Some, None, ◌==◌}
-use Rattle.std.proofs.lemmas.Bool.{cases_lt, cases_eq, eq-eqb, eqb-true, and_parts as both, and_from as and_both}
-use Rattle.mesh_atoms.specs.declared.addr.NetAddr.{NetAddr}
-use Rattle.mesh_atoms.specs.Nodes.{IsBefore}
-use Rattle.mesh_atoms.proofs.Nets.{same_net}
-use Rattle.mesh_wire.specs.declared.collect.AddressParts.{AddressParts}
-use Rattle.mesh_wire.specs.Collects.{AreCollected}
-use Rattle.mesh_wire.specs.Entries.{Entry, collected}
-use Rattle.mesh_wire.specs.Standing.{after}
-use Rattle.mesh_wire.specs.KeptParts.{no_parts}
+use Rattle.mesh_wire.proofs.Common.{◌≡◌, ℕ, ◌-◌, ◌%◌, ◌^◌, ◌⊎◌, inl, inr, refl, sym, subst, ◌∙◌, arith, List, [], ◌∷◌, Contains, AllPairs, Some, None, ◌==◌, cases_lt, cases_eq, eq-eqb, eqb-true, and_parts as both, and_from as and_both, NetAddr, IsBefore, same_net, AddressParts, AreCollected, Entry, collected, after, no_parts, before_trans, same_addr, contains_head as at_head, contains_tail as in_tail, contains_cases, contains_none as none_in, all_pairs_tail, all_pairs_head, all_pairs_cons}
 use Rattle.mesh_wire.proofs.Collected.{AnyOf, StandsOf, SaysOf, collected_is}
 use Rattle.mesh_wire.proofs.Collecting.{all_after}
 use Rattle.mesh_wire.proofs.Gathered.{stands_if}
-use Rattle.mesh_atoms.proofs.Values.{before_trans, same_addr}
-use Rattle.mesh_atoms.proofs.Lists.{contains_head as at_head, contains_tail as in_tail, contains_cases, contains_none as none_in, all_pairs_tail, all_pairs_head, all_pairs_cons}
 
 -- ---- the network of an entry
 

@@ -1,22 +1,6 @@
 -- What the message TLVs of a written message say.
-use Rattle.std.proofs.Common.{◌≡◌, ℕ, ◌/◌, ◌%◌, ◌<◌, ◌≤◌, ◌⊎◌, inl, inr, List, [], ◌∷◌, ◌++◌, take, refl, sym, ap, subst, ◌∙◌, arith}
-use Rattle.std.specs.Prelude.{drop, ◌==◌, Contains, Option, Some, None, Bool, true, false, cond}
-use Rattle.std.specs.Option.{is_some}
-use Rattle.std.proofs.lemmas.List.Elements.{Contains-append_cases}
-use Rattle.mesh_atoms.specs.declared.hello.Willing.{Willing}
-use Rattle.mesh_packet.specs.Fields.{MessageFields}
-use Rattle.mesh_tlv.specs.Fields.{TlvFields}
-use Rattle.mesh_wire.specs.Drafts.{IsCodeOf, IsCodeIfSome, octet_of, saying, heading_of}
-use Rattle.mesh_wire.specs.Hello.{WillingIs}
-use Rattle.mesh_wire.specs.Kinds.{interval_time, validity_time, mpr_willing, cont_seq_num}
-use Rattle.mesh_wire.specs.Tc.{ContentIs}
-use Rattle.mesh_wire.specs.TcHeading.{contents_in}
-use Rattle.mesh_wire.specs.Parts.{values_of}
-use Rattle.mesh_wire.specs.Times.{ValidityIs, IntervalIs}
-use Rattle.mesh_wire.specs.Values.{values_in}
-use Rattle.mesh_wire.specs.Writes.{HasInterval, IsReadOfHello, IsReadOfTc}
+use Rattle.mesh_wire.proofs.Common.{◌≡◌, ℕ, ◌/◌, ◌%◌, ◌<◌, ◌≤◌, ◌⊎◌, inl, inr, List, [], ◌∷◌, ◌++◌, take, refl, sym, ap, subst, ◌∙◌, arith, drop, ◌==◌, Contains, Option, Some, None, Bool, true, false, cond, is_some, Contains-append_cases, Willing, MessageFields, TlvFields, IsCodeOf, IsCodeIfSome, octet_of, saying, heading_of, WillingIs, interval_time, validity_time, mpr_willing, cont_seq_num, ContentIs, contents_in, values_of, ValidityIs, IntervalIs, values_in, HasInterval, IsReadOfHello, IsReadOfTc, contains_cases, contains_none as none_in}
 use Rattle.mesh_wire.proofs.Further.{code_above}
-use Rattle.mesh_atoms.proofs.Lists.{contains_cases, contains_none as none_in}
 
 -- ---- both messages: validity v, interval i and another TLV, of MPR_WILLING or CONT_SEQ_NUM
 

@@ -1,12 +1,6 @@
 -- The rules on what a HELLO says before its rows, one by one.
-use Rattle.std.proofs.Common.{◌≡◌, ℕ, arith}
-use Rattle.std.specs.Prelude.{◌≢◌, ◌==◌, Option, cond}
-use Rattle.mesh_atoms.specs.declared.addr.NetAddr.{NetAddr}
-use Rattle.mesh_packet.specs.Fields.{MessageFields}
-use Rattle.mesh_wire.specs.Hello.{HasWilling}
-use Rattle.mesh_wire.specs.HelloHeading.{IsOther}
-use Rattle.mesh_wire.specs.HelloRules.{BreaksHello, AddressWidth, HopLimit, HopCount, NoValidity, WrongInterval, WrongWilling}
-use Rattle.mesh_wire.specs.Times.{ValidityIs, IntervalIs}
+use Rattle.mesh_wire.proofs.Common.{◌≡◌, ℕ, arith, ◌≢◌, ◌==◌, Option, cond, NetAddr, MessageFields, HasWilling, IsOther, BreaksHello, HopLimit, HopCount, WrongWilling, ValidityIs, IntervalIs}
+use Rattle.mesh_wire.specs.HelloRules.{AddressWidth, NoValidity, WrongInterval}
 use Rattle.mesh_wire.proofs.InOrder.{NoneBelow, one_further}
 
 -- what is wrong where the rule of a number is broken

@@ -1,23 +1,6 @@
 -- What the reading of a HELLO answers.
-use Rattle.std.proofs.Common.{◌≡◌, ℕ, Result, Ok, Err, List, map}
-use Rattle.std.specs.Prelude.{Option, IfOk, IfErr}
-use Rattle.mesh_atoms.specs.declared.addr.NetAddr.{NetAddr}
-use Rattle.mesh_atoms.specs.declared.hello.HelloRow.{HelloRow}
-use Rattle.mesh_packet.specs.Fields.{MessageFields}
-use Rattle.mesh_wire.specs.declared.fault.WireFault.{WireFault}
+use Rattle.mesh_wire.proofs.Common.{◌≡◌, ℕ, Result, Ok, Err, List, map, Option, IfOk, IfErr, NetAddr, HelloRow, MessageFields, WireFault, HelloHeader, IfBroken, GivesValue, RefusesAt, AddressParts, of_blocks, IsReadHelloRow, HeadingIs, hello_row, BreaksHello, BreakNone, HasBroken, hello_rule, AreRows, FirstBroken, Keeps}
 use Rattle.mesh_wire.specs.declared.fault.WireFault.TheVariants as faults
-use Rattle.mesh_wire.specs.declared.hello.HelloHeader.{HelloHeader}
-use Rattle.mesh_wire.specs.Answers.{IfBroken, GivesValue, RefusesAt}
-use Rattle.mesh_wire.specs.declared.collect.AddressParts.{AddressParts}
-use Rattle.mesh_wire.specs.Entries.{of_blocks}
-use Rattle.mesh_wire.specs.Hello.{IsReadHelloRow}
-use Rattle.mesh_wire.specs.HelloHeading.{HeadingIs}
-use Rattle.mesh_wire.specs.HelloRows.{hello_row}
-use Rattle.mesh_wire.specs.HelloRules.{BreaksHello}
-use Rattle.mesh_wire.specs.Made.{BreakNone, HasBroken}
-use Rattle.mesh_wire.specs.RowRules.{hello_rule}
-use Rattle.mesh_wire.specs.Rows.{AreRows}
-use Rattle.mesh_wire.specs.Rules.{FirstBroken, Keeps}
 use Rattle.mesh_wire.proofs.HelloHeading.{past_count, past_validity, past_interval, past_willing}
 use Rattle.mesh_wire.proofs.HelloRows.{rows_are}
 use Rattle.mesh_wire.proofs.HelloRuled.{sound_of, hello_decides}

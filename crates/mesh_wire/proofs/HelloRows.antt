@@ -1,28 +1,5 @@
 -- Rows that are made of what is kept are the rows of the HELLO.
-use Rattle.std.proofs.Common.{◌≡◌, ℕ, inl, inr, refl, sym, subst, Bool, false, List, [], ◌∷◌, map, Contains}
-use Rattle.std.specs.Prelude.{◌↔◌, Option, Some, None, IsTrue}
-use Rattle.std.specs.Option.{option_map}
-use Rattle.mesh_atoms.specs.declared.addr.NetAddr.{NetAddr}
-use Rattle.mesh_atoms.specs.declared.codes.metric.Metric.{Metric}
-use Rattle.mesh_atoms.specs.declared.hello.LocalIf.{LocalIf}
-use Rattle.mesh_atoms.specs.declared.hello.HelloRow.{HelloRow}
-use Rattle.mesh_packet.specs.Fields.{MessageFields}
-use Rattle.mesh_wire.specs.declared.collect.AddressParts.{AddressParts}
-use Rattle.mesh_wire.specs.declared.singles.Single.{Single}
-use Rattle.mesh_wire.specs.declared.singles.Single.TheVariants.{Absent, Value, Conflict}
-use Rattle.mesh_wire.specs.declared.octets.OctetKind.{OctetKind}
-use Rattle.mesh_wire.specs.declared.octets.OctetKind.TheVariants.{Local, Mpr}
-use Rattle.mesh_wire.specs.declared.octets.ByKind.{ByKind}
-use Rattle.mesh_wire.specs.declared.octets.Octets.{Octets}
-use Rattle.mesh_wire.specs.declared.parts.MetricParts.{MetricParts}
-use Rattle.mesh_wire.specs.Hello.{local_value, IsReadHelloRow}
-use Rattle.mesh_wire.specs.HelloRows.{local_from, row_with, hello_row}
-use Rattle.mesh_wire.specs.KeptParts.{octet_in, metric_at}
-use Rattle.mesh_wire.specs.Kinds.{local_if, mpr, link_metric}
-use Rattle.mesh_wire.specs.Metrics.{MetricKind, Link_in, metric_of, ShowsMetric, MetricIs}
-use Rattle.mesh_wire.specs.OctetKinds.{statuses, type_of, at}
-use Rattle.mesh_wire.specs.Rows.{HasValue, OctetIs, SaysFlag, AreRows}
-use Rattle.mesh_wire.specs.Singles.{is_conflict, value_from}
+use Rattle.mesh_wire.proofs.Common.{◌≡◌, ℕ, inl, inr, refl, sym, subst, Bool, false, List, [], ◌∷◌, map, Contains, ◌↔◌, Option, Some, None, IsTrue, option_map, NetAddr, Metric, LocalIf, HelloRow, MessageFields, AddressParts, Single, Absent, Value, Conflict, OctetKind, Local, Mpr, ByKind, Octets, MetricParts, local_value, IsReadHelloRow, local_from, row_with, hello_row, octet_in, metric_at, local_if, mpr, link_metric, MetricKind, Link_in, metric_of, ShowsMetric, MetricIs, statuses, type_of, at, HasValue, OctetIs, SaysFlag, AreRows, is_conflict, value_from}
 use Rattle.mesh_wire.proofs.HelloRuled.{Sound}
 use Rattle.mesh_wire.proofs.Kept.{AreTold, octet_back, read_or, kept_value, metrics_told}
 use Rattle.mesh_wire.proofs.Made.{rows_made}

@@ -1,21 +1,6 @@
 -- The rules on the addresses of a HELLO, by tests of what is kept.
-use Rattle.std.proofs.Common.{◌≡◌, ℕ, ◌≤◌, inl, inr, refl, sym, ◌∙◌, ap, arith, Bool, true, false, List, Contains, lit≤, Decides}
-use Rattle.std.specs.Prelude.{◌&&◌, Option, Some, None, nat_lt, slice_get}
-use Rattle.std.proofs.lemmas.Bool.{false≢true, cases_Bool, ltb-true, lt-ltb, and_parts as both, and_from as and_both}
-use Rattle.mesh_atoms.specs.declared.addr.NetAddr.{NetAddr}
-use Rattle.mesh_atoms.proofs.Deciding.{Decides-some}
-use Rattle.mesh_packet.specs.Fields.{MessageFields}
-use Rattle.mesh_wire.specs.declared.collect.AddressParts.{AddressParts}
-use Rattle.mesh_wire.specs.declared.octets.OctetKind.{OctetKind}
-use Rattle.mesh_wire.specs.declared.octets.ByKind.{ByKind}
-use Rattle.mesh_wire.specs.declared.octets.Octets.{Octets}
-use Rattle.mesh_wire.specs.KeptParts.{metric_at}
-use Rattle.mesh_wire.specs.OctetKinds.{statuses, type_of, at}
-use Rattle.mesh_wire.specs.RowRules.{some_status, is_undefined, has_two, has_status, has_wrong_metric, hello_tests, hello_rule}
-use Rattle.mesh_wire.specs.HelloRules.{BreaksHello, AddressWidth, Undefined, TwoValues, ShortPrefix, WrongMetric}
-use Rattle.mesh_wire.specs.Metrics.{MetricKind}
-use Rattle.mesh_wire.specs.Rows.{HasValue}
-use Rattle.mesh_wire.specs.Singles.{is_conflict, is_said}
+use Rattle.mesh_wire.proofs.Common.{◌≡◌, ℕ, ◌≤◌, inl, inr, refl, sym, ◌∙◌, ap, arith, Bool, true, false, List, Contains, lit≤, Decides, ◌&&◌, Option, Some, None, nat_lt, slice_get, false≢true, cases_Bool, ltb-true, lt-ltb, and_parts as both, and_from as and_both, NetAddr, Decides-some, MessageFields, AddressParts, OctetKind, ByKind, Octets, metric_at, statuses, type_of, at, some_status, is_undefined, has_two, has_status, has_wrong_metric, hello_tests, hello_rule, BreaksHello, Undefined, TwoValues, MetricKind, HasValue, is_conflict, is_said}
+use Rattle.mesh_wire.specs.HelloRules.{AddressWidth, ShortPrefix, WrongMetric}
 use Rattle.mesh_wire.proofs.FirstTest.{AtMost, given, failed, passed, at_most_more}
 use Rattle.mesh_wire.proofs.Kept.{AreTold, says_has, no_value, none_read, said_found, type_said, two_found, two_said}
 use Rattle.mesh_wire.proofs.Ruled.{Decides as DecidesRule, Reaches}

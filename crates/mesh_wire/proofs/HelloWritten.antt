@@ -1,39 +1,6 @@
 -- What is written of a HELLO reads as it, breaks no rule, and has nothing that is ignored.
-use Rattle.std.proofs.Common.{◌≡◌, ℕ, ◌+◌, ◌/◌, ◌%◌, ◌≤◌, ◌⊎◌, inl, inr, List, [], ◌∷◌, length, take, map, refl, sym, ap, subst, ◌∙◌, arith, length-take}
-use Rattle.std.specs.Prelude.{slice_range, drop, Contains, AllPairs, Option, Some, None, IsSome, Bool, true, false}
-use Rattle.std.specs.Option.{option_map, is_some}
-use Rattle.std.proofs.lemmas.List.{length-map}
-use Rattle.std.proofs.lemmas.List.Elements.{Contains-append_cases}
-use Rattle.mesh_atoms.specs.declared.addr.Addr4.{Addr4}
-use Rattle.mesh_atoms.specs.declared.addr.NetAddr.{NetAddr}
-use Rattle.mesh_atoms.specs.declared.hello.LocalIf.{LocalIf}
-use Rattle.mesh_atoms.specs.declared.hello.HelloRow.{HelloRow}
-use Rattle.mesh_atoms.specs.declared.hello.Hello.{Hello}
-use Rattle.mesh_atoms.specs.declared.codes.metric.Metric.{Metric}
-use Rattle.mesh_atoms.specs.Nodes.{IsBefore}
-use Rattle.mesh_addr.specs.declared.records.RawAddr.{RawAddr}
-use Rattle.mesh_atoms.specs.Writable.{HaveSenderAlone, HaveStatusWhole, IsAlone}
-use Rattle.mesh_packet.specs.Fields.{MessageFields, PacketFields}
-use Rattle.mesh_packet.specs.declared.packet.Span.{Span}
-use Rattle.mesh_packet.specs.Grammar.{Spells}
-use Rattle.mesh_packet.specs.Least.{IsEncodableMessage, LeastForm}
-use Rattle.mesh_tlv.specs.Fields.{TlvFields}
-use Rattle.mesh_wire.specs.declared.lines.AddressTlvKind.{AddressTlvKind}
-use Rattle.mesh_wire.specs.declared.lines.AddressTlvKind.TheVariants.{Octet, LinkIn, LinkOut, NearIn, NearOut}
-use Rattle.mesh_wire.specs.declared.octets.OctetKind.{OctetKind}
-use Rattle.mesh_wire.specs.declared.octets.OctetKind.TheVariants.{Local, Mpr}
-use Rattle.mesh_wire.specs.Drafts.{octet_of, whole, HasHelloValues, heading_of, IsHelloMessage, FitsAlone}
-use Rattle.mesh_wire.specs.Hello.{local_value, row_octet, OriginatorIs, TellsOther, IsReadHelloRow, HelloIs}
-use Rattle.mesh_wire.specs.HelloRows.{sender_row}
-use Rattle.mesh_wire.specs.HelloRules.{BreaksHello, AddressWidth, HopLimit, HopCount, NoValidity, WrongInterval, WrongWilling, Undefined, TwoValues, ShortPrefix, WrongMetric}
-use Rattle.mesh_wire.specs.Kinds.{validity_time, local_if, link_metric, mpr, mpr_willing}
-use Rattle.mesh_wire.specs.Lines.{kind_of, value_of, hello_line}
-use Rattle.mesh_wire.specs.Metrics.{MetricKind, Link_in, Link_out, Near_in, Near_out, flag_of, metric_of}
-use Rattle.mesh_wire.specs.OctetKinds.{statuses, hello_kinds, type_of, at, flags_number, IsOctetOf}
-use Rattle.mesh_wire.specs.Parts.{octets_of, values_of}
-use Rattle.mesh_wire.specs.Rows.{HasType, HasPart, HasValue, OctetIs}
-use Rattle.mesh_wire.specs.Rules.{Keeps}
-use Rattle.mesh_wire.specs.Writes.{IsSoleMessage, HasFlag, IsReadOfOther, IsReadOfHelloAddress, WritesHello, WritesLeastHello, alone, ReadsBackHello}
+use Rattle.mesh_wire.proofs.Common.{◌≡◌, ℕ, ◌+◌, ◌/◌, ◌%◌, ◌≤◌, ◌⊎◌, inl, inr, List, [], ◌∷◌, length, take, map, refl, sym, ap, subst, ◌∙◌, arith, length-take, slice_range, drop, Contains, AllPairs, Option, Some, None, IsSome, Bool, true, false, option_map, is_some, length-map, Contains-append_cases, Addr4, NetAddr, LocalIf, HelloRow, Hello, Metric, IsBefore, RawAddr, HaveSenderAlone, HaveStatusWhole, IsAlone, MessageFields, PacketFields, Span, Spells, IsEncodableMessage, LeastForm, TlvFields, AddressTlvKind, Octet, LinkIn, LinkOut, NearIn, NearOut, OctetKind, Local, Mpr, octet_of, whole, HasHelloValues, heading_of, IsHelloMessage, FitsAlone, local_value, row_octet, OriginatorIs, TellsOther, IsReadHelloRow, HelloIs, sender_row, BreaksHello, HopLimit, HopCount, WrongWilling, Undefined, TwoValues, validity_time, local_if, link_metric, mpr, mpr_willing, kind_of, value_of, hello_line, MetricKind, Link_in, Link_out, Near_in, Near_out, flag_of, metric_of, statuses, hello_kinds, type_of, at, flags_number, IsOctetOf, octets_of, values_of, HasType, HasPart, HasValue, OctetIs, Keeps, IsSoleMessage, HasFlag, IsReadOfOther, IsReadOfHelloAddress, WritesHello, WritesLeastHello, alone, ReadsBackHello, contains_one, none_not, some_equal}
+use Rattle.mesh_wire.specs.HelloRules.{AddressWidth, NoValidity, WrongInterval, ShortPrefix, WrongMetric}
 use Rattle.mesh_wire.proofs.Fits.{message_fits, HasFewParts, narrow_most, metric_most, lines_few, fits_alone}
 use Rattle.mesh_wire.proofs.Headings.{validity_told, one_validity, interval_is, interval_told, willing_is, read_of_hello}
 use Rattle.mesh_wire.proofs.Laid.{whole_number}
@@ -43,8 +10,6 @@ use Rattle.mesh_wire.proofs.OneHello.{one_hello}
 use Rattle.mesh_wire.proofs.RowLines.{alone_again}
 use Rattle.mesh_wire.proofs.Statuses.{apart, row_kind, defined, alone_row}
 use Rattle.mesh_wire.proofs.RowsSay.{rows_said, part_there, said_of, row_of, not_two, right_metric, octet_said, flags_said, metric_said}
-use Rattle.mesh_atoms.proofs.Lists.{contains_one}
-use Rattle.mesh_atoms.proofs.Options.{none_not, some_equal}
 
 -- ---- fewest parts
 

@@ -1,15 +1,9 @@
 -- A message's octets one hop further spell the message one hop further.
-use Rattle.std.proofs.Common.{◌≡◌, ◌≢◌, ℕ, zero, suc, ◌+◌, ◌-◌, ◌<◌, Bool, true, false, List, [], ◌∷◌, ◌++◌, length, map, Option, Some, None, refl, sym, ap, subst, ◌∙◌, arith, append_assoc}
-use Rattle.std.specs.Prelude.{IsTrue, option_map, slice_get, slice_index, slice_set}
-use Rattle.std.proofs.lemmas.List.{length-append, length-map, length-set, get_or-set_same, get_or-set_other}
-use Rattle.std.proofs.Math.Seq.{get_or-append_seam, set-append_seam}
+use Rattle.mesh_wire.proofs.Common.{◌≡◌, ◌≢◌, ℕ, zero, suc, ◌+◌, ◌-◌, ◌<◌, Bool, true, false, List, [], ◌∷◌, ◌++◌, length, map, Option, Some, None, refl, sym, ap, subst, ◌∙◌, arith, append_assoc, IsTrue, option_map, slice_get, slice_index, slice_set, length-append, length-map, length-set, get_or-set_same, get_or-set_other, get_or-append_seam, set-append_seam, has, MessageFields, SpellsMessage, SpellsOctet, HasHop, IsElsewhere, CanHop, one_hop_on, limit_place, count_place, flags_of, has_count, hopped_at, hopped}
 use Rattle.mesh_atoms.specs.Grammar.{SpellsShort}
-use Rattle.mesh_atoms.specs.Reading.{has}
 use Rattle.mesh_atoms.proofs.Reading.{two_long}
-use Rattle.mesh_packet.specs.Fields.{MessageFields}
-use Rattle.mesh_packet.specs.Grammar.{SpellsMessage, SpellsOctet, width_of}
+use Rattle.mesh_packet.specs.Grammar.{width_of}
 use Rattle.mesh_packet.proofs.Fields.{originator_field}
-use Rattle.mesh_wire.specs.Rehop.{HasHop, IsElsewhere, CanHop, one_hop_on, limit_place, count_place, flags_of, has_count, hopped_at, hopped}
 
 -- An octet that may be there
 

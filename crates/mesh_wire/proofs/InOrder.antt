@@ -1,14 +1,5 @@
 -- Rules that are looked at in the order of their numbers, up to the first that is broken.
-use Rattle.std.proofs.Common.{◌≡◌, ℕ, zero, suc, ◌+◌, ◌≤◌, ◌⊎◌, inl, inr, refl, sym, subst, arith, List, Contains}
-use Rattle.std.specs.Prelude.{Option, Some, None}
-use Rattle.std.proofs.lemmas.Bool.{cases_eq}
-use Rattle.mesh_atoms.specs.declared.addr.NetAddr.{NetAddr}
-use Rattle.mesh_packet.specs.Fields.{MessageFields}
-use Rattle.mesh_wire.specs.declared.collect.AddressParts.{AddressParts}
-use Rattle.mesh_wire.specs.Entries.{of_blocks}
-use Rattle.mesh_wire.specs.Made.{BreakNone, HasBroken}
-use Rattle.mesh_wire.specs.RowRules.{first_rule}
-use Rattle.mesh_wire.specs.Rules.{FirstBroken, Keeps}
+use Rattle.mesh_wire.proofs.Common.{◌≡◌, ℕ, zero, suc, ◌+◌, ◌≤◌, ◌⊎◌, inl, inr, refl, sym, subst, arith, List, Contains, Option, Some, None, cases_eq, NetAddr, MessageFields, AddressParts, of_blocks, BreakNone, HasBroken, first_rule, FirstBroken, Keeps}
 use Rattle.mesh_wire.proofs.Gathering.{gathered}
 use Rattle.mesh_wire.proofs.Kept.{AreTold, are_told}
 use Rattle.mesh_wire.proofs.Ruled.{Decides, rule_first, rule_none}

@@ -1,26 +1,5 @@
 -- What is kept of the addresses of a message.
-use Rattle.std.proofs.Common.{◌≡◌, ℕ, ◌⊎◌, inl, inr, refl, sym, ◌∙◌, ap, subst, Bool, true, false, cond, List, [], ◌∷◌, Contains}
-use Rattle.std.specs.Prelude.{Option, Some, None, ◌≢◌}
-use Rattle.mesh_atoms.specs.declared.addr.NetAddr.{NetAddr}
-use Rattle.mesh_atoms.specs.declared.codes.metric.Metric.{Metric}
-use Rattle.mesh_atoms.specs.Reading.{has}
-use Rattle.mesh_atoms.proofs.Options.{none_not, some_equal}
-use Rattle.mesh_packet.specs.Fields.{MessageFields}
-use Rattle.mesh_wire.specs.declared.collect.AddressParts.{AddressParts}
-use Rattle.mesh_wire.specs.declared.singles.Single.{Single}
-use Rattle.mesh_wire.specs.declared.singles.Single.TheVariants.{Absent, Value, Conflict}
-use Rattle.mesh_wire.specs.declared.octets.OctetKind.{OctetKind}
-use Rattle.mesh_wire.specs.declared.octets.Octets.{Octets}
-use Rattle.mesh_wire.specs.declared.parts.MetricParts.{MetricParts}
-use Rattle.mesh_wire.specs.declared.parts.RowParts.{RowParts}
-use Rattle.mesh_wire.specs.Collects.{AreCollected}
-use Rattle.mesh_wire.specs.Entries.{of_blocks, collected}
-use Rattle.mesh_wire.specs.KeptParts.{octet_in, shown_in, metric_at}
-use Rattle.mesh_wire.specs.Kinds.{link_metric}
-use Rattle.mesh_wire.specs.Metrics.{MetricKind, flag_of, metric_in, ShowsMetric}
-use Rattle.mesh_wire.specs.OctetKinds.{is_value, IsOctetOf}
-use Rattle.mesh_wire.specs.Rows.{HoldsAddress, HasValue, AreRows}
-use Rattle.mesh_wire.specs.Singles.{is_conflict, is_said, value_from}
+use Rattle.mesh_wire.proofs.Common.{◌≡◌, ℕ, ◌⊎◌, inl, inr, refl, sym, ◌∙◌, ap, subst, Bool, true, false, cond, List, [], ◌∷◌, Contains, Option, Some, None, ◌≢◌, NetAddr, Metric, has, none_not, some_equal, MessageFields, AddressParts, Single, Absent, Value, Conflict, OctetKind, Octets, MetricParts, RowParts, AreCollected, of_blocks, collected, octet_in, shown_in, metric_at, link_metric, MetricKind, flag_of, metric_in, ShowsMetric, is_value, IsOctetOf, HoldsAddress, HasValue, AreRows, is_conflict, is_said, value_from}
 use Rattle.mesh_wire.proofs.Collected.{AnyOf, At, StandsOf, SaysOf, collected_is}
 use Rattle.mesh_wire.proofs.Entries.{says_of, of_says, has_of, of_has}
 use Rattle.mesh_wire.proofs.Slots.{OneIs, one_same, Reads, OctetsAre, MetricsAre, RowIs, row_same}

@@ -1,33 +1,6 @@
 -- Blocks of lines say what the lines say.
-use Rattle.std.proofs.Common.{◌≡◌, ℕ, ◌+◌, ◌-◌, ◌*◌, ◌/◌, ◌%◌, ◌^◌, ◌<◌, ◌≤◌, inl, inr, List, [], ◌∷◌, ◌++◌, length, map, take, refl, sym, ap, subst, ◌∙◌, arith, length-append}
-use Rattle.std.specs.Prelude.{slice_get, Contains, Option, Some, None}
-use Rattle.std.specs.Option.{option_map}
-use Rattle.std.specs.List.{flat_map}
-use Rattle.std.proofs.Math.Nat.{mod-eq-sub-div-mul, div-mul-le_self}
-use Rattle.std.proofs.lemmas.List.{take_all}
-use Rattle.std.proofs.lemmas.List.Elements.{Contains-append_left, Contains-append_right, Contains-append_cases}
-use Rattle.std.proofs.lemmas.Grind.{flat_map-append}
-use Rattle.std.proofs.lemmas.Option.{slice_get-map}
-use Rattle.mesh_atoms.specs.declared.addr.Addr4.{Addr4}
-use Rattle.mesh_atoms.specs.declared.addr.NetAddr.{NetAddr}
-use Rattle.mesh_atoms.proofs.Nets.{same_net}
-use Rattle.mesh_atoms.specs.Octets.{address_in}
-use Rattle.mesh_addr.specs.declared.records.RawAddr.{RawAddr}
-use Rattle.mesh_packet.specs.Fields.{BlockFields, MessageFields}
-use Rattle.mesh_tlv.specs.Fields.{TlvFields, AddrTlvFields}
-use Rattle.mesh_tlv.specs.Least.{least_addr_tlv}
-use Rattle.mesh_wire.specs.declared.lines.AddressTlvKind.{AddressTlvKind}
-use Rattle.mesh_wire.specs.declared.lines.AddressTlvKind.TheVariants.{Octet, LinkIn, LinkOut, NearIn, NearOut}
-use Rattle.mesh_wire.specs.declared.lines.AddressRecord.{AddressRecord}
-use Rattle.mesh_wire.specs.Lines.{kind_of, most_of, value_of, columns, metric_columns}
-use Rattle.mesh_wire.specs.OctetKinds.{kinds}
-use Rattle.mesh_wire.specs.Parts.{octets_of, IsIn, value_at}
-use Rattle.mesh_wire.specs.Rows.{HoldsAddressAt, HoldsAddress, HasPart, HasValue}
-use Rattle.mesh_wire.specs.Runs.{host_octets, raw_of, present, IsColumnTlv, LaysAll, IsBlock, AreBlocks}
+use Rattle.mesh_wire.proofs.Common.{◌≡◌, ℕ, ◌+◌, ◌-◌, ◌*◌, ◌/◌, ◌%◌, ◌^◌, ◌<◌, ◌≤◌, inl, inr, List, [], ◌∷◌, ◌++◌, length, map, take, refl, sym, ap, subst, ◌∙◌, arith, length-append, slice_get, Contains, Option, Some, None, option_map, flat_map, mod-eq-sub-div-mul, div-mul-le_self, take_all, Contains-append_left, Contains-append_right, Contains-append_cases, flat_map-append, slice_get-map, Addr4, NetAddr, same_net, address_in, RawAddr, BlockFields, MessageFields, TlvFields, AddrTlvFields, least_addr_tlv, AddressTlvKind, Octet, LinkIn, LinkOut, NearIn, NearOut, AddressRecord, kind_of, most_of, value_of, columns, metric_columns, kinds, octets_of, IsIn, value_at, HoldsAddressAt, HoldsAddress, HasPart, HasValue, host_octets, raw_of, present, IsColumnTlv, LaysAll, IsBlock, AreBlocks, contains_at as at_place, contains_map, place_of, contains_head as at_head, contains_tail as in_tail, contains_cases, contains_none as none_in, same_addr, same_some}
 use Rattle.mesh_wire.proofs.OctetKinds.{each_kind}
-use Rattle.mesh_atoms.proofs.Lists.{contains_at as at_place, contains_map, place_of, contains_head as at_head, contains_tail as in_tail, contains_cases, contains_none as none_in}
-use Rattle.mesh_atoms.proofs.Values.{same_addr}
-use Rattle.mesh_atoms.proofs.Options.{same_some}
 
 -- ---- places of lists
 

@@ -1,12 +1,6 @@
 -- The least form of a packet of one message alone has each address block in the fewest octets.
-use Rattle.std.proofs.Common.{ℕ, ◌<◌, List, [], length, refl, sym, subst, arith}
-use Rattle.std.specs.Prelude.{slice_index}
-use Rattle.mesh_addr.specs.Grammar.{SpellsBlock}
-use Rattle.mesh_tlv.specs.Items.{SpellsItems}
-use Rattle.mesh_packet.specs.Fields.{BlockFields, MessageFields}
-use Rattle.mesh_packet.specs.Least.{IsEncodableBlock, IsEncodableMessage, LeastPair, LeastMessage, LeastForm}
+use Rattle.mesh_wire.proofs.Common.{ℕ, ◌<◌, List, [], length, refl, sym, subst, arith, slice_index, SpellsBlock, SpellsItems, BlockFields, MessageFields, IsEncodableBlock, IsEncodableMessage, LeastPair, LeastMessage, LeastForm, SpellsBriefly, HasBriefBlocks, IsSoleMessage, alone}
 use Rattle.mesh_packet.proofs.Spelled.{pair_spelled, items_spelled, width_told, body_spelled, message_spelled}
-use Rattle.mesh_wire.specs.Writes.{SpellsBriefly, HasBriefBlocks, IsSoleMessage, alone}
 
 brief_pair : (width : ℕ) (b : BlockFields) (text : List ℕ) → IsEncodableBlock width b → LeastPair b text → SpellsBriefly width b text
 unfolding pair_spelled

@@ -56,3 +56,4 @@ mod TcWritten
 mod Tests
 mod Texts
 mod Values
+mod Common

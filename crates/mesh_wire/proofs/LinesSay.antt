@@ -1,26 +1,8 @@
 -- What a message says of an address, by the fields of its line.
-use Rattle.std.proofs.Common.{◌≡◌, ℕ, ◌+◌, ◌/◌, ◌%◌, ◌<◌, ◌⊎◌, inl, inr, List, [], ◌∷◌, refl, sym, ap, subst, ◌∙◌, arith}
-use Rattle.std.specs.Prelude.{◌↔◌, ◌==◌, Contains, Option, Some, None, Bool, true, false, IsTrue, if◌then◌else◌}
-use Rattle.std.specs.Option.{option_map}
-use Rattle.std.proofs.lemmas.Bool.{eq-eqb, eqb-true}
-use Rattle.mesh_atoms.specs.declared.codes.metric.Metric.{Metric}
-use Rattle.mesh_atoms.specs.Reading.{has}
-use Rattle.mesh_atoms.proofs.Rows.{same_metric}
-use Rattle.mesh_packet.specs.Fields.{MessageFields}
+use Rattle.mesh_wire.proofs.Common.{◌≡◌, ℕ, ◌+◌, ◌/◌, ◌%◌, ◌<◌, ◌⊎◌, inl, inr, List, [], ◌∷◌, refl, sym, ap, subst, ◌∙◌, arith, ◌↔◌, ◌==◌, Contains, Option, Some, None, Bool, true, false, IsTrue, if◌then◌else◌, option_map, eq-eqb, eqb-true, Metric, has, same_metric, MessageFields, AddressTlvKind, Octet, LinkIn, LinkOut, NearIn, NearOut, AddressRecord, OctetKind, link_metric, kind_of, narrow, flagged, value_of, MetricKind, Link_in, Link_out, Near_in, Near_out, flag_of, metric_in, metric_of, ShowsMetric, MetricIs, type_of, at, flags_number, HasValue, OctetIs, SaysFlag, AreBlocks, none_not}
 use Rattle.mesh_packet.proofs.FlagSums.{tells_128, tells_64, tells_32, tells_16}
-use Rattle.mesh_wire.specs.declared.lines.AddressTlvKind.{AddressTlvKind}
-use Rattle.mesh_wire.specs.declared.lines.AddressTlvKind.TheVariants.{Octet, LinkIn, LinkOut, NearIn, NearOut}
-use Rattle.mesh_wire.specs.declared.lines.AddressRecord.{AddressRecord}
-use Rattle.mesh_wire.specs.declared.octets.OctetKind.{OctetKind}
-use Rattle.mesh_wire.specs.Kinds.{link_metric}
-use Rattle.mesh_wire.specs.Lines.{kind_of, narrow, flagged, value_of}
-use Rattle.mesh_wire.specs.Metrics.{MetricKind, Link_in, Link_out, Near_in, Near_out, flag_of, metric_in, metric_of, ShowsMetric, MetricIs}
-use Rattle.mesh_wire.specs.OctetKinds.{type_of, at, flags_number}
-use Rattle.mesh_wire.specs.Rows.{HasValue, OctetIs, SaysFlag}
-use Rattle.mesh_wire.specs.Runs.{AreBlocks}
 use Rattle.mesh_wire.proofs.Laid.{said, says}
 use Rattle.mesh_wire.proofs.OctetKinds.{same_type, not_metric}
-use Rattle.mesh_atoms.proofs.Options.{none_not}
 
 -- ---- the one column of a type whose values are octets
 

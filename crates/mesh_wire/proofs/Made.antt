@@ -1,14 +1,5 @@
 -- Rows that are made of what is kept, one by one.
-use Rattle.std.proofs.Common.{◌≡◌, ℕ, ◌<◌, sym, ap, subst, ◌∙◌, arith, List, length, map, Contains, slice_index_or}
-use Rattle.std.specs.Prelude.{AllPairs}
-use Rattle.std.proofs.lemmas.List.{length-map, get_or-map}
-use Rattle.mesh_atoms.specs.declared.addr.NetAddr.{NetAddr}
-use Rattle.mesh_atoms.specs.Nodes.{IsBefore}
-use Rattle.mesh_atoms.proofs.Lists.{contains_map, contains_map_cases}
-use Rattle.mesh_packet.specs.Fields.{MessageFields}
-use Rattle.mesh_wire.specs.declared.collect.AddressParts.{AddressParts}
-use Rattle.mesh_wire.specs.KeptParts.{no_parts}
-use Rattle.mesh_wire.specs.Rows.{HoldsAddress, HasValue, AreRows}
+use Rattle.mesh_wire.proofs.Common.{◌≡◌, ℕ, ◌<◌, sym, ap, subst, ◌∙◌, arith, List, length, map, Contains, slice_index_or, AllPairs, length-map, get_or-map, NetAddr, IsBefore, contains_map, contains_map_cases, MessageFields, AddressParts, no_parts, HoldsAddress, HasValue, AreRows}
 use Rattle.mesh_wire.proofs.Kept.{AreTold}
 use Rattle.mesh_wire.proofs.Slots.{RowIs}
 

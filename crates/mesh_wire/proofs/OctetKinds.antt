@@ -1,15 +1,6 @@
 -- Laws of the types of address TLV whose values are one octet, by their list.
-use Rattle.std.proofs.Common.{◌≡◌, ℕ, ◌+◌, ap, ◌∙◌, refl, arith, List, [], ◌∷◌, Decides}
-use Rattle.std.specs.Prelude.{Contains, Some, slice_get, ◌==◌, if◌then◌else◌}
-use Rattle.mesh_wire.specs.declared.octets.OctetKind.{OctetKind}
-use Rattle.mesh_wire.specs.declared.octets.OctetKind.TheVariants.{Local}
-use Rattle.mesh_wire.specs.Kinds.{link_metric}
-use Rattle.mesh_wire.specs.OctetKinds.{kinds, statuses, type_of, IsStatusType, at, by_kind}
-use Rattle.std.specs.List.{list_any}
+use Rattle.mesh_wire.proofs.Common.{◌≡◌, ℕ, ◌+◌, ap, ◌∙◌, refl, arith, List, [], ◌∷◌, Decides, Contains, Some, slice_get, ◌==◌, if◌then◌else◌, OctetKind, Local, link_metric, kinds, statuses, type_of, IsStatusType, at, by_kind, list_any, Decides-some, contains_at, same_some}
 use Rattle.std.proofs.lemmas.Bool.Decides.{Decides-eqb}
-use Rattle.mesh_atoms.proofs.Deciding.{Decides-some}
-use Rattle.mesh_atoms.proofs.Lists.{contains_at}
-use Rattle.mesh_atoms.proofs.Options.{same_some}
 
 -- the place of the first of that number
 unfoldable pub place_of : ℕ → List OctetKind → ℕ

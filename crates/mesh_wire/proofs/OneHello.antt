@@ -1,31 +1,8 @@
 -- A message that keeps the rules of a HELLO reads as one HELLO.
-use Rattle.std.proofs.Common.{◌≡◌, ℕ, ◌/◌, ◌%◌, inl, inr, List, Bool, refl, sym, ap, subst, ◌∙◌}
-use Rattle.std.specs.Prelude.{◌↔◌, AllPairs, Contains, Option, Some, None, IsSome, IsTrue}
-use Rattle.mesh_atoms.specs.declared.addr.Addr4.{Addr4}
-use Rattle.mesh_atoms.specs.declared.addr.NetAddr.{NetAddr}
-use Rattle.mesh_atoms.specs.Nodes.{IsBefore}
-use Rattle.mesh_atoms.specs.Ascends.{ascends_prop}
-use Rattle.mesh_atoms.specs.declared.hello.LocalIf.{LocalIf}
-use Rattle.mesh_atoms.specs.declared.hello.Metrics.{Metrics}
+use Rattle.mesh_wire.proofs.Common.{◌≡◌, ℕ, ◌/◌, ◌%◌, inl, inr, List, Bool, refl, sym, ap, subst, ◌∙◌, ◌↔◌, AllPairs, Contains, Option, Some, None, IsSome, IsTrue, Addr4, NetAddr, IsBefore, ascends_prop, LocalIf, Metrics, Willing, HelloRow, Hello, Metric, IsAlone, same_answer, row_octet, HasWilling, WillingIs, TellsOther, IsReadHelloRow, HelloIs, sender_row, BreaksHello, TwoValues, local_if, mpr, OctetKind, Local, MessageFields, MetricKind, Link_in, Link_out, Near_in, Near_out, metric_of, MetricIs, HasTwoMetrics, statuses, type_of, OctetIs, SaysFlag, Keeps}
 use Rattle.mesh_atoms.specs.declared.hello.Mpr.{Mpr}
-use Rattle.mesh_atoms.specs.declared.hello.Willing.{Willing}
-use Rattle.mesh_atoms.specs.declared.hello.HelloRow.{HelloRow}
-use Rattle.mesh_atoms.specs.declared.hello.Hello.{Hello}
-use Rattle.mesh_atoms.specs.declared.codes.metric.Metric.{Metric}
-use Rattle.mesh_atoms.specs.Writable.{IsAlone}
 use Rattle.mesh_atoms.proofs.Equal.{same_willing}
-use Rattle.mesh_atoms.proofs.Options.{same_answer}
-use Rattle.mesh_wire.specs.Hello.{row_octet, HasWilling, WillingIs, TellsOther, IsReadHelloRow, HelloIs}
-use Rattle.mesh_wire.specs.HelloRows.{sender_row}
-use Rattle.mesh_wire.specs.HelloRules.{BreaksHello, TwoValues, WrongMetric}
-use Rattle.mesh_wire.specs.Kinds.{local_if, mpr}
-use Rattle.mesh_wire.specs.declared.octets.OctetKind.{OctetKind}
-use Rattle.mesh_wire.specs.declared.octets.OctetKind.TheVariants.{Local}
-use Rattle.mesh_packet.specs.Fields.{MessageFields}
-use Rattle.mesh_wire.specs.Metrics.{MetricKind, Link_in, Link_out, Near_in, Near_out, metric_of, MetricIs, HasTwoMetrics}
-use Rattle.mesh_wire.specs.OctetKinds.{statuses, type_of}
-use Rattle.mesh_wire.specs.Rows.{OctetIs, SaysFlag}
-use Rattle.mesh_wire.specs.Rules.{Keeps}
+use Rattle.mesh_wire.specs.HelloRules.{WrongMetric}
 use Rattle.mesh_wire.proofs.Single.{one_time, one_interval, one_originator, one_octet, one_metric, one_rows}
 use Rattle.mesh_wire.proofs.Statuses.{local_among, same_local, same_row, alone_row}
 

@@ -1,24 +1,6 @@
 -- A message that keeps the rules of a TC reads as one TC.
-use Rattle.std.proofs.Common.{◌≡◌, ℕ, ◌+◌, ◌*◌, inr, List, [], ◌∷◌, Bool, refl, sym, ap, subst, ◌∙◌}
-use Rattle.std.specs.Prelude.{AllPairs, Option, Some, ◌==◌}
-use Rattle.mesh_atoms.specs.declared.addr.Addr4.{Addr4}
-use Rattle.mesh_atoms.specs.declared.addr.NetAddr.{NetAddr}
-use Rattle.mesh_atoms.specs.Nodes.{IsBefore}
-use Rattle.mesh_atoms.specs.Ascends.{ascends_prop}
-use Rattle.mesh_atoms.specs.declared.codes.metric.Metric.{Metric}
-use Rattle.mesh_atoms.specs.declared.tc.TcRow.{TcRow}
-use Rattle.mesh_atoms.specs.declared.tc.Tc.{Tc}
-use Rattle.mesh_wire.specs.Kinds.{gateway}
-use Rattle.mesh_tlv.specs.Fields.{TlvFields}
-use Rattle.mesh_packet.specs.Fields.{MessageFields}
-use Rattle.mesh_wire.specs.Parts.{octets_of}
-use Rattle.mesh_wire.specs.Metrics.{Near_out}
-use Rattle.mesh_wire.specs.Rules.{Keeps}
-use Rattle.mesh_wire.specs.Tc.{ContentIs, IsReadTcRow, TcIs}
-use Rattle.mesh_wire.specs.TcRules.{BreaksTc, TwoGateways, WrongMetric}
-use Rattle.mesh_wire.specs.Times.{distance_of}
+use Rattle.mesh_wire.proofs.Common.{◌≡◌, ℕ, ◌+◌, ◌*◌, inr, List, [], ◌∷◌, Bool, refl, sym, ap, subst, ◌∙◌, AllPairs, Option, Some, ◌==◌, Addr4, NetAddr, IsBefore, ascends_prop, Metric, TcRow, Tc, gateway, TlvFields, MessageFields, octets_of, Near_out, Keeps, ContentIs, IsReadTcRow, TcIs, BreaksTc, TwoGateways, WrongMetric, distance_of, same_some, same_answer}
 use Rattle.mesh_wire.proofs.Single.{one_time, one_interval, one_originator, one_octet, one_metric, one_rows}
-use Rattle.mesh_atoms.proofs.Options.{same_some, same_answer}
 
 -- ---- rows
 

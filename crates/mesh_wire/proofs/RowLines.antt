@@ -1,17 +1,6 @@
 -- The lines of rows in ascending order: one for each address.
-use Rattle.std.proofs.Common.{◌≡◌, ℕ, inl, inr, List, [], ◌∷◌, map, sym, ap, ◌∙◌}
-use Rattle.std.specs.Prelude.{Contains, AllPairs}
-use Rattle.mesh_atoms.specs.declared.addr.NetAddr.{NetAddr}
-use Rattle.mesh_atoms.specs.Nodes.{IsBefore}
-use Rattle.mesh_packet.specs.Fields.{MessageFields, PacketFields}
-use Rattle.mesh_packet.specs.declared.packet.Span.{Span}
-use Rattle.mesh_packet.specs.Grammar.{Spells}
+use Rattle.mesh_wire.proofs.Common.{◌≡◌, ℕ, inl, inr, List, [], ◌∷◌, map, sym, ap, ◌∙◌, Contains, AllPairs, NetAddr, IsBefore, MessageFields, PacketFields, Span, Spells, AddressRecord, IsSoleMessage, alone, contains_map_cases as unmapped, contains_cases, contains_none as none_in, all_pairs_tail, all_pairs_head, not_before_itself, same_ok}
 use Rattle.mesh_packet.proofs.Packets.{packet_again}
-use Rattle.mesh_wire.specs.declared.lines.AddressRecord.{AddressRecord}
-use Rattle.mesh_wire.specs.Writes.{IsSoleMessage, alone}
-use Rattle.mesh_atoms.proofs.Lists.{contains_map_cases as unmapped, contains_cases, contains_none as none_in, all_pairs_tail, all_pairs_head}
-use Rattle.mesh_atoms.proofs.Values.{not_before_itself}
-use Rattle.mesh_atoms.proofs.Options.{same_ok}
 
 module _ {Row : Type 0} (addr_of : Row → NetAddr) where
   -- an ascending list has one row of an address

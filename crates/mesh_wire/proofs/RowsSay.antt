@@ -1,27 +1,8 @@
 -- What a message of lines says of the rows that the lines are of.
-use Rattle.std.proofs.Common.{◌≡◌, ℕ, inl, inr, List, [], ◌∷◌, length, map, refl, sym, ap, subst, ◌∙◌}
-use Rattle.std.specs.Prelude.{◌↔◌, Contains, AllPairs, Some, Bool, IsTrue}
-use Rattle.std.specs.Option.{option_map}
-use Rattle.mesh_atoms.specs.declared.addr.NetAddr.{NetAddr}
-use Rattle.mesh_atoms.specs.declared.codes.metric.Metric.{Metric}
-use Rattle.mesh_atoms.specs.Nodes.{IsBefore}
-use Rattle.mesh_packet.specs.Fields.{MessageFields}
-use Rattle.mesh_tlv.specs.Fields.{TlvFields}
-use Rattle.mesh_wire.specs.declared.lines.AddressTlvKind.{AddressTlvKind}
-use Rattle.mesh_wire.specs.declared.lines.AddressRecord.{AddressRecord}
-use Rattle.mesh_wire.specs.declared.octets.OctetKind.{OctetKind}
-use Rattle.mesh_wire.specs.Kinds.{link_metric}
-use Rattle.mesh_wire.specs.Lines.{kind_of, value_of}
-use Rattle.mesh_wire.specs.Metrics.{MetricKind, metric_of, ShowsMetric, MetricIs, HasWrongMetric}
-use Rattle.mesh_wire.specs.OctetKinds.{type_of, at, flags_number}
-use Rattle.mesh_wire.specs.Parts.{octets_of}
-use Rattle.mesh_wire.specs.Rows.{HoldsAddress, HasPart, HasValue, HasTwoValues, OctetIs, SaysFlag, AreRows}
-use Rattle.mesh_wire.specs.Runs.{AreBlocks}
+use Rattle.mesh_wire.proofs.Common.{◌≡◌, ℕ, inl, inr, List, [], ◌∷◌, length, map, refl, sym, ap, subst, ◌∙◌, ◌↔◌, Contains, AllPairs, Some, Bool, IsTrue, option_map, NetAddr, Metric, IsBefore, MessageFields, TlvFields, AddressTlvKind, AddressRecord, OctetKind, link_metric, kind_of, value_of, MetricKind, metric_of, ShowsMetric, MetricIs, HasWrongMetric, type_of, at, flags_number, octets_of, HoldsAddress, HasPart, HasValue, HasTwoValues, OctetIs, SaysFlag, AreRows, AreBlocks, contains_map as mapped, contains_map_cases as unmapped, same_some}
 use Rattle.mesh_wire.proofs.Laid.{said, stands, standing_line}
 use Rattle.mesh_wire.proofs.LinesSay.{says_only, octet_is, flags_are, metric_is, two_octets, shown}
 use Rattle.mesh_wire.proofs.RowLines.{one_line}
-use Rattle.mesh_atoms.proofs.Lists.{contains_map as mapped, contains_map_cases as unmapped}
-use Rattle.mesh_atoms.proofs.Options.{same_some}
 
 module _ {Row : Type 0} (line_of : Row → AddressRecord) (rows : List Row) (m : MessageFields) (are : AreBlocks (map line_of rows) m.blocks) (up : AllPairs (λ (a b : Row). IsBefore (line_of a).net (line_of b).net) rows) where
   unique : (a b : AddressRecord) → Contains (map line_of rows) a → Contains (map line_of rows) b → a.net ≡ b.net → a ≡ b

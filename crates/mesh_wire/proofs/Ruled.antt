@@ -1,15 +1,5 @@
 -- The first rule that rows break is the first that their message breaks.
-use Rattle.std.proofs.Common.{◌≡◌, ℕ, ◌<◌, ◌≤◌, ◌⊎◌, inl, inr, refl, sym, ◌∙◌, ap, subst, arith, Bool, true, false, cond, List, [], ◌∷◌, Contains}
-use Rattle.std.specs.Prelude.{AllPairs, Option, Some, None, nat_lt}
-use Rattle.std.proofs.lemmas.Bool.{cases_Bool, cases_lt, ltb-true, lt-ltb}
-use Rattle.mesh_atoms.specs.declared.addr.NetAddr.{NetAddr}
-use Rattle.mesh_atoms.specs.Nodes.{IsBefore, IsAtMost}
-use Rattle.mesh_wire.specs.declared.collect.AddressParts.{AddressParts}
-use Rattle.mesh_wire.specs.RowRules.{sooner, first_rule}
-use Rattle.mesh_wire.specs.Rules.{FirstBroken, IsLow, Keeps}
-use Rattle.mesh_atoms.proofs.Values.{at_most_itself, at_most_of_before}
-use Rattle.mesh_atoms.proofs.Lists.{contains_head as at_head, contains_tail as in_tail, contains_cases, contains_none as none_in, all_pairs_tail, all_pairs_head}
-use Rattle.mesh_atoms.proofs.Options.{some_equal}
+use Rattle.mesh_wire.proofs.Common.{◌≡◌, ℕ, ◌<◌, ◌≤◌, ◌⊎◌, inl, inr, refl, sym, ◌∙◌, ap, subst, arith, Bool, true, false, cond, List, [], ◌∷◌, Contains, AllPairs, Option, Some, None, nat_lt, cases_Bool, cases_lt, ltb-true, lt-ltb, NetAddr, IsBefore, IsAtMost, AddressParts, sooner, first_rule, FirstBroken, IsLow, Keeps, at_most_itself, at_most_of_before, contains_head as at_head, contains_tail as in_tail, contains_cases, contains_none as none_in, all_pairs_tail, all_pairs_head, some_equal}
 
 abbrev pub AreOrdered : List AddressParts → Type 0
 AreOrdered rows = AllPairs (λ (a b : AddressParts). IsBefore a.net b.net) rows

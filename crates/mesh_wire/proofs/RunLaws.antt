@@ -1,28 +1,9 @@
 -- The TLV of a run says of each address what its line says.
-use Rattle.std.proofs.Common.{◌≡◌, ℕ, zero, suc, ◌+◌, ◌-◌, ◌*◌, ◌/◌, ◌%◌, ◌<◌, ◌≤◌, inl, inr, List, [], ◌∷◌, ◌++◌, length, take, drop, refl, sym, ap, subst, ◌∙◌, arith, append_assoc, length-append, length-take, length-drop, append-nil, map, get_or, min}
-use Rattle.std.specs.Prelude.{nat_lt, ◌==◌, slice_range, slice_get, nat_eq, Bool, true, false, not, cond, Option, Some, None, unwrap_or}
-use Rattle.std.specs.List.{flat_map}
-use Rattle.std.specs.Option.{option_map, option_eq, is_some}
-use Rattle.std.proofs.Math.Nat.{mul-div_right, mul-mod_right}
-use Rattle.std.proofs.lemmas.Bool.{cases_Bool, cases_lt, cases_eq, eq-eqb, eqb-true, lt-ltb, le-ltb, and_parts as both, and_right, not_from_true}
-use Rattle.std.proofs.lemmas.List.{take_all, map-append, take-append-drop, drop-drop}
-use Rattle.mesh_tlv.specs.declared.tlv.AddrTlv.{AddrTlv}
-use Rattle.mesh_tlv.specs.Fields.{AddrTlvFields, addr_fields}
-use Rattle.mesh_tlv.specs.Least.{octet_if, covers_all, is_several, least_short, least_length, least_addr_tlv, least_head, least_value}
-use Rattle.mesh_tlv.specs.Grammar.{HasEqualParts}
-use Rattle.mesh_wire.specs.declared.lines.AddressTlvKind.{AddressTlvKind}
-use Rattle.mesh_wire.specs.declared.lines.AddressRecord.{AddressRecord}
-use Rattle.mesh_wire.specs.Lines.{is_wide, width_of, most_of, octet_pair, octets_of, value_of, laid, column_text}
-use Rattle.mesh_wire.specs.Parts.{share_of, value_at}
-use Rattle.mesh_wire.specs.Runs.{has_part, leading, present, is_same_pair, have_pair, first_pair, run_of, Adds, IsColumnTlv, LaysFirst, Lays, LaysAll, IsBlock, AreBlocks}
-use Rattle.mesh_packet.specs.declared.packet.Block.{Block}
-use Rattle.mesh_packet.specs.Fields.{BlockFields, fields_of_block}
-use Rattle.std.proofs.lemmas.List.Elements.{Contains-push, Contains-append_left, Contains-push_cases}
-use Rattle.std.proofs.lemmas.Grind.{flat_map-append}
+use Rattle.mesh_wire.proofs.Common.{◌≡◌, ℕ, zero, suc, ◌+◌, ◌-◌, ◌*◌, ◌/◌, ◌%◌, ◌<◌, ◌≤◌, inl, inr, List, [], ◌∷◌, ◌++◌, length, take, drop, refl, sym, ap, subst, ◌∙◌, arith, append_assoc, length-append, length-take, length-drop, append-nil, map, get_or, min, nat_lt, ◌==◌, slice_range, slice_get, nat_eq, Bool, true, false, not, cond, Option, Some, None, unwrap_or, flat_map, option_map, option_eq, is_some, mul-div_right, mul-mod_right, cases_Bool, cases_lt, cases_eq, eq-eqb, eqb-true, lt-ltb, le-ltb, and_parts as both, and_right, not_from_true, take_all, map-append, take-append-drop, drop-drop, AddrTlv, AddrTlvFields, addr_fields, octet_if, covers_all, is_several, least_short, least_length, least_addr_tlv, least_value, HasEqualParts, AddressTlvKind, AddressRecord, is_wide, width_of, most_of, octet_pair, value_of, laid, column_text, share_of, value_at, has_part, leading, present, is_same_pair, have_pair, first_pair, run_of, Adds, IsColumnTlv, LaysFirst, Lays, LaysAll, IsBlock, AreBlocks, Block, BlockFields, fields_of_block, Contains-push, Contains-append_left, Contains-push_cases, flat_map-append, item_at as there, some_of}
+use Rattle.mesh_tlv.specs.Least.{least_head}
+use Rattle.mesh_wire.specs.Lines.{octets_of}
 use Rattle.mesh_wire.proofs.Standing.{get_drop, get_take, taken}
 use Rattle.mesh_wire.proofs.Texts.{take_more, between, column_wide, column_narrow}
-use Rattle.mesh_atoms.proofs.Lists.{item_at as there}
-use Rattle.mesh_atoms.proofs.Options.{some_of}
 
 -- ---- shares of a text
 

@@ -1,24 +1,6 @@
 -- What a message that keeps its rules says is said once.
-use Rattle.std.proofs.Common.{◌≡◌, ℕ, ◌≤◌, inl, inr, List, [], ◌∷◌, refl, sym, ap, subst, ◌∙◌, arith}
-use Rattle.std.specs.Prelude.{Contains, Option, Some, None}
-use Rattle.std.specs.Option.{option_map}
-use Rattle.std.proofs.lemmas.Bool.{cases_eq}
-use Rattle.mesh_atoms.specs.declared.addr.Addr4.{Addr4}
-use Rattle.mesh_atoms.specs.declared.addr.NetAddr.{NetAddr}
-use Rattle.mesh_atoms.specs.declared.codes.metric.Metric.{Metric}
-use Rattle.mesh_atoms.specs.Codes.Codes.{time_at_distance}
-use Rattle.mesh_atoms.specs.Nodes.{IsBefore, IsAtMost}
-use Rattle.mesh_wire.specs.Hello.{OriginatorIs}
-use Rattle.mesh_addr.specs.declared.records.RawAddr.{RawAddr}
-use Rattle.mesh_packet.specs.Fields.{MessageFields}
-use Rattle.mesh_wire.specs.Metrics.{MetricKind, MetricIs, HasTwoMetrics}
-use Rattle.mesh_wire.specs.Rows.{OctetIs, HasTwoValues, AreRows}
-use Rattle.mesh_wire.specs.Rules.{FirstBroken, IsLow}
-use Rattle.mesh_wire.specs.Times.{HasTime, IntervalIs}
+use Rattle.mesh_wire.proofs.Common.{◌≡◌, ℕ, ◌≤◌, inl, inr, List, [], ◌∷◌, refl, sym, ap, subst, ◌∙◌, arith, Contains, Option, Some, None, option_map, cases_eq, Addr4, NetAddr, Metric, time_at_distance, IsBefore, IsAtMost, OriginatorIs, RawAddr, MessageFields, MetricKind, MetricIs, HasTwoMetrics, OctetIs, HasTwoValues, AreRows, FirstBroken, IsLow, HasTime, IntervalIs, same_net, same_addr, same_metric}
 use Rattle.mesh_wire.proofs.Ascending.{same_ascending}
-use Rattle.mesh_atoms.proofs.Nets.{same_net}
-use Rattle.mesh_atoms.proofs.Values.{same_addr}
-use Rattle.mesh_atoms.proofs.Rows.{same_metric}
 
 one_value : (v w : List ℕ) (vs : List (List ℕ)) → vs ≡ v ∷ [] → vs ≡ w ∷ [] → v ≡ w
 one_value v w vs e f = cc

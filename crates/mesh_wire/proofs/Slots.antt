@@ -1,22 +1,5 @@
 -- What is kept of values, and that one value more is kept too.
-use Rattle.std.proofs.Common.{◌≡◌, ℕ, ◌⊎◌, inl, inr, refl, sym, ◌∙◌, ap, subst, Bool, true, false, cond, List, length, [], ◌∷◌}
-use Rattle.std.specs.Prelude.{◌==◌, ◌||◌, ◌↔◌, ◌≢◌, nat_eq, IsTrue, Option, Some, None}
-use Rattle.std.specs.Option.{is_none}
-use Rattle.std.proofs.lemmas.Bool.{cases_Bool, eq-eqb, ne_eqb, eqb-true, eqb-false, or_cases, or_left, or_right}
-use Rattle.mesh_atoms.specs.declared.codes.metric.Metric.{Metric}
-use Rattle.mesh_atoms.proofs.Rows.{same_metric}
-use Rattle.mesh_atoms.proofs.Options.{none_not, some_equal}
-use Rattle.mesh_wire.specs.declared.singles.Single.{Single}
-use Rattle.mesh_wire.specs.declared.singles.Single.TheVariants.{Absent, Value, Conflict}
-use Rattle.mesh_wire.specs.declared.octets.OctetKind.{OctetKind}
-use Rattle.mesh_wire.specs.declared.octets.Octets.{Octets}
-use Rattle.mesh_wire.specs.declared.parts.MetricParts.{MetricParts}
-use Rattle.mesh_wire.specs.declared.parts.RowParts.{RowParts}
-use Rattle.mesh_wire.specs.Kinds.{link_metric}
-use Rattle.mesh_wire.specs.KeptParts.{octet_in, is_flag_set, octets_also, octets_if, has_same_code, shown_in, has_other_length, metric_at, metrics_also, no_parts, take_part}
-use Rattle.mesh_wire.specs.Metrics.{MetricKind, Link_in, flag_of}
-use Rattle.mesh_wire.specs.OctetKinds.{type_of, at}
-use Rattle.mesh_wire.specs.Singles.{also, also_some}
+use Rattle.mesh_wire.proofs.Common.{◌≡◌, ℕ, ◌⊎◌, inl, inr, refl, sym, ◌∙◌, ap, subst, Bool, true, false, cond, List, length, [], ◌∷◌, ◌==◌, ◌||◌, ◌↔◌, ◌≢◌, nat_eq, IsTrue, Option, Some, None, is_none, cases_Bool, eq-eqb, ne_eqb, eqb-true, eqb-false, or_cases, or_left, or_right, Metric, same_metric, none_not, some_equal, Single, Absent, Value, Conflict, OctetKind, Octets, MetricParts, RowParts, link_metric, octet_in, is_flag_set, octets_also, octets_if, has_same_code, shown_in, has_other_length, metric_at, metrics_also, no_parts, take_part, MetricKind, Link_in, flag_of, type_of, at, also, also_some}
 use Rattle.mesh_wire.proofs.OctetKinds.{at_by_kind}
 
 -- ---- several values

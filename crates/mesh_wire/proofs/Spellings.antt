@@ -1,35 +1,11 @@
 -- A HELLO spelled otherwise than the writers spell it may be sent; messages with what a reading ignores may not.
-use Rattle.std.proofs.Common.{◌≡◌, ℕ, zero, suc, ◌+◌, ◌-◌, ◌<◌, ◌≤◌, ◌⊎◌, inl, inr, Bool, true, false, List, [], ◌∷◌, ◌++◌, length, drop, get_or, None, refl, sym, ap, subst, ◌∙◌, arith, lit≤, lit<}
-use Rattle.std.specs.Prelude.{Contains, slice_index, replicate, cond}
-use Rattle.std.proofs.Common.{ltb}
-use Rattle.std.proofs.lemmas.Bool.{ltb-true, false≢true}
-use Rattle.std.proofs.lemmas.List.{length-append, append_assoc, append-nil, get_or_append_left, get_or-append-add, get_or-replicate, get_or_past}
-use Rattle.mesh_atoms.specs.declared.addr.NetAddr.{NetAddr}
-use Rattle.mesh_atoms.specs.declared.hello.Hello.{Hello}
-use Rattle.mesh_atoms.specs.Reading.{has}
-use Rattle.mesh_addr.specs.Grammar.{SpellsBlock, SpellsHead, SpellsTail}
-use Rattle.mesh_packet.specs.declared.packet.Span.{Span}
-use Rattle.mesh_packet.specs.Fields.{MessageFields}
-use Rattle.mesh_packet.specs.Grammar.{Spells, SpellsMessage, SpellsPair, SpellsNumber, SpellsHeaderTlvs}
-use Rattle.mesh_tlv.specs.Fields.{TlvFields}
-use Rattle.mesh_tlv.specs.Grammar.{SpellsTlvBlock, SpellsAddrTlvBlock}
-use Rattle.mesh_wire.specs.Examples.{own, own_net, local, own_block, near, near_net, lone, lone_hello}
-use Rattle.mesh_wire.specs.HelloRules.{BreaksHello, Undefined}
-use Rattle.mesh_wire.specs.declared.octets.OctetKind.{OctetKind}
-use Rattle.mesh_wire.specs.declared.octets.OctetKind.TheVariants.{Local, Link, Mpr}
-use Rattle.mesh_wire.specs.Kinds.{local_if, link_status, link_metric, mpr}
-use Rattle.mesh_wire.specs.Metrics.{MetricKind, Link_in, Link_out, Near_in, Near_out, flag_of}
-use Rattle.mesh_wire.specs.OctetKinds.{statuses, type_of, is_value, IsOctetOf}
-use Rattle.mesh_wire.specs.Rules.{Keeps}
-use Rattle.mesh_wire.specs.Rows.{HasPart, HasValue, HoldsAddressAt}
+use Rattle.mesh_wire.proofs.Common.{◌≡◌, ℕ, zero, suc, ◌+◌, ◌-◌, ◌<◌, ◌≤◌, ◌⊎◌, inl, inr, Bool, true, false, List, [], ◌∷◌, ◌++◌, length, drop, get_or, None, refl, sym, ap, subst, ◌∙◌, arith, lit≤, lit<, Contains, slice_index, replicate, cond, ltb, ltb-true, false≢true, length-append, append_assoc, append-nil, get_or_append_left, get_or-append-add, get_or-replicate, get_or_past, NetAddr, Hello, has, SpellsBlock, SpellsHead, SpellsTail, Span, MessageFields, Spells, SpellsMessage, SpellsPair, SpellsNumber, SpellsHeaderTlvs, TlvFields, SpellsTlvBlock, SpellsAddrTlvBlock, own, own_net, local, own_block, near, near_net, lone, lone_hello, BreaksHello, Undefined, OctetKind, Local, Link, Mpr, local_if, link_status, link_metric, mpr, MetricKind, Link_in, Link_out, Near_in, Near_out, flag_of, statuses, type_of, is_value, IsOctetOf, Keeps, HasPart, HasValue, HoldsAddressAt, HasBriefBlocks, IsSoleMessage, HasFlag, IsReadOfHello, IsReadOfOther, IsReadOfHelloAddress, WritesHello, alone, contains_at, heads_equal, tails_equal}
 use Rattle.mesh_wire.specs.Spellings.{wordy_tlvs, wordy_local, short_block, long_block, message_with, wordy, too_wordy, IsForNone, IsSentForNone, unknown_tlv, beside, two, with_near, status, own_two, status_of_sender}
-use Rattle.mesh_wire.specs.Writes.{HasBriefBlocks, IsSoleMessage, HasFlag, IsReadOfHello, IsReadOfOther, IsReadOfHelloAddress, WritesHello, alone}
 use Rattle.mesh_wire.proofs.Examples.{says, part_only, lone_is, lone_keeps}
 use Rattle.mesh_wire.proofs.Behind.{behind_head, behind_tlvs}
 use Rattle.mesh_wire.proofs.HelloWritten.{read_kind}
 use Rattle.mesh_wire.proofs.OctetKinds.{not_metric}
 use Rattle.mesh_wire.proofs.RowLines.{alone_again}
-use Rattle.mesh_atoms.proofs.Lists.{contains_at, heads_equal, tails_equal}
 
 -- ---- how it is spelled
 

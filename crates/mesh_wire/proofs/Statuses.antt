@@ -1,30 +1,11 @@
 -- Laws of what rows of a HELLO say by LOCAL_IF, LINK_STATUS and OTHER_NEIGHB, type by type.
-use Rattle.std.proofs.Common.{◌≡◌, ℕ, zero, suc, ◌<◌, ◌⊎◌, inl, inr, refl, sym, ◌∙◌, ap, arith, true, Contains}
-use Rattle.std.specs.Prelude.{Option, Some, None, IsSome, nat_le, nat_lt}
-use Rattle.std.specs.Option.{option_map}
-use Rattle.std.proofs.lemmas.Bool.{ltb-true, and_parts as both}
-use Rattle.std.proofs.lemmas.List.Elements.{All-from_recursion, All-contains}
-use Rattle.mesh_atoms.specs.declared.addr.NetAddr.{NetAddr}
-use Rattle.mesh_atoms.specs.declared.hello.LocalIf.{LocalIf}
-use Rattle.mesh_atoms.specs.declared.hello.LocalIf.TheVariants.{This}
+use Rattle.mesh_wire.proofs.Common.{◌≡◌, ℕ, zero, suc, ◌<◌, ◌⊎◌, inl, inr, refl, sym, ◌∙◌, ap, arith, true, Contains, Option, Some, None, IsSome, nat_le, nat_lt, option_map, ltb-true, and_parts as both, All-from_recursion, All-contains, NetAddr, LocalIf, This, Metrics, HelloRow, IsAlone, contains_at, some_equal, AddressParts, OctetKind, local_value, link_value, other_value, row_octet, local_from, link_from, other_from, sender_row, row_with, statuses, hello_kinds, type_of, IsStatusType, is_within, is_value, at, mpr, link_metric, value_from}
 use Rattle.mesh_atoms.specs.declared.hello.LinkStatus.{LinkStatus}
 use Rattle.mesh_atoms.specs.declared.hello.LinkStatus.TheVariants as link
 use Rattle.mesh_atoms.specs.declared.hello.OtherStatus.{OtherStatus}
 use Rattle.mesh_atoms.specs.declared.hello.OtherStatus.TheVariants as other
-use Rattle.mesh_atoms.specs.declared.hello.Metrics.{Metrics}
 use Rattle.mesh_atoms.specs.declared.hello.Mpr.{Mpr}
-use Rattle.mesh_atoms.specs.declared.hello.HelloRow.{HelloRow}
-use Rattle.mesh_atoms.specs.Writable.{IsAlone}
-use Rattle.mesh_atoms.proofs.Lists.{contains_at}
-use Rattle.mesh_atoms.proofs.Options.{some_equal}
-use Rattle.mesh_wire.specs.declared.collect.AddressParts.{AddressParts}
-use Rattle.mesh_wire.specs.declared.octets.OctetKind.{OctetKind}
 use Rattle.mesh_wire.specs.declared.octets.OctetKind.TheVariants as kinds
-use Rattle.mesh_wire.specs.Hello.{local_value, link_value, other_value, row_octet}
-use Rattle.mesh_wire.specs.HelloRows.{local_from, link_from, other_from, sender_row, row_with}
-use Rattle.mesh_wire.specs.OctetKinds.{statuses, hello_kinds, type_of, IsStatusType, is_within, is_value, at}
-use Rattle.mesh_wire.specs.Kinds.{mpr, link_metric}
-use Rattle.mesh_wire.specs.Singles.{value_from}
 use Rattle.mesh_wire.proofs.OctetKinds.{place_of}
 use Rattle.mesh_wire.proofs.Single.{told_by}
 

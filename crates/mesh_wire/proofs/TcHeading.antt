@@ -1,20 +1,6 @@
 -- The rules on what a TC says before its rows, one by one.
-use Rattle.std.proofs.Common.{◌≡◌, ℕ, ◌+◌, ◌*◌, ◌⊎◌, inl, inr, refl, sym, ◌∙◌, subst, arith, Bool, List, [], ◌∷◌, length, map, slice_index}
-use Rattle.std.specs.Prelude.{◌≢◌, Option, Some, None, ◌==◌, cond}
-use Rattle.std.specs.Option.{option_copied}
-use Rattle.mesh_atoms.specs.declared.addr.Addr4.{Addr4}
-use Rattle.mesh_atoms.specs.declared.addr.NetAddr.{NetAddr}
-use Rattle.mesh_atoms.specs.Octets.{short_in}
-use Rattle.mesh_addr.specs.declared.records.RawAddr.{RawAddr}
+use Rattle.mesh_wire.proofs.Common.{◌≡◌, ℕ, ◌+◌, ◌*◌, ◌⊎◌, inl, inr, refl, sym, ◌∙◌, subst, arith, Bool, List, [], ◌∷◌, length, map, slice_index, ◌≢◌, Option, Some, None, ◌==◌, cond, option_copied, Addr4, NetAddr, short_in, RawAddr, TlvFields, fields, MessageFields, OriginatorIs, octets_of, ContentIs, contents_in, BreaksTc, AddressWidth, NoOriginator, NoSequence, NoValidity, WrongInterval, Content, distance_of, ValidityIs, IntervalIs}
 use Rattle.mesh_tlv.specs.declared.tlv.Tlv.{Tlv}
-use Rattle.mesh_tlv.specs.Fields.{TlvFields, fields}
-use Rattle.mesh_packet.specs.Fields.{MessageFields}
-use Rattle.mesh_wire.specs.Hello.{OriginatorIs}
-use Rattle.mesh_wire.specs.Parts.{octets_of}
-use Rattle.mesh_wire.specs.Tc.{ContentIs}
-use Rattle.mesh_wire.specs.TcHeading.{contents_in}
-use Rattle.mesh_wire.specs.TcRules.{BreaksTc, AddressWidth, NoOriginator, NoSequence, NoValidity, WrongInterval, Content}
-use Rattle.mesh_wire.specs.Times.{distance_of, ValidityIs, IntervalIs}
 use Rattle.mesh_wire.proofs.InOrder.{NoneBelow, one_further}
 
 -- what is wrong where the rule of a number is broken

@@ -1,20 +1,5 @@
 -- What the reading of a TC answers.
-use Rattle.std.proofs.Common.{ℕ, List, map}
-use Rattle.std.specs.Prelude.{Option}
-use Rattle.mesh_atoms.specs.declared.addr.NetAddr.{NetAddr}
-use Rattle.mesh_atoms.specs.declared.tc.TcRow.{TcRow}
-use Rattle.mesh_atoms.proofs.Options.{none_not}
-use Rattle.mesh_packet.specs.Fields.{MessageFields}
-use Rattle.mesh_wire.specs.declared.tc.TcHeader.{TcHeader}
-use Rattle.mesh_wire.specs.declared.collect.AddressParts.{AddressParts}
-use Rattle.mesh_wire.specs.Entries.{of_blocks}
-use Rattle.mesh_wire.specs.Made.{BreakNone, HasBroken}
-use Rattle.mesh_wire.specs.RowRules.{tc_rule}
-use Rattle.mesh_wire.specs.Rows.{AreRows}
-use Rattle.mesh_wire.specs.Rules.{FirstBroken, Keeps}
-use Rattle.mesh_wire.specs.Tc.{IsReadTcRow}
-use Rattle.mesh_wire.specs.TcHeading.{TcHeadingIs, tc_row}
-use Rattle.mesh_wire.specs.TcRules.{BreaksTc}
+use Rattle.mesh_wire.proofs.Common.{ℕ, List, map, Option, NetAddr, TcRow, none_not, MessageFields, TcHeader, AddressParts, of_blocks, BreakNone, HasBroken, tc_rule, AreRows, FirstBroken, Keeps, IsReadTcRow, TcHeadingIs, tc_row, BreaksTc}
 use Rattle.mesh_wire.proofs.InOrder.{NoneBelow, rule_broken, none_broken}
 use Rattle.mesh_wire.proofs.Kept.{are_told}
 use Rattle.mesh_wire.proofs.TcHeading.{past_header, past_validity, past_interval, past_content, an_originator}

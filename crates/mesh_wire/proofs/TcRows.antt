@@ -1,15 +1,6 @@
 -- Rows that are made of what is kept are the rows of the TC.
-use Rattle.std.proofs.Common.{◌≡◌, refl, false, List, map, Contains}
-use Rattle.mesh_atoms.specs.declared.tc.TcRow.{TcRow}
-use Rattle.mesh_packet.specs.Fields.{MessageFields}
-use Rattle.mesh_wire.specs.declared.collect.AddressParts.{AddressParts}
-use Rattle.mesh_wire.specs.declared.octets.OctetKind.TheVariants.{AddrType, Gateway}
-use Rattle.mesh_wire.specs.Kinds.{nbr_addr_type}
-use Rattle.mesh_wire.specs.Metrics.{Near_out}
-use Rattle.mesh_wire.specs.Rows.{HasValue, AreRows}
-use Rattle.mesh_wire.specs.Tc.{IsReadTcRow}
-use Rattle.mesh_wire.specs.TcHeading.{tc_row}
-use Rattle.mesh_wire.specs.Singles.{is_conflict}
+use Rattle.mesh_wire.proofs.Common.{◌≡◌, refl, false, List, map, Contains, TcRow, MessageFields, AddressParts, Gateway, nbr_addr_type, Near_out, HasValue, AreRows, IsReadTcRow, tc_row, is_conflict}
+use Rattle.mesh_wire.specs.declared.octets.OctetKind.TheVariants.{AddrType}
 use Rattle.mesh_wire.proofs.HelloRows.{octet_is, metric_is, flag_is}
 use Rattle.mesh_wire.proofs.Kept.{AreTold}
 use Rattle.mesh_wire.proofs.Made.{rows_made}

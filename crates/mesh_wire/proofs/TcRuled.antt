@@ -1,19 +1,6 @@
 -- The rules on the addresses of a TC, by tests of what is kept.
-use Rattle.std.proofs.Common.{◌≡◌, ℕ, ◌≤◌, inl, inr, refl, ap, arith, Bool, true, List, Contains, lit≤}
-use Rattle.std.specs.Prelude.{◌||◌, ◌&&◌, Option, Some, None, nat_lt, slice_get}
-use Rattle.std.proofs.lemmas.Bool.{ltb-true, lt-ltb, and_parts as both, or_parts, or_cases, or_left, or_right, and_from as and_both}
-use Rattle.mesh_atoms.specs.declared.addr.NetAddr.{NetAddr}
-use Rattle.mesh_packet.specs.Fields.{MessageFields}
-use Rattle.mesh_wire.specs.declared.collect.AddressParts.{AddressParts}
+use Rattle.mesh_wire.proofs.Common.{◌≡◌, ℕ, ◌≤◌, inl, inr, refl, ap, arith, Bool, true, List, Contains, lit≤, ◌||◌, ◌&&◌, Option, Some, None, nat_lt, slice_get, ltb-true, lt-ltb, and_parts as both, or_parts, or_cases, or_left, or_right, and_from as and_both, NetAddr, MessageFields, AddressParts, Octets, RowParts, has_wrong_type, has_wrong_gateway, has_wrong_metric, tc_tests, tc_rule, nbr_addr_type, gateway, Near_out, HasValue, BreaksTc, AddressWidth, AddrType, TwoAddrTypes, ShortPrefix, GatewayOctet, TwoGateways, Beside, WrongMetric, is_conflict, is_said}
 use Rattle.mesh_wire.specs.declared.octets.OctetKind.TheVariants as kinds
-use Rattle.mesh_wire.specs.declared.octets.Octets.{Octets}
-use Rattle.mesh_wire.specs.declared.parts.RowParts.{RowParts}
-use Rattle.mesh_wire.specs.RowRules.{has_wrong_type, has_wrong_gateway, has_wrong_metric, tc_tests, tc_rule}
-use Rattle.mesh_wire.specs.Kinds.{nbr_addr_type, gateway}
-use Rattle.mesh_wire.specs.Metrics.{Near_out}
-use Rattle.mesh_wire.specs.Rows.{HasValue}
-use Rattle.mesh_wire.specs.TcRules.{BreaksTc, AddressWidth, AddrType, TwoAddrTypes, ShortPrefix, GatewayOctet, TwoGateways, Beside, WrongMetric}
-use Rattle.mesh_wire.specs.Singles.{is_conflict, is_said}
 use Rattle.mesh_wire.proofs.FirstTest.{AtMost, given, failed, passed, at_most_more}
 use Rattle.mesh_wire.proofs.Kept.{AreTold, says_has, no_value, none_read, said_found, type_said, two_found, two_said}
 use Rattle.mesh_wire.proofs.Ruled.{Decides, Reaches}

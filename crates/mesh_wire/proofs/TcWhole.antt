@@ -1,17 +1,5 @@
 -- In a TC that breaks no rule, what says that it is a router's address is a whole address.
-use Rattle.std.proofs.Common.{◌≡◌, ℕ, inl, inr, arith, Some, Result, Ok, Err, [], ◌∷◌}
-use Rattle.std.specs.Prelude.{IfOk}
-use Rattle.std.proofs.lemmas.Bool.{cases_lt}
-use Rattle.mesh_atoms.specs.declared.tc.Tc.{Tc}
-use Rattle.mesh_atoms.specs.declared.tc.TcRow.{TcRow}
-use Rattle.mesh_atoms.specs.Writable.{HaveTypeWhole}
-use Rattle.mesh_packet.specs.Fields.{MessageFields}
-use Rattle.mesh_wire.specs.declared.fault.WireFault.{WireFault}
-use Rattle.mesh_wire.specs.Kinds.{nbr_addr_type}
-use Rattle.mesh_wire.specs.Rows.{HasType, SaysFlag}
-use Rattle.mesh_wire.specs.Rules.{Keeps}
-use Rattle.mesh_wire.specs.Tc.{TcIs}
-use Rattle.mesh_wire.specs.TcRules.{BreaksTc, ShortPrefix}
+use Rattle.mesh_wire.proofs.Common.{◌≡◌, ℕ, inl, inr, arith, Some, Result, Ok, Err, [], ◌∷◌, IfOk, cases_lt, Tc, TcRow, HaveTypeWhole, MessageFields, WireFault, nbr_addr_type, HasType, SaysFlag, Keeps, TcIs, BreaksTc, ShortPrefix}
 
 stands : (m : MessageFields) (row : TcRow) (flag : ℕ) → SaysFlag m row.dest nbr_addr_type flag → HasType m row.dest nbr_addr_type
 stands m row flag (inl says) = (flag ∷ [], says)

@@ -1,35 +1,6 @@
 -- What is written of a TC reads as it, breaks no rule, and has nothing that is ignored.
-use Rattle.std.proofs.Common.{◌≡◌, ℕ, ◌/◌, ◌%◌, ◌≤◌, ◌⊎◌, inl, inr, List, [], ◌∷◌, length, take, map, refl, sym, ap, subst, ◌∙◌, arith, length-take}
-use Rattle.std.specs.Prelude.{Contains, AllPairs, Option, Some, None, IsTrue, Bool, true, false, cond}
-use Rattle.std.specs.Option.{option_map, is_some}
-use Rattle.std.proofs.lemmas.List.{length-map}
-use Rattle.mesh_atoms.specs.declared.addr.NetAddr.{NetAddr}
-use Rattle.mesh_atoms.specs.declared.tc.TcRow.{TcRow}
-use Rattle.mesh_atoms.specs.declared.tc.Tc.{Tc}
-use Rattle.mesh_atoms.specs.Nodes.{IsBefore}
-use Rattle.mesh_atoms.specs.Codes.Codes.{time_at_distance}
-use Rattle.mesh_atoms.specs.Validity.{IsTimeValue}
-use Rattle.mesh_atoms.specs.Writable.{AreOneType, HaveTypeWhole}
-use Rattle.mesh_packet.specs.declared.packet.Span.{Span}
-use Rattle.mesh_packet.specs.Fields.{MessageFields, PacketFields}
-use Rattle.mesh_packet.specs.Grammar.{Spells}
-use Rattle.mesh_packet.specs.Least.{IsEncodableMessage, LeastForm}
-use Rattle.mesh_tlv.specs.Fields.{TlvFields}
-use Rattle.mesh_wire.specs.declared.lines.AddressTlvKind.{AddressTlvKind}
-use Rattle.mesh_wire.specs.declared.lines.AddressTlvKind.TheVariants.{Octet, NearOut}
-use Rattle.mesh_wire.specs.declared.octets.OctetKind.TheVariants.{AddrType, Gateway}
-use Rattle.mesh_wire.specs.Drafts.{HasTcValues, heading_of, IsTcMessage, FitsAlone}
-use Rattle.mesh_wire.specs.Kinds.{validity_time, nbr_addr_type, gateway, link_metric, cont_seq_num}
-use Rattle.mesh_wire.specs.Lines.{kind_of, value_of, tc_line}
-use Rattle.mesh_wire.specs.OctetKinds.{tc_kinds, flags_number, IsOctetOf}
-use Rattle.mesh_wire.specs.Metrics.{Near_out}
-use Rattle.mesh_wire.specs.Parts.{octets_of, values_of}
-use Rattle.mesh_wire.specs.Rows.{HasPart, HasValue}
-use Rattle.mesh_wire.specs.Rules.{Keeps}
-use Rattle.mesh_wire.specs.Tc.{IsReadTcRow, TcIs}
-use Rattle.mesh_wire.specs.TcRules.{BreaksTc, AddressWidth, NoOriginator, NoSequence, NoValidity, WrongInterval, Content, AddrType as AddrTypeRule, TwoAddrTypes, ShortPrefix, GatewayOctet, TwoGateways, Beside, WrongMetric}
-use Rattle.mesh_wire.specs.Times.{distance_of, ValidityIs}
-use Rattle.mesh_wire.specs.Writes.{IsSoleMessage, HasFlag, IsReadOfTcAddress, WritesTc, WritesLeastTc, alone, ReadsBackTc}
+use Rattle.mesh_wire.proofs.Common.{◌≡◌, ℕ, ◌/◌, ◌%◌, ◌≤◌, ◌⊎◌, inl, inr, List, [], ◌∷◌, length, take, map, refl, sym, ap, subst, ◌∙◌, arith, length-take, Contains, AllPairs, Option, Some, None, IsTrue, Bool, true, false, cond, option_map, is_some, length-map, NetAddr, TcRow, Tc, IsBefore, time_at_distance, IsTimeValue, AreOneType, HaveTypeWhole, Span, MessageFields, PacketFields, Spells, IsEncodableMessage, LeastForm, TlvFields, AddressTlvKind, Octet, NearOut, Gateway, HasTcValues, heading_of, IsTcMessage, FitsAlone, validity_time, nbr_addr_type, gateway, link_metric, cont_seq_num, kind_of, value_of, tc_line, tc_kinds, flags_number, IsOctetOf, Near_out, octets_of, values_of, HasPart, HasValue, Keeps, IsReadTcRow, TcIs, BreaksTc, AddressWidth, NoOriginator, NoSequence, NoValidity, WrongInterval, Content, AddrType as AddrTypeRule, TwoAddrTypes, ShortPrefix, GatewayOctet, TwoGateways, Beside, WrongMetric, distance_of, ValidityIs, IsSoleMessage, HasFlag, IsReadOfTcAddress, WritesTc, WritesLeastTc, alone, ReadsBackTc, none_not}
+use Rattle.mesh_wire.specs.declared.octets.OctetKind.TheVariants.{AddrType}
 use Rattle.mesh_wire.proofs.Fits.{message_fits, HasFewParts, narrow_most, metric_most, lines_few, fits_alone}
 use Rattle.mesh_wire.proofs.Headings.{validity_told, interval_is, interval_told, content_is, read_of_tc}
 use Rattle.mesh_wire.proofs.HelloWritten.{originator_is, flags_octet, metric_flagged}
@@ -38,7 +9,6 @@ use Rattle.mesh_wire.proofs.OneTc.{one_tc}
 use Rattle.mesh_wire.proofs.RowLines.{alone_again}
 use Rattle.mesh_wire.proofs.Further.{further}
 use Rattle.mesh_wire.proofs.RowsSay.{rows_said, part_there, said_of, row_of, not_two, right_metric, octet_said, flags_said, metric_said}
-use Rattle.mesh_atoms.proofs.Options.{none_not}
 
 few_of : (row : TcRow) → HasFewParts (tc_line row)
 few_of row = let l = tc_line row in omega (arith, narrow_most tc_kinds l, metric_most l)

@@ -1,21 +1,5 @@
 -- Rules on addresses, by tests of what is kept: what the rules of a HELLO and of a TC have in common.
-use Rattle.std.proofs.Common.{◌≡◌, ℕ, inl, inr, refl, sym, ◌∙◌, ap, Bool, true, false, List, [], ◌∷◌, Contains, Decides}
-use Rattle.std.specs.Prelude.{Option, Some}
-use Rattle.std.specs.List.{list_any}
-use Rattle.std.proofs.lemmas.Bool.{false≢true, cases_Bool, or_parts, or_cases, or_left, or_right}
-use Rattle.mesh_atoms.specs.declared.addr.NetAddr.{NetAddr}
-use Rattle.mesh_atoms.proofs.Deciding.{Decides-some}
-use Rattle.mesh_atoms.proofs.Lists.{contains_at}
-use Rattle.mesh_packet.specs.Fields.{MessageFields}
-use Rattle.mesh_wire.specs.declared.collect.AddressParts.{AddressParts}
-use Rattle.mesh_wire.specs.declared.parts.MetricParts.{MetricParts}
-use Rattle.mesh_wire.specs.declared.parts.RowParts.{RowParts}
-use Rattle.mesh_wire.specs.KeptParts.{metric_at}
-use Rattle.mesh_wire.specs.Kinds.{link_metric}
-use Rattle.mesh_wire.specs.Metrics.{MetricKind, Link_in, Link_out, Near_in, Near_out, metric_kinds, ShowsMetric, HasWrongMetric}
-use Rattle.mesh_wire.specs.RowRules.{has_wrong_metric}
-use Rattle.mesh_wire.specs.Rows.{HoldsAddress, HasValue}
-use Rattle.mesh_wire.specs.Singles.{is_conflict}
+use Rattle.mesh_wire.proofs.Common.{◌≡◌, ℕ, inl, inr, refl, sym, ◌∙◌, ap, Bool, true, false, List, [], ◌∷◌, Contains, Decides, Option, Some, list_any, false≢true, cases_Bool, or_parts, or_cases, or_left, or_right, NetAddr, Decides-some, contains_at, MessageFields, AddressParts, MetricParts, RowParts, metric_at, link_metric, MetricKind, Link_in, Link_out, Near_in, Near_out, metric_kinds, ShowsMetric, HasWrongMetric, has_wrong_metric, HoldsAddress, HasValue, is_conflict}
 use Rattle.mesh_wire.proofs.FirstTest.{AtMost}
 use Rattle.mesh_wire.proofs.Kept.{AreTold, told_of, says_has, differ_conflict, conflict_differ, metrics_told}
 use Rattle.mesh_wire.proofs.Ruled.{Reaches}

@@ -1,6 +1,5 @@
 -- What is found of a list, looked through from its front.
-use Rattle.std.proofs.Common.{List, [], ◌∷◌}
-use Rattle.std.specs.Prelude.{Option, Some, None}
+use Rattle.mesh_wire.proofs.Common.{List, [], ◌∷◌, Option, Some, None}
 
 -- the one that was found, if one was, as it is seen
 abbrev pub front : {T X : Type 0} → (T → X) → Option T → List X

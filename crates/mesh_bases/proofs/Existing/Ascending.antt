@@ -1,13 +1,5 @@
 -- Listed addresses in ascending order.
-use Rattle.std.proofs.Common.{◌≡◌, ◌↔◌, ◌<◌, ◌⊎◌, inl, inr, suc, subst, ap, arith, List, [], ◌∷◌, get_or, Contains}
-use Rattle.std.proofs.lemmas.Bool.{cases_lt, cases_eq}
-use Rattle.std.proofs.lemmas.List.Elements.{Contains-get_or}
-use Rattle.std.proofs.lemmas.List.Kept.{AllPairs-cons}
-use Rattle.mesh_atoms.specs.declared.addr.Addr4.{Addr4}
-use Rattle.mesh_atoms.specs.Words.{IsAscending, Lists}
-use Rattle.mesh_atoms.proofs.Lists.{all_pairs_tail, contains_cases, contains_head, contains_none, contains_tail}
-use Rattle.mesh_atoms.proofs.Values.{same_addr}
-use Rattle.mesh_routes.proofs.Listed.{IsListed}
+use Rattle.mesh_bases.proofs.Common.{◌≡◌, ◌↔◌, ◌<◌, ◌⊎◌, inl, inr, suc, subst, ap, arith, List, [], ◌∷◌, get_or, Contains, cases_lt, cases_eq, Contains-get_or, AllPairs-cons, Addr4, IsAscending, Lists, all_pairs_tail, contains_cases, contains_head, contains_none, contains_tail, same_addr, IsListed}
 
 none_ascends : IsAscending []
 none_ascends i j d less low = absurd (omega arith)

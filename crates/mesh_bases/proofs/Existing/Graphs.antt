@@ -1,27 +1,12 @@
 -- Each router has its neighbour graphs, since its bases are lists.
-use Rattle.std.proofs.Common.{◌≡◌, ℕ, refl, sym, ◌∙◌, ap, subst, arith, length, slice_get, IsTrue, Option, Some, Contains}
+use Rattle.mesh_bases.proofs.Common.{◌≡◌, ℕ, refl, sym, ◌∙◌, ap, subst, arith, length, slice_get, IsTrue, Option, Some, Contains, slice_get_within, Addr4, Metric, Far, Near, NeighbourGraph, Link, LinkKey, Neighbour, Base, HasDistinctKeys, addr_eq, IsFloodingGraph, IsMetricOver, IsRoutingGraph, HasDistinctIds, State, HasLink, HasSymmetric, HasSymmetricWith, HasTwoHop, is_symmetric, neighbour_at, state_of, some_equal, same_some, IsListed, listed_by, listed_one}
 use Rattle.std.proofs.lemmas.Map.Views.{lookup-from_Contains}
-use Rattle.std.proofs.lemmas.Option.{slice_get_within}
-use Rattle.mesh_atoms.specs.declared.addr.Addr4.{Addr4}
-use Rattle.mesh_atoms.specs.declared.codes.metric.Metric.{Metric}
 use Rattle.mesh_atoms.specs.declared.graphs.Direct.{Direct}
-use Rattle.mesh_atoms.specs.declared.graphs.Far.{Far}
-use Rattle.mesh_atoms.specs.declared.graphs.Near.{Near}
-use Rattle.mesh_atoms.specs.declared.graphs.NeighbourGraph.{NeighbourGraph}
-use Rattle.mesh_atoms.specs.declared.tuples.Link.{Link}
-use Rattle.mesh_atoms.specs.declared.tuples.LinkKey.{LinkKey}
-use Rattle.mesh_atoms.specs.declared.tuples.Neighbour.{Neighbour}
 use Rattle.mesh_atoms.specs.declared.tuples.TwoHop.{TwoHop}
 use Rattle.mesh_atoms.specs.declared.tuples.TwoHopKey.{TwoHopKey}
 use Rattle.mesh_atoms.specs.declared.tuples.LinkState.TheVariants.{Symmetric as Is_symmetric}
-use Rattle.mesh_atoms.specs.Base.{Base, HasDistinctKeys, addr_eq}
 use Rattle.mesh_atoms.specs.Codes.Codes.{metric_value}
-use Rattle.mesh_atoms.specs.RelayGraphs.{IsFloodingGraph, IsMetricOver, IsRoutingGraph}
-use Rattle.mesh_atoms.specs.Relays.{HasDistinctIds}
-use Rattle.mesh_atoms.specs.State.{State, HasLink, HasSymmetric, HasSymmetricWith, HasTwoHop, is_symmetric, neighbour_at, state_of}
 use Rattle.mesh_atoms.proofs.Lookups.{addr_equiv, tests_symmetric}
-use Rattle.mesh_atoms.proofs.Options.{some_equal, same_some}
-use Rattle.mesh_routes.proofs.Listed.{IsListed, listed_by, listed_one}
 use Rattle.mesh_bases.proofs.Existing.Listings.{each_or_not, list_such, true_or_not, upto_or_not}
 use Rattle.mesh_bases.proofs.Existing.Listings.{list_elements, list_value, list_below, list_where, list_of}
 use Rattle.mesh_bases.proofs.Existing.Offers.{has_or_not}

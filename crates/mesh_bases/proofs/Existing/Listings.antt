@@ -1,11 +1,5 @@
 -- Lists of all that has a property, and statements that hold or don't.
-use Rattle.std.proofs.Common.{◌≡◌, ℕ, zero, suc, ◌<◌, ◌≤◌, ◌⊎◌, inl, inr, refl, sym, subst, arith, Bool, true, false}
-use Rattle.std.proofs.Common.{List, [], ◌∷◌, Contains, Option, Some, None}
-use Rattle.std.specs.List.{flat_map}
-use Rattle.std.proofs.lemmas.Bool.{cases_lt, false≢true}
-use Rattle.mesh_atoms.proofs.Lists.{contains_cases, contains_head, contains_none, contains_tail}
-use Rattle.mesh_atoms.proofs.Lists.{contains_flat_map, contains_flat_map_cases}
-use Rattle.mesh_routes.proofs.Listed.{IsListed, listed_by, listed_one}
+use Rattle.mesh_bases.proofs.Common.{◌≡◌, ℕ, zero, suc, ◌<◌, ◌≤◌, ◌⊎◌, inl, inr, refl, sym, subst, arith, Bool, true, false, List, [], ◌∷◌, Contains, Option, Some, None, flat_map, cases_lt, false≢true, contains_cases, contains_head, contains_none, contains_tail, contains_flat_map, contains_flat_map_cases, IsListed, listed_by, listed_one}
 
 -- Statements that hold or don't
 

@@ -1,13 +1,5 @@
 -- What sets of neighbours offer, and whether a relay is missed.
-use Rattle.std.proofs.Common.{ℕ, ◌+◌, inl, inr, refl, subst, arith, List, Contains}
-use Rattle.std.proofs.lemmas.Bool.{cases_eq}
-use Rattle.mesh_atoms.specs.declared.addr.Addr4.{Addr4}
-use Rattle.mesh_atoms.specs.declared.graphs.Near.{Near}
-use Rattle.mesh_atoms.specs.declared.graphs.Far.{Far}
-use Rattle.mesh_atoms.specs.declared.graphs.NeighbourGraph.{NeighbourGraph}
-use Rattle.mesh_atoms.specs.Relays.{Offers, IsWilling, IsOtherRelay, IsAsCheap, HasSameDistance, Covers, IsMissed, HasDistinctIds}
-use Rattle.mesh_atoms.proofs.Values.{same_address}
-use Rattle.mesh_routes.proofs.Listed.{IsListed, listed_by, listed_one, listed_either}
+use Rattle.mesh_bases.proofs.Common.{ℕ, ◌+◌, inl, inr, refl, subst, arith, List, Contains, cases_eq, Addr4, Near, Far, NeighbourGraph, Offers, IsWilling, IsOtherRelay, IsAsCheap, HasSameDistance, Covers, IsMissed, HasDistinctIds, same_address, IsListed, listed_by, listed_one, listed_either}
 use Rattle.mesh_bases.proofs.Existing.Listings.{HoldsOrNot, both_or_not, opposite_or_not, upto_or_not, some_or_none, each_or_not}
 use Rattle.mesh_bases.proofs.Existing.Listings.{list_elements, list_where, list_of}
 

@@ -1,17 +1,6 @@
 -- From each neighbour graph relays can be chosen: all willing neighbours are relays at first, and each one that isn't missed is left out.
-use Rattle.std.proofs.Common.{◌≡◌, ◌<◌, inl, inr, refl, sym, ap, subst, arith, Bool, not, filter, List, [], ◌∷◌, Contains}
-use Rattle.std.proofs.lemmas.Bool.{cases_lt}
-use Rattle.std.proofs.lemmas.List.Kept.{AllPairs-filter}
-use Rattle.mesh_atoms.specs.declared.addr.Addr4.{Addr4}
-use Rattle.mesh_atoms.specs.declared.graphs.Near.{Near}
-use Rattle.mesh_atoms.specs.declared.graphs.NeighbourGraph.{NeighbourGraph}
-use Rattle.mesh_atoms.specs.Base.{addr_eq}
-use Rattle.mesh_atoms.specs.RelayGraphs.{AreRelaysOf}
-use Rattle.mesh_atoms.specs.Relays.{IsWilling, IsRelay, IsOtherRelay, Covers, IsMissed, HasDistinctIds}
-use Rattle.mesh_atoms.specs.Words.{IsAscending}
+use Rattle.mesh_bases.proofs.Common.{◌≡◌, ◌<◌, inl, inr, refl, sym, ap, subst, arith, Bool, not, filter, List, [], ◌∷◌, Contains, cases_lt, AllPairs-filter, Addr4, Near, NeighbourGraph, addr_eq, AreRelaysOf, IsWilling, IsRelay, IsOtherRelay, Covers, IsMissed, HasDistinctIds, IsAscending, contains_cases, contains_filter, contains_filter_cases, contains_head, contains_none, contains_tail, listed_one}
 use Rattle.mesh_atoms.proofs.Deciding.{Decides-addr, Decides-not}
-use Rattle.mesh_atoms.proofs.Lists.{contains_cases, contains_filter, contains_filter_cases, contains_head, contains_none, contains_tail}
-use Rattle.mesh_routes.proofs.Listed.{listed_one}
 use Rattle.mesh_bases.proofs.Existing.Ascending.{list_ascending}
 use Rattle.mesh_bases.proofs.Existing.Listings.{list_elements, list_of, list_where}
 use Rattle.mesh_bases.proofs.Existing.Offers.{larger_as_cheap, offers_more, willing_or_not}

@@ -1,22 +1,11 @@
 -- What a message comes to, put together from what each call says.
-use Rattle.std.proofs.Common.{◌≡◌, ◌≢◌, ◌++◌, ℕ, List, [], Bool, true, false, refl, Option, Some, ◌⊎◌, inl, inr, ◌<◌, arith, sym, subst, ap, ◌∙◌}
-use Rattle.std.specs.Prelude.{IsTrue, slice_index}
-use Rattle.std.proofs.lemmas.Bool.{cases_lt}
-use Rattle.mesh_atoms.specs.declared.addr.Addr4.{Addr4}
-use Rattle.mesh_atoms.specs.declared.addr.NetAddr.{NetAddr}
-use Rattle.mesh_atoms.specs.declared.hello.Hello.{Hello}
+use Rattle.mesh_bases.proofs.Common.{◌≡◌, ◌≢◌, ◌++◌, ℕ, List, [], Bool, true, false, refl, Option, Some, ◌⊎◌, inl, inr, ◌<◌, arith, sym, subst, ap, ◌∙◌, IsTrue, slice_index, cases_lt, Addr4, NetAddr, Hello, RouterSettings, base_of, Neighbourhood, TopologyBase, NotedMessages, Bases, MessageFields, SpellsMessage, BreaksTc, ShortPrefix, Arrival, Fate, Frame, ReadsTc, Taken_in, Passed_by, kept_fates, IsReadAsBroken, Hello_breaks, Tc_breaks, ConsidersForwarding, only, hello_read, other_read, IsHeading, ProcessesTc, Tc_taken, Tc_passed, TakesMessage, Hello_read, Hello_broken, Tc_broken, Other_passed}
 use Rattle.mesh_atoms.specs.declared.tc.Tc.{Tc}
-use Rattle.mesh_atoms.specs.declared.settings.RouterSettings.{RouterSettings}
-use Rattle.mesh_atoms.specs.Base.{base_of}
-use Rattle.mesh_atoms.specs.State.{Neighbourhood, TopologyBase, NotedMessages, Bases}
 use Rattle.mesh_atoms.specs.TakesHello.{HelloAnswer, TakesHello}
-use Rattle.mesh_packet.specs.Fields.{MessageFields}
-use Rattle.mesh_packet.specs.Grammar.{SpellsMessage}
 use Rattle.mesh_wire.specs.Hello.{HelloIs}
 use Rattle.mesh_wire.specs.HelloRules.{BreaksHello}
 use Rattle.mesh_wire.specs.Rehop.{HasHop}
 use Rattle.mesh_wire.specs.Rules.{Keeps}
-use Rattle.mesh_wire.specs.TcRules.{BreaksTc, ShortPrefix}
 use Rattle.mesh_wire.specs.Kinds.{nbr_addr_type}
 use Rattle.mesh_wire.specs.Rows.{HasType, SaysFlag}
 use Rattle.mesh_wire.specs.Tc.{TcIs}
@@ -27,16 +16,9 @@ use Rattle.mesh_flood.specs.declared.verdict.Process.TheVariants as process
 use Rattle.mesh_flood.specs.declared.verdict.Forward.{Forward}
 use Rattle.mesh_flood.specs.declared.verdict.Forward.TheVariants as forward
 use Rattle.mesh_flood.specs.Verdict.{process_of, forward_of}
-use Rattle.mesh_machine.specs.declared.arrival.Arrival.{Arrival}
-use Rattle.mesh_machine.specs.declared.fate.Fate.{Fate}
 use Rattle.mesh_machine.specs.declared.fate.Read.{Read}
 use Rattle.mesh_machine.specs.declared.fate.Read.TheVariants as read
-use Rattle.mesh_machine.specs.declared.frame.Frame.{Frame}
 use Rattle.mesh_machine.proofs.Hops.{forwarded_hop}
-use Rattle.mesh_bases.specs.Held.Reading.{ReadsTc, Taken_in, Passed_by}
-use Rattle.mesh_bases.specs.Held.Taking.{kept_fates}
-use Rattle.mesh_bases.specs.Reading.Message.{IsReadAsBroken, Hello_breaks, Tc_breaks}
-use Rattle.mesh_machine.specs.Messages.{ConsidersForwarding, only, hello_read, other_read, IsHeading, ProcessesTc, Tc_taken, Tc_passed, TakesMessage, Hello_read, Hello_broken, Tc_broken, Other_passed}
 
 module _ (settings : RouterSettings) (own : Addr4) (arrival : Arrival) (old : Bases) (message : MessageFields) (octets : List ℕ) where
   pub hello_taken : (near : Neighbourhood) (hello : Hello) (answer : HelloAnswer) (r : Read) → message.kind ≡ 0 → Keeps (BreaksHello message) → HelloIs message hello →

@@ -1,13 +1,5 @@
 -- Where what relays, advertised rows and routes depend on stays.
-use Rattle.std.proofs.Common.{◌≡◌, ℕ, refl, sym, subst, ◌∙◌, ap, ◌&&◌, not, Bool, true, false, IsTrue, Option, Some, None}
-use Rattle.std.specs.Prelude.{cond}
-use Rattle.mesh_atoms.specs.declared.settings.RouterSettings.{RouterSettings}
-use Rattle.mesh_atoms.specs.declared.tuples.Link.{Link}
-use Rattle.mesh_atoms.specs.Base.{router_eq, address_eq, network_eq}
-use Rattle.mesh_atoms.specs.State.{Neighbourhood, TopologyBase, is_symmetric, link_at}
-use Rattle.mesh_nbrs.specs.Same.{SameNear, way_at}
-use Rattle.mesh_nhdp.specs.Staying.{AllIsAsItWas}
-use Rattle.mesh_topo.specs.Same.{SameAdvertised}
+use Rattle.mesh_bases.proofs.Common.{◌≡◌, ℕ, refl, sym, subst, ◌∙◌, ap, ◌&&◌, not, Bool, true, false, IsTrue, Option, Some, None, cond, RouterSettings, Link, router_eq, address_eq, network_eq, Neighbourhood, TopologyBase, is_symmetric, link_at, SameNear, way_at, AllIsAsItWas, SameAdvertised}
 use Rattle.mesh_topo.specs.TcSets.Tuples.{router_says, address_says, network_says}
 use Rattle.mesh_topo.proofs.TcSetsLemmas.Laws.{same_after, same_equal}
 

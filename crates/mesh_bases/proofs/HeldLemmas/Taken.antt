@@ -1,18 +1,5 @@
 -- What expiry and the messages of a packet leave.
-use Rattle.std.proofs.Common.{◌≡◌, sym, subst, ℕ, List}
-use Rattle.mesh_atoms.specs.declared.addr.Addr4.{Addr4}
-use Rattle.mesh_atoms.specs.declared.settings.RouterSettings.{RouterSettings}
-use Rattle.mesh_atoms.specs.Live.{Live}
-use Rattle.mesh_atoms.specs.State.{IsOriginator}
-use Rattle.mesh_bases.specs.Held.Held.{Held}
-use Rattle.mesh_machine.specs.declared.arrival.Arrival.{Arrival}
-use Rattle.mesh_machine.specs.declared.fate.Fate.{Fate}
-use Rattle.mesh_machine.specs.declared.frame.Frame.{Frame}
-use Rattle.mesh_machine.specs.Laws.{SoundBases}
-use Rattle.mesh_machine.specs.Messages.{TakesMessages}
-use Rattle.mesh_machine.proofs.Soundness.{live_bases_sound, messages_sound}
-use Rattle.mesh_packet.specs.declared.packet.Span.{Span}
-use Rattle.mesh_packet.specs.Fields.{MessageFields}
+use Rattle.mesh_bases.proofs.Common.{◌≡◌, sym, subst, ℕ, List, Addr4, RouterSettings, Live, IsOriginator, Held, Arrival, Fate, Frame, SoundBases, TakesMessages, live_bases_sound, messages_sound, Span, MessageFields}
 
 -- sound bases after expiry
 pub live_held : (old new : Held) (last now : ℕ) → SoundBases old.settings last old.bases → Live old.settings now old.bases new.bases → new.settings ≡ old.settings → SoundBases new.settings now new.bases

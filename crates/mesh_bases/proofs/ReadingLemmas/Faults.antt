@@ -1,7 +1,5 @@
 -- What is refused, in other words.
-use Rattle.std.proofs.Common.{ℕ, Option, Result, Ok, Err}
-use Rattle.std.specs.Prelude.{IfOk}
-use Rattle.mesh_atoms.specs.declared.addr.NetAddr.{NetAddr}
+use Rattle.mesh_bases.proofs.Common.{ℕ, Option, Result, Ok, Err, IfOk, NetAddr}
 use Rattle.mesh_wire.specs.declared.fault.WireFault.{WireFault}
 use Rattle.mesh_wire.specs.declared.fault.WireFault.TheVariants as faults
 use Rattle.mesh_wire.specs.Answers.{IfBroken}

@@ -1,22 +1,6 @@
 -- What messages read as, one after the other.
-use Rattle.std.proofs.Common.{◌≡◌, ℕ, ◌+◌, ◌<◌, zero, suc, List, [], ◌∷◌, ◌++◌, length, take, get_or, Some, refl, ap, subst}
-use Rattle.std.specs.Prelude.{slice_get}
-use Rattle.std.proofs.lemmas.Option.{none-some, slice_get-get_or}
-use Rattle.mesh_atoms.specs.declared.addr.Addr4.{Addr4}
-use Rattle.mesh_atoms.specs.declared.settings.RouterSettings.{RouterSettings}
-use Rattle.mesh_atoms.specs.State.{Bases}
-use Rattle.mesh_packet.specs.declared.packet.Span.{Span}
-use Rattle.mesh_packet.specs.Fields.{MessageFields}
-use Rattle.mesh_machine.specs.declared.arrival.Arrival.{Arrival}
-use Rattle.mesh_machine.specs.declared.fate.Fate.{Fate}
-use Rattle.mesh_machine.specs.declared.frame.Frame.{Frame}
-use Rattle.mesh_machine.specs.Frames.{octets_at}
-use Rattle.mesh_machine.specs.Messages.{TakesMessage, TakesMessages}
-use Rattle.mesh_machine.proofs.Takes.{takes_snoc}
-use Rattle.mesh_machine.proofs.hello.Collect.{taken_more}
+use Rattle.mesh_bases.proofs.Common.{◌≡◌, ℕ, ◌+◌, ◌<◌, zero, suc, List, [], ◌∷◌, ◌++◌, length, take, get_or, Some, refl, ap, subst, slice_get, none-some, slice_get-get_or, Addr4, RouterSettings, Bases, Span, MessageFields, Arrival, Fate, Frame, octets_at, TakesMessage, TakesMessages, takes_snoc, taken_more, IsReadAs, AreReadAs}
 use Rattle.mesh_bases.specs.declared.reading.message.TypedMessage.{TypedMessage}
-use Rattle.mesh_bases.specs.Reading.Message.{IsReadAs}
-use Rattle.mesh_bases.specs.Reading.Content.{AreReadAs}
 
 pub read_count : (messages : List MessageFields) (typed : List TypedMessage) → AreReadAs messages typed → length typed ≡ length messages
 read_count [] [] are = refl

@@ -1,19 +1,6 @@
 -- The rows of a part.
-use Rattle.std.proofs.Common.{◌≡◌, ℕ, ◌+◌, ◌-◌, ◌*◌, ◌%◌, ◌≤◌, ◌<◌, arith, inl, inr, sym, ap, subst, ◌∙◌, List, ◌∷◌, length, take, drop, get_or, map, Contains, Some}
-use Rattle.std.specs.Prelude.{slice_get, slice_range, min}
-use Rattle.std.specs.List.{AllPairs}
-use Rattle.std.proofs.lemmas.List.{get_or-take, get_or-drop, get_or-map, length-take-le, length-drop, length-map, take-append-drop, drop_more}
+use Rattle.mesh_bases.proofs.Common.{◌≡◌, ℕ, ◌+◌, ◌-◌, ◌*◌, ◌%◌, ◌≤◌, ◌<◌, arith, inl, inr, sym, ap, subst, ◌∙◌, List, ◌∷◌, length, take, drop, get_or, map, Contains, Some, slice_get, slice_range, min, AllPairs, get_or-take, get_or-drop, get_or-map, length-take-le, length-drop, length-map, take-append-drop, drop_more, cases_lt, slice_get_within, Contains-append_left, Contains-append_right, TcRow, State, AreOneType, HaveTypeWhole, PartSpan, part_of, AreSpans, Derived, HasRowsOf}
 use Rattle.std.proofs.Math.Nat.{min-le_right, mul-le-mul_right}
-use Rattle.std.proofs.lemmas.Bool.{cases_lt}
-use Rattle.std.proofs.lemmas.Option.{slice_get_within}
-use Rattle.std.proofs.lemmas.List.Elements.{Contains-append_left, Contains-append_right}
-use Rattle.mesh_atoms.specs.declared.tc.TcRow.{TcRow}
-use Rattle.mesh_atoms.specs.State.{State}
-use Rattle.mesh_atoms.specs.Writable.{AreOneType, HaveTypeWhole}
-use Rattle.mesh_topo.specs.declared.advertised.spans.PartSpan.{PartSpan}
-use Rattle.mesh_topo.specs.Advertised.Spans.{part_of, AreSpans}
-use Rattle.mesh_bases.specs.declared.derived.Derived.{Derived}
-use Rattle.mesh_bases.specs.Sending.Sent.{HasRowsOf}
 
 run_size : (first len : ℕ) → (first + len) - first ≡ len
 run_size first len = omega arith

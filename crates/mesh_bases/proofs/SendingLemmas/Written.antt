@@ -1,18 +1,5 @@
 -- What a router sends can be written.
-use Rattle.mesh_atoms.specs.Writable.{IsSentTime, IsSentIfSome, HaveStatusWhole, AreOneType, HaveTypeWhole}
-use Rattle.std.proofs.Common.{◌≡◌, ℕ, ◌⊎◌, inl, inr, sym, ap, subst, ◌∙◌, List, [], ◌∷◌, ◌++◌, length, Option, Some, None, IsTrue}
-use Rattle.std.specs.Prelude.{slice_get}
-use Rattle.mesh_atoms.specs.declared.addr.NetAddr.{NetAddr}
-use Rattle.mesh_atoms.specs.declared.hello.Hello.{Hello}
-use Rattle.mesh_atoms.specs.declared.tc.TcRow.{TcRow}
-use Rattle.mesh_atoms.specs.Advertised.{AreTcRows, IsTcRow, Of_address, Of_network}
-use Rattle.mesh_atoms.specs.Hello.{IsHelloNow, IsRoundedUp}
-use Rattle.mesh_atoms.specs.declared.settings.RouterSettings.{RouterSettings}
-use Rattle.mesh_atoms.specs.declared.tuples.Relays.{Relays}
-use Rattle.mesh_atoms.specs.State.{Neighbourhood, State}
-use Rattle.mesh_machine.specs.Machine.{no_bases}
-use Rattle.mesh_machine.specs.declared.frame.Frame.{Frame}
-use Rattle.mesh_machine.specs.Sending.{IsHelloFrame}
+use Rattle.mesh_bases.proofs.Common.{IsSentTime, IsSentIfSome, HaveStatusWhole, AreOneType, HaveTypeWhole, ◌≡◌, ℕ, ◌⊎◌, inl, inr, sym, ap, subst, ◌∙◌, List, [], ◌∷◌, ◌++◌, length, Option, Some, None, IsTrue, slice_get, NetAddr, Hello, TcRow, AreTcRows, IsTcRow, Of_address, Of_network, IsHelloNow, IsRoundedUp, RouterSettings, Relays, Neighbourhood, State, no_bases, Frame, IsHelloFrame}
 use Rattle.mesh_bases.proofs.Pushed.{at_pushed}
 
 -- a state with these settings, this neighbourhood and these relays

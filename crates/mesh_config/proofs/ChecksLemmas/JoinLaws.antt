@@ -1,6 +1,5 @@
 -- Arcs joined one after the other.
-use Rattle.std.proofs.Common.{List, ◌++◌, Ok, Err}
-use Rattle.mesh_config.specs.Keys.Faults.{ReadValue}
+use Rattle.mesh_config.proofs.Common.{List, ◌++◌, Ok, Err, ReadValue}
 
 -- what was read, in front of what is still to be
 abbrev pub after_front : {A : Type 0} → List A → ReadValue (List A) → ReadValue (List A)

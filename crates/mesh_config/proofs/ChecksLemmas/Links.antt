@@ -1,18 +1,6 @@
 -- What the tables state is what the checks look at.
-use Rattle.std.proofs.Common.{◌≡◌, ℕ, ◌+◌, List, [], ◌∷◌, map, position, Bool, not, codes, Option, Some, None, option_map, refl, sym, ap, ◌∙◌}
-use Rattle.std.specs.List.{list_all, list_any, flat_map, slice_get, position_from}
-use Rattle.std.proofs.lemmas.List.Folds.{list_all-map, flat_map-map}
-use Rattle.std.proofs.lemmas.Option.{slice_get-map}
-use Rattle.std.proofs.lemmas.Iterator.Adapters.{position_from-zero}
-use Rattle.mesh_atoms.specs.Base.{addr_eq}
-use Rattle.mesh_atoms.specs.Settings.{name_eq, are_distinct}
-use Rattle.mesh_config.specs.declared.stated.stated.StatedRouter.{StatedRouter}
-use Rattle.mesh_config.specs.declared.stated.stated.StatedInterface.{StatedInterface}
-use Rattle.mesh_config.specs.Keys.Faults.{Fault}
-use Rattle.mesh_atoms.specs.Literals.{◌>>=◌}
+use Rattle.mesh_config.proofs.Common.{◌≡◌, ℕ, ◌+◌, List, [], ◌∷◌, map, position, Bool, not, codes, Option, Some, None, option_map, refl, sym, ap, ◌∙◌, list_all, list_any, flat_map, slice_get, position_from, list_all-map, flat_map-map, slice_get-map, position_from-zero, addr_eq, name_eq, are_distinct, StatedRouter, StatedInterface, Fault, ◌>>=◌, Identifiers, NamedInterface, duplicates, duplicate_unless, find_place, same_interface, same_attached, all_addrs, attaches_no_host, stated_duplicates, stated_identifiers, stated_place}
 use Rattle.mesh_config.specs.Checks.Checks as checks
-use Rattle.mesh_config.specs.Checks.Checks.{Identifiers, NamedInterface, duplicates, duplicate_unless, find_place}
-use Rattle.mesh_config.specs.Checks.Compared.{same_interface, same_attached, all_addrs, attaches_no_host, stated_duplicates, stated_identifiers, stated_place}
 
 list_any-map : {A B : Type 0} (p : B → Bool) (f : A → B) (xs : List A) → list_any p (map f xs) ≡ list_any (λ x. p (f x)) xs
 list_any-map p f [] = refl

@@ -1,11 +1,5 @@
 -- Elements of arrays, one after the other.
-use Rattle.std.proofs.Common.{◌≡◌, ℕ, ◌+◌, ◌<◌, List, [], ◌∷◌, ◌++◌, map, length, get_or, drop, take, Option, Some, None, refl, sym, ap, ◌∙◌, append_assoc}
-use Rattle.std.proofs.lemmas.List.{drop_more, map_more}
-use Rattle.toml.specs.Data.{Data}
-use Rattle.toml.specs.View.{items_of, view}
-use Rattle.toml.specs.declared.value.Value.{Value}
-use Rattle.mesh_config.specs.Keys.Values.{items_list, all_of}
-use Rattle.mesh_atoms.specs.Literals.{◌>>=◌}
+use Rattle.mesh_config.proofs.Common.{◌≡◌, ℕ, ◌+◌, ◌<◌, List, [], ◌∷◌, ◌++◌, map, length, get_or, drop, take, Option, Some, None, refl, sym, ap, ◌∙◌, append_assoc, drop_more, map_more, Data, items_of, view, Value, items_list, all_of, ◌>>=◌}
 
 pub items_list-of : (ds : List Data) → items_list (items_of ds) ≡ ds
 items_list-of [] = refl

@@ -1,8 +1,5 @@
 -- The known keys of a table, one after the other.
-use Rattle.std.proofs.Common.{◌≡◌, ℕ, List, ◌∷◌, Bool, true, false, Some, string_bytes}
-use Rattle.toml.specs.View.{members_view}
-use Rattle.toml.proofs.Views.{Entry}
-use Rattle.mesh_config.specs.Keys.Values.{first_unknown}
+use Rattle.mesh_config.proofs.Common.{◌≡◌, ℕ, List, ◌∷◌, Bool, true, false, Some, string_bytes, members_view, Entry, first_unknown}
 
 -- a known key is passed
 pub passes_known : (is_known : List ℕ → Bool) (es rest : List Entry) (e : Entry) (name : List ℕ) (b : Bool) → es ≡ e ∷ rest → name ≡ string_bytes e.0

@@ -1,9 +1,5 @@
 -- A table in a table.
-use Rattle.std.proofs.Common.{◌≡◌, List, [], ◌∷◌, Option, Some, None, Result, Ok, refl}
-use Rattle.toml.specs.Data.{Members}
-use Rattle.mesh_config.specs.declared.keys.fault.ConfigFault.{ConfigFault}
-use Rattle.mesh_config.specs.Keys.Faults.{Fault, ReadValue, visit, first, ValueOrFault}
-use Rattle.mesh_config.specs.Keys.Values.{table_read}
+use Rattle.mesh_config.proofs.Common.{◌≡◌, List, [], ◌∷◌, Option, Some, None, Result, Ok, refl, Members, ConfigFault, Fault, ReadValue, visit, first, ValueOrFault, table_read}
 
 pub first_one : (found : Option Fault) → first (found ∷ []) ≡ found
 first_one None = refl

@@ -1,13 +1,6 @@
 -- Tables of arrays, one after the other.
-use Rattle.std.proofs.Common.{◌≡◌, ℕ, List, [], ◌∷◌, ◌++◌, map, Option, Some, None, refl, ◌+◌, ◌<◌, length, get_or, drop, take}
-use Rattle.toml.specs.Data.{Data, Members}
-use Rattle.std.specs.List.{flat_map}
-use Rattle.toml.specs.View.{view}
-use Rattle.toml.specs.declared.value.Value.{Value}
-use Rattle.mesh_config.specs.declared.keys.fault.ConfigFault.{ConfigFault}
+use Rattle.mesh_config.proofs.Common.{◌≡◌, ℕ, List, [], ◌∷◌, ◌++◌, map, Option, Some, None, refl, ◌+◌, ◌<◌, length, get_or, drop, take, Data, Members, flat_map, view, Value, ConfigFault, Fault, first, FailsAt, Each, table_of, element_visits, tables_visits}
 use Rattle.mesh_config.specs.declared.keys.fault.ConfigFault.TheVariants as faults
-use Rattle.mesh_config.specs.Keys.Faults.{Fault, first, FailsAt}
-use Rattle.mesh_config.specs.Stated.Tables.{Each, table_of, element_visits, tables_visits}
 use Rattle.mesh_config.proofs.KeysLemmas.Elements.{drop_here, map_take}
 
 -- the first of two lists

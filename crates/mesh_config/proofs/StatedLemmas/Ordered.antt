@@ -1,16 +1,6 @@
 -- Steps and near holds stand in order.
-use Rattle.std.proofs.Common.{◌≡◌, ℕ, List, [], ◌∷◌, map, None, codes, Result, Ok, Err, IfOk, IsTrue, ap}
-use Rattle.toml.specs.Data.{Data, Members}
-use Rattle.mesh_atoms.specs.declared.admit.QualityStep.{QualityStep}
+use Rattle.mesh_config.proofs.Common.{◌≡◌, ℕ, List, [], ◌∷◌, map, None, codes, Result, Ok, Err, IfOk, IsTrue, ap, Data, Members, QualityStep, are_ascending, same_ok, ConfigFault, ValueOrFault, first, visit, then_turned, unknown, is_one_of, ticks, Each, rising_visits, at_ms, quality_value, step_keys, step_visits, StepIs, hops, near_hold_ms, near_hold_keys, near_hold_visits, NearHoldIs}
 use Rattle.mesh_atoms.specs.declared.settings.NearHold.{NearHold}
-use Rattle.mesh_atoms.specs.Settings.{are_ascending}
-use Rattle.mesh_atoms.proofs.Options.{same_ok}
-use Rattle.mesh_config.specs.declared.keys.fault.ConfigFault.{ConfigFault}
-use Rattle.mesh_config.specs.Keys.Faults.{ValueOrFault, first, visit, then_turned}
-use Rattle.mesh_config.specs.Keys.Values.{unknown, is_one_of, ticks}
-use Rattle.mesh_config.specs.Stated.Tables.{Each, rising_visits}
-use Rattle.mesh_config.specs.Stated.Steps.{at_ms, quality_value, step_keys, step_visits, StepIs}
-use Rattle.mesh_config.specs.Stated.Rules.{hops, near_hold_ms, near_hold_keys, near_hold_visits, NearHoldIs}
 use Rattle.mesh_config.proofs.StatedLemmas.RisingTables.{Numbered, numbered, rising_ascends, ticks_rise}
 
 step_at : (t : Members) (step : QualityStep) (n : ℕ) → at_ms t ≡ Ok n → StepIs t step → step.at ≡ ticks n

@@ -1,15 +1,5 @@
 -- Tables of which each has a number above that of the one before.
-use Rattle.std.proofs.Common.{◌≡◌, ℕ, ◌+◌, ◌<◌, ◌≤◌, List, [], ◌∷◌, ◌++◌, map, true, false, Bool, nat_lt, if◌then◌else◌, Option, Some, None, Ok, Err, refl, ap, ◌∙◌, sym, length, get_or, drop, arith}
-use Rattle.std.specs.List.{list_all}
-use Rattle.std.proofs.lemmas.Bool.{and_from, lt-ltb, ltb-false}
-use Rattle.toml.specs.Data.{Data, Members, string, integer, float, boolean, datetime, array, table}
-use Rattle.toml.specs.View.{view}
-use Rattle.toml.specs.declared.value.Value.{Value}
-use Rattle.mesh_atoms.specs.Settings.{are_ascending}
-use Rattle.mesh_config.specs.declared.keys.fault.ConfigFault.{ConfigFault}
-use Rattle.mesh_config.specs.Keys.Faults.{Fault, ReadValue, first, visit, bad_value, FailsAt}
-use Rattle.mesh_config.specs.Keys.Values.{ticks}
-use Rattle.mesh_config.specs.Stated.Tables.{Each, table_of, element_visits, no_less, one_above, rising_visits}
+use Rattle.mesh_config.proofs.Common.{◌≡◌, ℕ, ◌+◌, ◌<◌, ◌≤◌, List, [], ◌∷◌, ◌++◌, map, true, false, Bool, nat_lt, if◌then◌else◌, Option, Some, None, Ok, Err, refl, ap, ◌∙◌, sym, length, get_or, drop, arith, list_all, and_from, lt-ltb, ltb-false, Data, Members, string, integer, float, boolean, datetime, array, table, view, Value, are_ascending, ConfigFault, Fault, ReadValue, first, visit, bad_value, FailsAt, ticks, Each, table_of, element_visits, no_less, one_above, rising_visits}
 use Rattle.mesh_config.proofs.KeysLemmas.Elements.{drop_here}
 use Rattle.mesh_config.proofs.StatedLemmas.Elements.{first_passes, fails_first}
 

@@ -1,21 +1,7 @@
 -- What a router has before an event, at its end and after a tick.
-use Rattle.std.proofs.Common.{◌≡◌, ℕ, IsTrue, ap, refl, subst, ◌∙◌}
-use Rattle.mesh_atoms.specs.Advertised.{AreTcRows}
-use Rattle.mesh_atoms.specs.State.{State}
-use Rattle.mesh_core.specs.declared.event.outdated.EventWants.{EventWants}
-use Rattle.mesh_core.specs.declared.event.outdated.Outdated.{Outdated}
-use Rattle.mesh_bases.specs.declared.held.quiet.Quiet.{Quiet}
-use Rattle.mesh_core.specs.Deferred.{IsButForDerived, IsSoundButForDerived}
-use Rattle.mesh_core.specs.Event.Ending.{IsBeforeEvent}
-use Rattle.mesh_core.specs.Event.Holding.{state_of}
-use Rattle.mesh_core.specs.Event.Outdated.{IsCurrent, KeepsWanted}
-use Rattle.mesh_bases.specs.Held.Held.{Held}
+use Rattle.mesh_core.proofs.Common.{◌≡◌, ℕ, IsTrue, ap, refl, subst, ◌∙◌, AreTcRows, State, EventWants, Outdated, Quiet, IsButForDerived, IsSoundButForDerived, IsBeforeEvent, state_of, IsCurrent, KeepsWanted, Held, Renews, Derived, HasDerived, rows_stay}
 use Rattle.mesh_bases.specs.Sending.Sent.{HasRowsOf}
-use Rattle.mesh_machine.specs.Renewal.{Renews}
 use Rattle.mesh_nbrs.specs.Same.{SameNear}
-use Rattle.mesh_bases.specs.declared.derived.Derived.{Derived}
-use Rattle.mesh_bases.specs.Renewed.{HasDerived}
-use Rattle.mesh_bases.proofs.RowMoments.{rows_stay}
 use Rattle.mesh_topo.specs.Same.{SameAdvertised}
 
 -- a state has what it is made of

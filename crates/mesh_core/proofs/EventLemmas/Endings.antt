@@ -1,27 +1,6 @@
 -- How an event ends.
-use Rattle.std.proofs.Common.{◌≡◌, ◌⊎◌, ℕ, Bool, true, false, IsTrue, not, ◌||◌, List, inl, inr, refl, sym, subst, ap, ◌∙◌}
-use Rattle.std.proofs.lemmas.Bool.{true≢false}
-use Rattle.mesh_atoms.specs.declared.addr.Addr4.{Addr4}
+use Rattle.mesh_core.proofs.Common.{◌≡◌, ◌⊎◌, ℕ, Bool, true, false, IsTrue, not, ◌||◌, List, inl, inr, refl, sym, subst, ap, ◌∙◌, true≢false, Addr4, TcRow, AreTcRows, AreRelays, AreRoutes, Bases, State, IsOriginator, SoundNeighbourhood, SoundTopology, SoundBases, Renews, tables_of, Derived, HasDerived, IsAnsnAfter, IsEmptiedAt, rows_stay, relays_kept, routes_kept, rows_kept, Outdated, EventWants, Quiet, IsBeforeEvent, GivesRelays, GivesRoutes, GivesRows, IsCurrent, KeepsWanted, Held}
 use Rattle.mesh_atoms.specs.declared.settings.RouterSettings.{RouterSettings}
-use Rattle.mesh_atoms.specs.declared.tc.TcRow.{TcRow}
-use Rattle.mesh_atoms.specs.Advertised.{AreTcRows}
-use Rattle.mesh_atoms.specs.RelayGraphs.{AreRelays}
-use Rattle.mesh_atoms.specs.Routes.{AreRoutes}
-use Rattle.mesh_atoms.specs.State.{Bases, State, IsOriginator}
-use Rattle.mesh_atoms.specs.Sound.{SoundNeighbourhood, SoundTopology}
-use Rattle.mesh_machine.specs.Laws.{SoundBases}
-use Rattle.mesh_machine.specs.Renewal.{Renews}
-use Rattle.mesh_routes.proofs.SameBases.{tables_of}
-use Rattle.mesh_bases.specs.declared.derived.Derived.{Derived}
-use Rattle.mesh_bases.specs.Renewed.{HasDerived, IsAnsnAfter, IsEmptiedAt}
-use Rattle.mesh_bases.proofs.RowMoments.{rows_stay}
-use Rattle.mesh_bases.proofs.Staying.{relays_kept, routes_kept, rows_kept}
-use Rattle.mesh_core.specs.declared.event.outdated.Outdated.{Outdated}
-use Rattle.mesh_core.specs.declared.event.outdated.EventWants.{EventWants}
-use Rattle.mesh_bases.specs.declared.held.quiet.Quiet.{Quiet}
-use Rattle.mesh_core.specs.Event.Ending.{IsBeforeEvent, GivesRelays, GivesRoutes, GivesRows}
-use Rattle.mesh_core.specs.Event.Outdated.{IsCurrent, KeepsWanted}
-use Rattle.mesh_bases.specs.Held.Held.{Held}
 use Rattle.mesh_core.proofs.EventLemmas.Wholes.{bases_but, originator_but, rows_but, there_are}
 
 -- what the end of an event has done to what a router had: rows, relays and routes stay, or are made anew

@@ -1,24 +1,6 @@
 -- What is promised of a frame that is heard.
-use Rattle.std.proofs.Common.{◌≡◌, ◌++◌, ℕ, ◌≤◌, List, [], refl, sym, ap, subst, arith, ◌∙◌}
-use Rattle.std.proofs.lemmas.List.{append-nil}
-use Rattle.mesh_atoms.specs.declared.refusal.Refusal.{Refusal}
-use Rattle.mesh_atoms.specs.State.{State}
-use Rattle.mesh_machine.specs.declared.arrival.Arrival.{Arrival}
-use Rattle.mesh_machine.specs.declared.fate.Fate.{Fate}
-use Rattle.mesh_machine.specs.declared.fate.Heard.{Heard}
+use Rattle.mesh_core.proofs.Common.{◌≡◌, ◌++◌, ℕ, ◌≤◌, List, [], refl, sym, ap, subst, arith, ◌∙◌, append-nil, Refusal, State, Arrival, Fate, Heard, Frame, Hears, HearsPacket, due, AreOctets, hears_due, hears_last, hears_settings, since_appends, since_is, hears_sendable, live_bases_sound, messages_sound, renews_sound, FirstFault, Outdated, EventWants, IsSoundButForDerived, IsCurrent, KeepsWanted, HearsAndKeeps, HearsTo}
 use Rattle.mesh_machine.specs.declared.fate.Heard.TheVariants as heard
-use Rattle.mesh_machine.specs.declared.frame.Frame.{Frame}
-use Rattle.mesh_machine.specs.Machine.{Hears, HearsPacket, due}
-use Rattle.mesh_machine.specs.Sendable.{AreOctets}
-use Rattle.mesh_machine.proofs.Effects.{hears_due, hears_last, hears_settings, since_appends, since_is}
-use Rattle.mesh_machine.proofs.Sendables.{hears_sendable}
-use Rattle.mesh_machine.proofs.Soundness.{live_bases_sound, messages_sound, renews_sound}
-use Rattle.mesh_packet.specs.Grammar.{FirstFault}
-use Rattle.mesh_core.specs.declared.event.outdated.Outdated.{Outdated}
-use Rattle.mesh_core.specs.declared.event.outdated.EventWants.{EventWants}
-use Rattle.mesh_core.specs.Deferred.{IsSoundButForDerived}
-use Rattle.mesh_core.specs.Event.Outdated.{IsCurrent, KeepsWanted}
-use Rattle.mesh_core.specs.Event.Promises.{HearsAndKeeps, HearsTo}
 use Rattle.mesh_core.proofs.EventLemmas.Wholes.{bases_but, but_through, sound_but}
 
 -- a frame leaves a router sound but for relays and routes

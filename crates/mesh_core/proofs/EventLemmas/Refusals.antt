@@ -1,8 +1,6 @@
 -- What a router answers to a frame that is refused.
-use Rattle.std.proofs.Common.{◌≡◌, ℕ, List, ap, ◌∙◌}
-use Rattle.mesh_atoms.specs.declared.refusal.Refusal.{Refusal}
+use Rattle.mesh_core.proofs.Common.{◌≡◌, ℕ, List, ap, ◌∙◌, Refusal, FirstFault}
 use Rattle.mesh_machine.specs.declared.fate.Heard.TheVariants as heard
-use Rattle.mesh_packet.specs.Grammar.{FirstFault}
 use Rattle.mesh_packet.specs.Laws.{HasOneFault}
 
 -- a frame is refused for its first fault

@@ -1,16 +1,5 @@
 -- What is promised of a tick of the clock.
-use Rattle.std.proofs.Common.{◌≡◌, ◌++◌, ℕ, ◌<◌, List, sym, ap, subst, ◌∙◌}
-use Rattle.mesh_atoms.specs.State.{State}
-use Rattle.mesh_machine.specs.declared.frame.Frame.{Frame}
-use Rattle.mesh_machine.specs.Machine.{TicksAt, due}
-use Rattle.mesh_machine.proofs.Effects.{since_appends, since_is, ticks_due}
-use Rattle.mesh_machine.proofs.Sendables.{ticks_sendable}
-use Rattle.mesh_machine.proofs.Soundness.{live_bases_sound, renews_sound}
-use Rattle.mesh_core.specs.declared.event.outdated.EventWants.{EventWants}
-use Rattle.mesh_core.specs.declared.event.outdated.Outdated.{Outdated}
-use Rattle.mesh_core.specs.Deferred.{IsSoundButForDerived}
-use Rattle.mesh_core.specs.Event.Outdated.{KeepsWanted}
-use Rattle.mesh_core.specs.Event.Promises.{TicksTo}
+use Rattle.mesh_core.proofs.Common.{◌≡◌, ◌++◌, ℕ, ◌<◌, List, sym, ap, subst, ◌∙◌, State, Frame, TicksAt, due, since_appends, since_is, ticks_due, ticks_sendable, live_bases_sound, renews_sound, EventWants, Outdated, IsSoundButForDerived, KeepsWanted, TicksTo}
 use Rattle.mesh_core.proofs.EventLemmas.Wholes.{bases_but, but_through, sound_but}
 
 pub ticks_to : (wants : EventWants) (old : State) (now : ℕ) (before after : List Frame) (outdated : Outdated) (new : State) → IsSoundButForDerived old →

@@ -1,24 +1,7 @@
 -- A state of which relays and routes are outdated is one with some relays and routes but for those.
-use Rattle.std.proofs.Common.{◌≡◌, Bool, true, false, List, refl, subst}
-use Rattle.std.proofs.lemmas.Bool.{true≢false}
-use Rattle.mesh_atoms.specs.declared.addr.Addr4.{Addr4}
-use Rattle.mesh_atoms.specs.declared.graphs.Route.{Route}
-use Rattle.mesh_atoms.specs.declared.tuples.Relays.{Relays}
-use Rattle.mesh_atoms.specs.Advertised.{AreTcRows}
-use Rattle.mesh_atoms.specs.RelayGraphs.{AreRelays}
-use Rattle.mesh_atoms.specs.Routes.{AreRoutes}
-use Rattle.mesh_atoms.specs.Sound.{Sound, SoundNeighbourhood, SoundTopology}
-use Rattle.mesh_atoms.specs.State.{State, IsOriginator}
-use Rattle.mesh_machine.specs.Laws.{SoundBases}
-use Rattle.mesh_machine.proofs.Soundness.{bases_of}
+use Rattle.mesh_core.proofs.Common.{◌≡◌, Bool, true, false, List, refl, subst, true≢false, Addr4, Route, Relays, AreTcRows, AreRelays, AreRoutes, Sound, SoundNeighbourhood, SoundTopology, State, IsOriginator, SoundBases, bases_of, tables_of, rows_stay, relays_kept, routes_kept, Outdated, IsButForDerived, IsSoundButForDerived, IsCurrent}
 use Rattle.mesh_routes.proofs.Existing.{routes_exist}
-use Rattle.mesh_routes.proofs.SameBases.{tables_of}
 use Rattle.mesh_bases.proofs.Existing.{relays_exist}
-use Rattle.mesh_bases.proofs.RowMoments.{rows_stay}
-use Rattle.mesh_bases.proofs.Staying.{relays_kept, routes_kept}
-use Rattle.mesh_core.specs.declared.event.outdated.Outdated.{Outdated}
-use Rattle.mesh_core.specs.Deferred.{IsButForDerived, IsSoundButForDerived}
-use Rattle.mesh_core.specs.Event.Outdated.{IsCurrent}
 use Rattle.mesh_bases.proofs.HeldLemmas.Quiet.{advertised_equal, near_equal}
 
 -- What is sound but for relays and routes

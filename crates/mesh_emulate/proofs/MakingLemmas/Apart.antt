@@ -1,20 +1,9 @@
 -- Pairs of routers of which none stands twice.
-use Rattle.std.proofs.Common.{◌≡◌, ℕ, zero, suc, ◌+◌, ◌-◌, ◌*◌, ◌%◌, ◌<◌, ◌≤◌, ◌≢◌, Bool, true, false, not, List, [], ◌∷◌, ◌++◌, map, length, inl, inr, refl, sym, ◌∙◌, subst, arith, length-append, append_assoc}
-use Rattle.std.specs.Prelude.{nat_eq, nat_lt, ◌&&◌}
-use Rattle.std.specs.List.{AllByRecursion as Each, flat_map, list_any, range_with_len}
-use Rattle.std.proofs.lemmas.Bool.{and_parts, and_left, and_right, cases_Bool, eqb-false, eqb-true, eq-eqb, ne_eqb, ltb-true, ltb-false, not-true, or_parts}
-use Rattle.std.proofs.lemmas.List.FromFn.{map-range_with_len_more}
-use Rattle.std.proofs.lemmas.List.Folds.{list_any-append}
-use Rattle.std.proofs.lemmas.List.{append-nil}
+use Rattle.mesh_emulate.proofs.Common.{◌≡◌, ℕ, zero, suc, ◌+◌, ◌-◌, ◌*◌, ◌%◌, ◌<◌, ◌≤◌, ◌≢◌, Bool, true, false, not, List, [], ◌∷◌, ◌++◌, map, length, inl, inr, refl, sym, ◌∙◌, subst, arith, length-append, append_assoc, nat_eq, nat_lt, ◌&&◌, AllByRecursion as Each, flat_map, list_any, range_with_len, and_parts, and_left, and_right, cases_Bool, eqb-false, eqb-true, eq-eqb, ne_eqb, ltb-true, ltb-false, not-true, or_parts, map-range_with_len_more, list_any-append, append-nil, are_distinct, RouterPair, pair, pair_if, grid_pairs_of, ring_pairs, tree_pairs, same_pair, joined_with, more_pairs, word, ArePairs, Kind, each_both, each_weaker}
 use Rattle.std.proofs.lemmas.Nat.{mod_below}
-use Rattle.mesh_atoms.specs.Settings.{are_distinct}
-use Rattle.mesh_emulate.specs.declared.making.pairs.RouterPair.{RouterPair}
-use Rattle.mesh_emulate.specs.Making.Pairs.{pair, pair_if, grid_pairs_of, ring_pairs, tree_pairs, same_pair, joined_with, more_pairs, word, ArePairs}
 use Rattle.mesh_emulate.proofs.MakingLemmas.Growing.{flat_more}
 use Rattle.mesh_emulate.proofs.MakingLemmas.Rows.{two_or_more}
-use Rattle.mesh_emulate.specs.declared.making.kind.Kind.{Kind}
 use Rattle.mesh_emulate.specs.declared.making.kind.Kind.TheVariants as kind
-use Rattle.mesh_texts.proofs.LineLists.{each_both, each_weaker}
 
 -- pairs of n routers, at most so many, none of which stands twice
 pub record AreApart (n most : ℕ) (pairs : List RouterPair) : Type 0 where

@@ -1,18 +1,6 @@
 -- The arcs of pairs of which none stands twice.
-use Rattle.std.proofs.Common.{◌≡◌, ℕ, ◌+◌, ◌*◌, ◌<◌, ◌≤◌, true, false, not, List, [], ◌∷◌, map, length, inl, inr, refl, sym, ap, ◌∙◌, arith}
-use Rattle.std.specs.Prelude.{nat_eq, slice_index}
-use Rattle.std.specs.List.{AllByRecursion as Each, list_all, list_any}
-use Rattle.std.proofs.lemmas.Bool.{and_parts, not-true, cases_Bool, eq-eqb, eqb-true, ne_eqb, true≢false}
-use Rattle.std.proofs.lemmas.List.{length-map}
-use Rattle.mesh_atoms.specs.declared.settings.RadioArc.{RadioArc}
-use Rattle.mesh_atoms.specs.Settings.{Ends, AreArcs, are_distinct, ends_eq, joins_routers}
-use Rattle.mesh_config.specs.Checks.Compared.{ends_of}
-use Rattle.mesh_emulate.specs.declared.making.pairs.RouterPair.{RouterPair}
-use Rattle.mesh_emulate.specs.Making.Pairs.{same_pair}
-use Rattle.mesh_emulate.specs.Making.Scenario.{IsMadeArc, AreMadeArcs}
+use Rattle.mesh_emulate.proofs.Common.{◌≡◌, ℕ, ◌+◌, ◌*◌, ◌<◌, ◌≤◌, true, false, not, List, [], ◌∷◌, map, length, inl, inr, refl, sym, ap, ◌∙◌, arith, nat_eq, slice_index, AllByRecursion as Each, list_all, list_any, and_parts, not-true, cases_Bool, eq-eqb, eqb-true, ne_eqb, true≢false, length-map, RadioArc, Ends, AreArcs, are_distinct, ends_eq, joins_routers, ends_of, RouterPair, same_pair, IsMadeArc, AreMadeArcs, Kind, each_weaker}
 use Rattle.mesh_emulate.proofs.MakingLemmas.Apart.{AreApart, none_of}
-use Rattle.mesh_emulate.specs.declared.making.kind.Kind.{Kind}
-use Rattle.mesh_texts.proofs.LineLists.{each_weaker}
 
 -- from a router to another
 abbrev way : ℕ → ℕ → Ends

@@ -1,10 +1,5 @@
 -- The greatest metric of routes.
-use Rattle.std.proofs.Common.{◌≡◌, ℕ, ◌+◌, ◌<◌, ◌≤◌, List, [], ◌∷◌, ◌++◌, map, length, take, get_or, max, Some, refl, sym, ap, ◌∙◌, arith, inl, inr}
-use Rattle.std.proofs.lemmas.Bool.{cases_lt}
-use Rattle.std.proofs.lemmas.List.{flat_map_more, map_more}
-use Rattle.std.proofs.lemmas.List.Elements.{All-push, All-weaker, Contains-append_left, Contains-append_right}
-use Rattle.mesh_atoms.specs.State.{State}
-use Rattle.mesh_emulate.specs.Making.Routes.{metrics_of, IsGreatest}
+use Rattle.mesh_emulate.proofs.Common.{◌≡◌, ℕ, ◌+◌, ◌<◌, ◌≤◌, List, [], ◌∷◌, ◌++◌, map, length, take, get_or, max, Some, refl, sym, ap, ◌∙◌, arith, inl, inr, cases_lt, flat_map_more, map_more, All-push, All-weaker, Contains-append_left, Contains-append_right, State, metrics_of, IsGreatest}
 
 greatest_same : (metrics : List ℕ) (greatest metric : ℕ) → IsGreatest metrics (Some greatest) → metric ≤ greatest →
     IsGreatest (metrics ++ metric ∷ []) (Some greatest)

@@ -1,13 +1,5 @@
 -- One pair more, and one router more.
-use Rattle.std.proofs.Common.{◌≡◌, ℕ, suc, ◌+◌, ◌-◌, ◌*◌, ◌%◌, ◌<◌, List, [], ◌∷◌, ◌++◌, length, refl, sym, ap, ◌∙◌, subst, arith}
-use Rattle.std.specs.List.{flat_map, range_with_len}
-use Rattle.std.proofs.lemmas.List.{flat_map_more, map-id}
-use Rattle.std.proofs.lemmas.List.FromFn.{map-range_with_len_more}
-use Rattle.mesh_atoms.specs.declared.settings.RadioArc.{RadioArc}
-use Rattle.mesh_emulate.specs.declared.making.pairs.RouterPair.{RouterPair}
-use Rattle.mesh_emulate.specs.Making.Pairs.{joined_with, more_pairs, word}
-use Rattle.mesh_emulate.specs.Making.Scenario.{IsMadeArc, AreMadeArcs}
-use Rattle.mesh_emulate.specs.declared.making.kind.Kind.{Kind}
+use Rattle.mesh_emulate.proofs.Common.{◌≡◌, ℕ, suc, ◌+◌, ◌-◌, ◌*◌, ◌%◌, ◌<◌, List, [], ◌∷◌, ◌++◌, length, refl, sym, ap, ◌∙◌, subst, arith, flat_map, range_with_len, flat_map_more, map-id, map-range_with_len_more, RadioArc, RouterPair, joined_with, more_pairs, word, IsMadeArc, AreMadeArcs, Kind}
 
 -- Numbers in order
 

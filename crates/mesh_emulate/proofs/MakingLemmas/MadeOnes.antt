@@ -1,29 +1,13 @@
 -- The settings of the routers of a made scenario.
-use Rattle.std.proofs.Common.{◌≡◌, ℕ, zero, suc, ◌+◌, ◌*◌, ◌≤◌, List, [], ◌∷◌, map, length, Some, sym, ap, ◌∙◌, subst, arith}
-use Rattle.std.specs.Prelude.{slice_get}
-use Rattle.std.proofs.lemmas.List.{length-map}
+use Rattle.mesh_emulate.proofs.Common.{◌≡◌, ℕ, zero, suc, ◌+◌, ◌*◌, ◌≤◌, List, [], ◌∷◌, map, length, Some, sym, ap, ◌∙◌, subst, arith, slice_get, length-map, RadioArc, RouterSettings, AreArcs, ends_of, stated_lists, AddressLists, HaveAllSenders, HaveAllQualities, addr_lists, all_have, counts_same, lists_same, RouterPair, name_of, IsMadeRouter, AreMadeArcs, IsStated, AreStated, StatedRouter, ArePlainFields, Kind, no_members}
 use Rattle.mesh_atoms.specs.declared.admit.QualityStep.{QualityStep}
-use Rattle.mesh_atoms.specs.declared.settings.RadioArc.{RadioArc}
-use Rattle.mesh_atoms.specs.declared.settings.RouterSettings.{RouterSettings}
 use Rattle.mesh_atoms.specs.declared.settings.Times.{Times}
-use Rattle.mesh_atoms.specs.Settings.{AreArcs}
-use Rattle.mesh_config.specs.Checks.Compared.{ends_of, stated_lists}
 use Rattle.mesh_config.specs.Fields.{RouterParts, settings_parts, stated_parts, thresholds_of, threshold_pair}
-use Rattle.mesh_config.specs.Senders.{AddressLists, HaveAllSenders, HaveAllQualities, addr_lists}
-use Rattle.mesh_config.proofs.Builds.{all_have}
-use Rattle.mesh_config.proofs.Sounds.{counts_same, lists_same}
-use Rattle.mesh_emulate.specs.declared.making.pairs.RouterPair.{RouterPair}
-use Rattle.mesh_emulate.specs.Making.Scenario.{name_of, IsMadeRouter, AreMadeArcs}
-use Rattle.mesh_emulate.specs.Making.Stated.{IsStated, AreStated}
 use Rattle.mesh_emulate.proofs.MakingLemmas.Apart.{AreApart}
 use Rattle.mesh_emulate.proofs.MakingLemmas.ArcEnds.{arcs_sound}
 use Rattle.mesh_emulate.proofs.MakingLemmas.StatedOnes.{one_each}
-use Rattle.mesh_config.specs.declared.stated.stated.StatedRouter.{StatedRouter}
-use Rattle.mesh_config.specs.Stated.Router.{ArePlainFields}
 use Rattle.mesh_config.specs.Stated.Rules.{plain_thresholds}
 use Rattle.mesh_config.specs.Stated.Times.{TimesIs}
-use Rattle.mesh_emulate.specs.declared.making.kind.Kind.{Kind}
-use Rattle.toml.specs.Data.{no_members}
 
 module _ (times : Times) (default : TimesIs no_members times) where
   one_made : (i : ℕ) (r : RouterSettings) (d : StatedRouter) → settings_parts r ≡ stated_parts times d → IsStated i d → IsMadeRouter i r

@@ -1,16 +1,7 @@
 -- The least routes of the routers of a settled network, one behind the other.
-use Rattle.std.proofs.Common.{◌≡◌, ◌≢◌, ℕ, zero, suc, ◌+◌, List, [], ◌∷◌, ◌++◌, map, Some, inl, inr, refl, sym, ap, ◌∙◌, subst, arith}
-use Rattle.std.specs.Prelude.{Contains, slice_get}
-use Rattle.std.specs.List.{AllPairs}
-use Rattle.std.proofs.lemmas.List.{map-append}
+use Rattle.mesh_emulate.proofs.Common.{◌≡◌, ◌≢◌, ℕ, zero, suc, ◌+◌, List, [], ◌∷◌, ◌++◌, map, Some, inl, inr, refl, sym, ap, ◌∙◌, subst, arith, Contains, slice_get, AllPairs, map-append, Contains-append_cases, Contains-append_left, Contains-append_right, NetAddr, Route, State, Reached, metrics_of}
 use Rattle.std.proofs.lemmas.Simd.{map-map}
-use Rattle.std.proofs.lemmas.List.Elements.{Contains-append_cases, Contains-append_left, Contains-append_right}
-use Rattle.mesh_atoms.specs.declared.addr.NetAddr.{NetAddr}
-use Rattle.mesh_atoms.specs.declared.graphs.Route.{Route}
 use Rattle.mesh_atoms.specs.Nodes.{IsBefore}
-use Rattle.mesh_atoms.specs.State.{State}
-use Rattle.mesh_emulate.specs.Making.Made.{Reached}
-use Rattle.mesh_emulate.specs.Making.Routes.{metrics_of}
 use Rattle.mesh_atoms.proofs.Lists.{contains_map_cases as from_map, all_pairs_cons, all_pairs_tail, contains_map, all_pairs_head}
 
 abbrev pub reached_by : ℕ → Route → Reached

@@ -1,5 +1,5 @@
 -- The rows of a grid.
-use Rattle.std.proofs.Common.{ℕ, zero, suc, ◌*◌, ◌≤◌, arith}
+use Rattle.mesh_emulate.proofs.Common.{ℕ, zero, suc, ◌*◌, ◌≤◌, arith}
 
 -- a square of 2 or more is that of 2 or more
 pub two_or_more : (n c : ℕ) → 2 ≤ n → n ≤ c * c → 2 ≤ c

@@ -1,22 +1,9 @@
 -- The routers of a made scenario: their names and addresses, none of which stands twice.
-use Rattle.std.proofs.Common.{◌≡◌, ℕ, zero, suc, ◌+◌, ◌/◌, ◌%◌, ◌<◌, ◌≤◌, true, false, not, None, List, [], ◌∷◌, ◌++◌, map, length, codes, decimal, inl, inr, refl, ap, ◌∙◌, arith}
-use Rattle.std.specs.Prelude.{nat_le, slice_index, ◌&&◌}
-use Rattle.std.specs.Cmp.Lexicographic.{bytes_decides}
-use Rattle.std.specs.List.{flat_map, list_all, list_any, range_with_len}
-use Rattle.std.proofs.lemmas.Bool.{and_from, or_from, or_right, not_from_false, cases_Bool, cases_lt, le-leb, ne_eqb}
+use Rattle.mesh_emulate.proofs.Common.{◌≡◌, ℕ, zero, suc, ◌+◌, ◌/◌, ◌%◌, ◌<◌, ◌≤◌, true, false, not, None, List, [], ◌∷◌, ◌++◌, map, length, codes, decimal, inl, inr, refl, ap, ◌∙◌, arith, nat_le, slice_index, ◌&&◌, bytes_decides, flat_map, list_all, list_any, range_with_len, and_from, or_from, or_right, not_from_false, cases_Bool, cases_lt, le-leb, ne_eqb, append_cancel_left, length-map, Addr4, IsName, is_name_octet, name_eq, are_distinct, same_router, same_interface, same_attached, router_addrs, all_addrs, attaches_no_host, stated_duplicates, stated_identifiers, name_of, addr_of, face_of, IsStated, AreStated, StatedRouter, InterfaceFields, stated_interface_fields, first}
 use Rattle.std.proofs.lemmas.Fmt.{decimal_digit, decimal_injective, decimal_step}
-use Rattle.std.proofs.lemmas.List.{append_cancel_left, length-map}
-use Rattle.mesh_atoms.specs.declared.addr.Addr4.{Addr4}
 use Rattle.mesh_atoms.specs.Base.{addr_eq}
-use Rattle.mesh_atoms.specs.Settings.{IsName, is_name_octet, name_eq, are_distinct}
 use Rattle.mesh_config.specs.Checks.Checks.{Identifiers}
-use Rattle.mesh_config.specs.Checks.Compared.{same_router, same_interface, same_attached, router_addrs, all_addrs, attaches_no_host, stated_duplicates, stated_identifiers}
-use Rattle.mesh_emulate.specs.Making.Scenario.{name_of, addr_of, face_of}
-use Rattle.mesh_emulate.specs.Making.Stated.{IsStated, AreStated}
 use Rattle.mesh_config.specs.declared.stated.stated.StatedInterface.{StatedInterface}
-use Rattle.mesh_config.specs.declared.stated.stated.StatedRouter.{StatedRouter}
-use Rattle.mesh_config.specs.Stated.Router.{InterfaceFields, stated_interface_fields}
-use Rattle.mesh_config.specs.Keys.Faults.{first}
 
 -- Names
 

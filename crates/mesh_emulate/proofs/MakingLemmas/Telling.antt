@@ -1,20 +1,6 @@
 -- What is told of a run of a made network.
-use Rattle.std.proofs.Common.{◌≡◌, ℕ, ◌≤◌, List, length, refl, sym, ap, ◌∙◌, subst, arith}
-use Rattle.std.proofs.lemmas.List.{length-map}
-use Rattle.mesh_atoms.specs.declared.graphs.RadioGraph.{RadioGraph}
-use Rattle.mesh_atoms.specs.declared.settings.Scenario.{Scenario}
-use Rattle.mesh_atoms.specs.Radio.{IsRadioGraph}
-use Rattle.mesh_atoms.specs.State.{State}
-use Rattle.mesh_emulate.specs.Making.Made.{IsEndText, IsMadeText, MadeEmulation}
-use Rattle.mesh_emulate.specs.Making.Scenario.{IsMade}
+use Rattle.mesh_emulate.proofs.Common.{◌≡◌, ℕ, ◌≤◌, List, length, refl, sym, ap, ◌∙◌, subst, arith, length-map, RadioGraph, Scenario, IsRadioGraph, State, IsEndText, IsMadeText, MadeEmulation, IsMade, NetEvent, NetState, IsOpeningNet, IsOver, NetRun, IsNetwork, end_is_network, final_count, WholeRun, Kind}
 use Rattle.mesh_atoms.specs.declared.network.Counts.{Counts}
-use Rattle.mesh_atoms.specs.declared.network.NetEvent.{NetEvent}
-use Rattle.mesh_texts.specs.machine.Net.{NetState}
-use Rattle.mesh_texts.specs.machine.NetRun.{IsOpeningNet, IsOver, NetRun}
-use Rattle.mesh_settled.specs.Gaps.Network.{IsNetwork}
-use Rattle.mesh_texts.proofs.RunStates.{end_is_network, final_count}
-use Rattle.mesh_texts.specs.Runs.{WholeRun}
-use Rattle.mesh_emulate.specs.declared.making.kind.Kind.{Kind}
 
 -- a run of the network of a scenario that ends with this one
 abbrev pub EndsWith : Scenario → NetState → Type 0

@@ -1,25 +1,8 @@
 -- What holds of every made network, and what its text tells.
-use Rattle.std.proofs.Common.{◌≡◌, ℕ, ◌+◌, List, [], ◌∷◌, ◌++◌, length, map, Option, None, Some, refl, sym, ap, ◌∙◌, subst, arith, append_assoc, codes, decimal}
-use Rattle.std.specs.Prelude.{Contains, slice_get}
-use Rattle.std.proofs.lemmas.List.{append-nil, length-map}
-use Rattle.mesh_atoms.specs.declared.addr.NetAddr.{NetAddr}
-use Rattle.mesh_atoms.specs.declared.settings.RouterSettings.{RouterSettings}
-use Rattle.mesh_atoms.specs.declared.settings.Scenario.{Scenario}
-use Rattle.mesh_atoms.specs.Radio.{Router, RadioLeast}
-use Rattle.mesh_atoms.specs.Settled.{At, Settled}
+use Rattle.mesh_emulate.proofs.Common.{◌≡◌, ℕ, ◌+◌, List, [], ◌∷◌, ◌++◌, length, map, Option, None, Some, refl, sym, ap, ◌∙◌, subst, arith, append_assoc, codes, decimal, Contains, slice_get, append-nil, length-map, NetAddr, RouterSettings, Scenario, Router, RadioLeast, At, Settled, MadeNetworksRunMachines, MadeNetworksTellSettled, Reached, AreRadioRoutes, TellsLeastRoutes, metrics_of, IsGreatest, settled_rows, IsSettledNetwork, line_after, line_end, begins_otherwise, number, counts_plain, nothing_plain, says_exactly, tells_whether, run_states, routers_are_runs, end_is_settled, IsLine, BeginsWith, WholeRun, Kind}
 use Rattle.mesh_emulate.specs.Making.Lines.{kind_text, made_line, greatest_text, routes_line}
-use Rattle.mesh_emulate.specs.Making.Made.{MadeNetworksRunMachines, MadeNetworksTellSettled, Reached, AreRadioRoutes, TellsLeastRoutes}
-use Rattle.mesh_emulate.specs.Making.Routes.{metrics_of, IsGreatest}
 use Rattle.mesh_emulate.proofs.MakingLemmas.Reaching.{all_reached, metrics_same, where_from, is_there, all_apart}
-use Rattle.mesh_paths.proofs.SettledLaw.{settled_rows}
-use Rattle.mesh_paths.specs.SettledRoutes.{IsSettledNetwork}
-use Rattle.mesh_texts.proofs.LineTexts.{line_after, line_end, begins_otherwise, number, counts_plain, nothing_plain}
-use Rattle.mesh_texts.proofs.ReadBack.{says_exactly, tells_whether}
-use Rattle.mesh_texts.proofs.RunStates.{run_states, routers_are_runs, end_is_settled}
 use Rattle.mesh_texts.specs.Network.{counts_line, settled_text}
-use Rattle.mesh_texts.specs.Printed.{IsLine, BeginsWith}
-use Rattle.mesh_texts.specs.Runs.{WholeRun}
-use Rattle.mesh_emulate.specs.declared.making.kind.Kind.{Kind}
 use Rattle.mesh_emulate.specs.declared.making.kind.Kind.TheVariants as kind
 
 pub run_as_machines : MadeNetworksRunMachines

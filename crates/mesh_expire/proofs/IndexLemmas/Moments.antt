@@ -1,17 +1,6 @@
 -- The moments of a table, in order, and at each the keys of the entries that end at it.
-use Rattle.std.proofs.lemmas.Bool.{lt-ltb, le-ltb, eqb-true}
-use Rattle.std.proofs.Common.{◌≡◌, ℕ, zero, suc, ◌+◌, ◌-◌, ◌<◌, ◌≤◌, arith, Bool, true, false, cond, ◌&&◌, List, [], ◌∷◌, ◌++◌, length, drop, take, Option, Some, None, Result, Ok, Err, refl, sym, ap, subst, ◌∙◌, nat_eq}
-use Rattle.std.specs.Prelude.{if◌then◌else◌, is_some, IsSome, OnErr, OnOk, OnSome, option_map, slice_get, unwrap_or}
-use Rattle.std.specs.Ordering.{nat_cmp}
-use Rattle.std.specs.Cmp.{IsEquivalence, unsigned_ties, nat_eq_equiv}
-use Rattle.std.specs.BTreeMap.{BTreeMap, get, is_at}
-use Rattle.std.specs.Map.{set_value}
-use Rattle.std.proofs.lemmas.Map.Entries.{lookup_from_place}
-use Rattle.mesh_atoms.specs.Base.{Base, HasDistinctKeys, find, SetsOnly, Expires, IsFresh, if_live}
-use Rattle.mesh_expire.specs.Index.Moments.{once_if, times_in, times_at, PutsAt, TakesAt, is_moment, until_of, AreMomentsOf, SetsMoment}
-use Rattle.mesh_expire.specs.Table.{changed_at, TakesExpired}
+use Rattle.mesh_expire.proofs.Common.{lt-ltb, le-ltb, eqb-true, ◌≡◌, ℕ, zero, suc, ◌+◌, ◌-◌, ◌<◌, ◌≤◌, arith, Bool, true, false, cond, ◌&&◌, List, [], ◌∷◌, ◌++◌, length, drop, take, Option, Some, None, Result, Ok, Err, refl, sym, ap, subst, ◌∙◌, nat_eq, if◌then◌else◌, is_some, IsSome, OnErr, OnOk, OnSome, option_map, slice_get, unwrap_or, nat_cmp, IsEquivalence, unsigned_ties, nat_eq_equiv, BTreeMap, get, is_at, set_value, lookup_from_place, Base, HasDistinctKeys, find, SetsOnly, Expires, IsFresh, if_live, once_if, times_in, times_at, PutsAt, TakesAt, is_moment, until_of, AreMomentsOf, SetsMoment, changed_at, TakesExpired, none_is_some}
 use Rattle.mesh_expire.proofs.Laws.{find_same, find-changed_at, changed_at-set_value}
-use Rattle.mesh_atoms.proofs.Options.{none_is_some}
 
 -- one pair comes in, where its key had none
 comes : (a e : Bool) (x : ℕ) → x ≡ cond e 0 x → x + once_if (a && e) ≡ cond e (once_if a) x

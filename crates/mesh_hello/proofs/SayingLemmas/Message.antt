@@ -1,28 +1,6 @@
 -- The HELLO out of its rows, and sound tuples are apart.
-use Rattle.std.proofs.Common.{◌≡◌, ◌<◌, ℕ, inl, sym, ◌∙◌, ap, subst, map, length, get_or, arith}
-use Rattle.std.specs.Prelude.{List, Contains, AllPairs, Some, ◌↔◌}
-use Rattle.std.proofs.lemmas.List.{length-map, get_or-map}
-use Rattle.mesh_atoms.specs.declared.addr.Addr4.{Addr4}
-use Rattle.mesh_atoms.specs.declared.addr.NetAddr.{NetAddr}
-use Rattle.mesh_atoms.specs.declared.hello.HelloRow.{HelloRow}
-use Rattle.mesh_atoms.specs.declared.hello.Hello.{Hello}
-use Rattle.mesh_atoms.specs.declared.settings.RouterSettings.{RouterSettings}
-use Rattle.mesh_atoms.specs.declared.tuples.LinkKey.{LinkKey}
-use Rattle.mesh_atoms.specs.declared.tuples.Link.{Link}
-use Rattle.mesh_atoms.specs.declared.tuples.Lost.{Lost}
-use Rattle.mesh_atoms.specs.declared.tuples.Neighbour.{Neighbour}
-use Rattle.mesh_atoms.specs.declared.tuples.Relays.{Relays}
-use Rattle.mesh_atoms.specs.Base.{Base, base_of, find, host, addr_eq, link_eq}
-use Rattle.mesh_atoms.specs.Hello.{IsHelloNow, IsRoundedUp}
-use Rattle.mesh_atoms.specs.Nodes.{IsBefore}
-use Rattle.mesh_atoms.specs.Words.{IsAscending}
-use Rattle.mesh_atoms.specs.Sound.{SoundNeighbourhood}
-use Rattle.mesh_atoms.specs.State.{State, Neighbourhood, IsOriginator}
-use Rattle.mesh_atoms.proofs.Lookups.{has_found, addr_equiv, same_addr, link_equiv, same_link}
-use Rattle.mesh_hello.specs.Saying.Said.{AreDisjoint, IsSeen, IsHelloRowOf, said_addresses}
+use Rattle.mesh_hello.proofs.Common.{◌≡◌, ◌<◌, ℕ, inl, sym, ◌∙◌, ap, subst, map, length, get_or, arith, List, Contains, AllPairs, Some, ◌↔◌, length-map, get_or-map, Addr4, NetAddr, HelloRow, Hello, RouterSettings, LinkKey, Link, Lost, Neighbour, Relays, Base, base_of, find, host, addr_eq, link_eq, IsHelloNow, IsRoundedUp, IsBefore, IsAscending, SoundNeighbourhood, State, Neighbourhood, IsOriginator, has_found, addr_equiv, same_addr, link_equiv, same_link, AreDisjoint, IsSeen, IsHelloRowOf, said_addresses, same_some, contains_map, contains_map_cases}
 use Rattle.mesh_hello.proofs.SayingLemmas.Somewhere.{told_all}
-use Rattle.mesh_atoms.proofs.Options.{same_some}
-use Rattle.mesh_atoms.proofs.Lists.{contains_map, contains_map_cases}
 
 -- what the HELLO is made of: the addresses of which something is said, and a row for each, in their order
 pub record IsHelloOf (settings : RouterSettings) (links : Base LinkKey Link) (neighbours : Base Addr4 Neighbour) (losts : Base Addr4 Lost) (relays : Relays) (i now : ℕ) (list : List Addr4) (hello : Hello) : Type 0 where

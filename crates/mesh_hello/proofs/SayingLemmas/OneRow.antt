@@ -1,32 +1,9 @@
 -- The row of an address says what is shown of it.
-use Rattle.std.proofs.Common.{◌≡◌, ℕ, Bool, true, false, refl, sym, ap, ◌∙◌, subst, arith}
-use Rattle.std.proofs.lemmas.Grind.{common_steps}
-use Rattle.std.specs.Prelude.{Contains, Option, Some, None, slice_get, IsTrue, IfSome, IfNone, ◌↔◌, is_some}
-use Rattle.std.proofs.lemmas.Bool.{false≢true}
-use Rattle.std.proofs.lemmas.Map.Entries.{place_from_lookup}
-use Rattle.std.proofs.lemmas.Map.Views.{lookup-from_Contains}
-use Rattle.mesh_atoms.specs.declared.addr.Addr4.{Addr4}
-use Rattle.mesh_atoms.specs.declared.hello.HelloRow.{HelloRow}
-use Rattle.mesh_atoms.specs.declared.settings.RouterSettings.{RouterSettings}
-use Rattle.mesh_atoms.specs.declared.tuples.LinkKey.{LinkKey}
-use Rattle.mesh_atoms.specs.declared.tuples.Link.{Link}
-use Rattle.mesh_atoms.specs.declared.tuples.Lost.{Lost}
-use Rattle.mesh_atoms.specs.declared.tuples.Neighbour.{Neighbour}
-use Rattle.mesh_atoms.specs.declared.tuples.Relays.{Relays}
-use Rattle.mesh_atoms.specs.Base.{Base, Has, HasDistinctKeys, addr_eq, link_eq, find, host}
-use Rattle.mesh_expire.specs.Table.{entry_of, value_of}
-use Rattle.std.specs.Borrow.{Bor}
-use Rattle.mesh_atoms.proofs.Lookups.{has_found, addr_equiv, same_addr, link_equiv, same_link}
+use Rattle.mesh_hello.proofs.Common.{◌≡◌, ℕ, Bool, true, false, refl, sym, ap, ◌∙◌, subst, arith, common_steps, Contains, Option, Some, None, slice_get, IsTrue, IfSome, IfNone, ◌↔◌, is_some, false≢true, place_from_lookup, lookup-from_Contains, Addr4, HelloRow, RouterSettings, LinkKey, Link, Lost, Neighbour, Relays, Base, Has, HasDistinctKeys, addr_eq, link_eq, find, host, entry_of, value_of, Bor, has_found, addr_equiv, same_addr, link_equiv, same_link, IsHelloRow, IsValue, State, IsLinkWith, IsNeighbourWith, AreDisjoint, IsLocalOn, IsRelayOf, IsFloodingRelayOver, IsHelloRowOf, said_addresses, link_status_said, other_said, link_in_said, link_out_said, near_in_said, near_out_said, contains_at, same_some, none_not}
 use Rattle.mesh_links.specs.Links.{HasLinkWith}
-use Rattle.mesh_atoms.specs.Hello.{IsHelloRow}
-use Rattle.mesh_atoms.specs.Words.{IsValue}
-use Rattle.mesh_atoms.specs.State.{State}
-use Rattle.mesh_hello.specs.Saying.Said.{IsLinkWith, IsNeighbourWith, AreDisjoint, IsLocalOn, IsRelayOf, IsFloodingRelayOver, IsHelloRowOf, said_addresses, link_status_said, other_said, link_in_said, link_out_said, near_in_said, near_out_said}
 use Rattle.mesh_hello.proofs.SayingLemmas.Parts.{IsStatus, is_status, is_only, local_told, link_told, other_told, link_in_told, link_out_told, near_in_told, near_out_told, flooding_told, routing_told}
 use Rattle.mesh_hello.proofs.SayingLemmas.Somewhere.{told_some}
 use Rattle.mesh_hello.proofs.Collect.{iff_on}
-use Rattle.mesh_atoms.proofs.Lists.{contains_at}
-use Rattle.mesh_atoms.proofs.Options.{same_some, none_not}
 
 -- what the row is made of: the tuples that have the address, and what they show
 pub record IsMadeOf (settings : RouterSettings) (links : Base LinkKey Link) (neighbours : Base Addr4 Neighbour) (losts : Base Addr4 Lost) (relays : Relays) (i now : ℕ) (row : HelloRow) (a : Addr4) : Type 0 where

@@ -1,27 +1,10 @@
 -- Rows of a router's own addresses say nothing else of them.
-use Rattle.std.proofs.Common.{◌≡◌, ℕ, inl, inr, refl, ◌∙◌, ap, Contains, Bool, true, false, arith}
-use Rattle.std.proofs.lemmas.Grind.{common_steps}
-use Rattle.std.specs.Prelude.{Option, Some, None, IsTrue, IsSome}
-use Rattle.std.proofs.lemmas.Bool.{false≢true}
-use Rattle.mesh_atoms.specs.declared.addr.Addr4.{Addr4}
-use Rattle.mesh_atoms.specs.declared.hello.Hello.{Hello}
-use Rattle.mesh_atoms.specs.declared.hello.HelloRow.{HelloRow}
-use Rattle.mesh_atoms.specs.declared.hello.LinkStatus.{LinkStatus}
-use Rattle.mesh_atoms.specs.declared.hello.LinkStatus.TheVariants.{Lost as Down, Symmetric, Heard}
-use Rattle.mesh_atoms.specs.declared.hello.LocalIf.{LocalIf}
-use Rattle.mesh_atoms.specs.declared.hello.LocalIf.TheVariants.{This, Other}
+use Rattle.mesh_hello.proofs.Common.{◌≡◌, ℕ, inl, inr, refl, ◌∙◌, ap, Contains, Bool, true, false, arith, common_steps, Option, Some, None, IsTrue, IsSome, false≢true, Addr4, Hello, HelloRow, LinkStatus, Symmetric, Heard, LocalIf, This, Other, Metric, RouterSettings, Relays, Part, Says, IsHelloNow, local_part, link_part, other_part, Link_in, Link_out, Near_in, Near_out, Flooding, Routing, IsValue, SoundNeighbourhood, State, Neighbourhood, HasAddress, IsHeld}
+use Rattle.mesh_atoms.specs.declared.hello.LinkStatus.TheVariants.{Lost as Down}
 use Rattle.mesh_atoms.specs.declared.hello.Metrics.{Metrics}
 use Rattle.mesh_atoms.specs.declared.hello.Mpr.{Mpr}
 use Rattle.mesh_atoms.specs.declared.hello.OtherStatus.{OtherStatus}
 use Rattle.mesh_atoms.specs.declared.hello.OtherStatus.TheVariants.{Lost as No_more, Symmetric as Still}
-use Rattle.mesh_atoms.specs.declared.codes.metric.Metric.{Metric}
-use Rattle.mesh_atoms.specs.declared.settings.RouterSettings.{RouterSettings}
-use Rattle.mesh_atoms.specs.declared.tuples.Relays.{Relays}
-use Rattle.mesh_atoms.specs.Hello.{Part, Says, IsHelloNow, local_part, link_part, other_part, Link_in, Link_out, Near_in, Near_out, Flooding, Routing}
-use Rattle.mesh_atoms.specs.Words.{IsValue}
-use Rattle.mesh_atoms.specs.Sound.{SoundNeighbourhood}
-use Rattle.mesh_atoms.specs.State.{State, Neighbourhood, HasAddress}
-use Rattle.mesh_atoms.specs.TakesHello.{IsHeld}
 use Rattle.mesh_atoms.specs.Writable.{IsAlone}
 use Rattle.mesh_hello.proofs.SayingLemmas.RowCounts.{tuple_held, sample}
 use Rattle.mesh_hello.proofs.SayingLemmas.Whose.{IsLocal, whose}

@@ -1,30 +1,8 @@
 -- What is shown of an address, part by part.
-use Rattle.std.proofs.Common.{◌≡◌, ℕ, Bool, true, false, inl, inr, refl, sym, ◌∙◌, ap, subst}
-use Rattle.std.specs.Prelude.{Contains, List, Option, Some, None, slice_get, IsTrue, ◌↔◌, is_some}
-use Rattle.std.specs.Borrow.{Bor}
-use Rattle.std.proofs.lemmas.Bool.{false≢true}
-use Rattle.mesh_atoms.specs.declared.addr.Addr4.{Addr4}
-use Rattle.mesh_atoms.specs.declared.codes.metric.Metric.{Metric}
-use Rattle.mesh_atoms.specs.declared.hello.LocalIf.{LocalIf}
-use Rattle.mesh_atoms.specs.declared.hello.LocalIf.TheVariants.{This, Other}
-use Rattle.mesh_atoms.specs.declared.hello.LinkStatus.{LinkStatus}
-use Rattle.mesh_atoms.specs.declared.hello.LinkStatus.TheVariants.{Lost as Down, Symmetric, Heard}
+use Rattle.mesh_hello.proofs.Common.{◌≡◌, ℕ, Bool, true, false, inl, inr, refl, sym, ◌∙◌, ap, subst, Contains, List, Option, Some, None, slice_get, IsTrue, ◌↔◌, is_some, Bor, false≢true, Addr4, Metric, LocalIf, This, Other, LinkStatus, Symmetric, Heard, Interface, RouterSettings, LinkKey, Link, Lost, Neighbour, Base, Has, status_said, Says, SaysLink, HasLinkTo, Link_in, Link_out, Near_in, Near_out, Flooding, Routing, link_part, local_part, other_part, IsValue, LinkState, Pending as Is_pending, State, state_of, HasLink, HasSymmetricWith, HasAddressOn, entry_of, IsLinkWith, IsNeighbourWith, AreDisjoint, IsLocalOn, IsRelayOf, IsFloodingRelayOver, link_status_said, other_said, link_in_said, link_out_said, near_in_said, near_out_said, same_some, none_not}
+use Rattle.mesh_atoms.specs.declared.hello.LinkStatus.TheVariants.{Lost as Down}
 use Rattle.mesh_atoms.specs.declared.hello.OtherStatus.TheVariants.{Lost as No_more, Symmetric as Still}
-use Rattle.mesh_atoms.specs.declared.settings.Interface.{Interface}
-use Rattle.mesh_atoms.specs.declared.settings.RouterSettings.{RouterSettings}
-use Rattle.mesh_atoms.specs.declared.tuples.LinkKey.{LinkKey}
-use Rattle.mesh_atoms.specs.declared.tuples.Link.{Link}
-use Rattle.mesh_atoms.specs.declared.tuples.Lost.{Lost}
-use Rattle.mesh_atoms.specs.declared.tuples.Neighbour.{Neighbour}
-use Rattle.mesh_atoms.specs.Base.{Base, Has}
-use Rattle.mesh_atoms.specs.Hello.{status_said, Says, SaysLink, HasLinkTo, Link_in, Link_out, Near_in, Near_out, Flooding, Routing, link_part, local_part, other_part}
-use Rattle.mesh_atoms.specs.Words.{IsValue}
-use Rattle.mesh_atoms.specs.declared.tuples.LinkState.{LinkState}
-use Rattle.mesh_atoms.specs.declared.tuples.LinkState.TheVariants.{Pending as Is_pending, Lost as Is_lost, Symmetric as Is_symmetric, Heard as Is_heard}
-use Rattle.mesh_atoms.specs.State.{State, state_of, HasLink, HasSymmetricWith, HasAddressOn}
-use Rattle.mesh_expire.specs.Table.{entry_of}
-use Rattle.mesh_hello.specs.Saying.Said.{IsLinkWith, IsNeighbourWith, AreDisjoint, IsLocalOn, IsRelayOf, IsFloodingRelayOver, link_status_said, other_said, link_in_said, link_out_said, near_in_said, near_out_said}
-use Rattle.mesh_atoms.proofs.Options.{same_some, none_not}
+use Rattle.mesh_atoms.specs.declared.tuples.LinkState.TheVariants.{Lost as Is_lost, Symmetric as Is_symmetric, Heard as Is_heard}
 
 pub lent : {K V : Type 0} (o : Option (Bor K × Bor V × ℕ)) (e : Bor K × Bor V × ℕ) → o ≡ Some e → entry_of o ≡ Some (e.0.now, (e.1.now, e.2))
 lent o e is = ap entry_of is

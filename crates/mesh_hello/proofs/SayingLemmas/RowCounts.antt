@@ -1,35 +1,8 @@
 -- How many rows a HELLO has.
-use Rattle.std.proofs.Common.{◌≡◌, ℕ, zero, suc, ◌+◌, ◌*◌, ◌<◌, ◌≤◌, ◌⊎◌, inl, inr, refl, sym, ◌∙◌, ap, subst, arith, List, [], ◌∷◌, ◌++◌, length, length-append, map, Contains, Bool, true, false, get_or}
-use Rattle.std.proofs.lemmas.Grind.{common_steps}
-use Rattle.std.specs.Prelude.{not, None, AllPairs}
-use Rattle.std.specs.List.{filter, flat_map, list_any}
-use Rattle.std.proofs.lemmas.Bool.{cases_lt, false≢true}
-use Rattle.std.proofs.lemmas.List.{length-map, get_or-map}
-use Rattle.std.proofs.lemmas.List.Elements.{All-filter, All-contains, All-contains_itself, filter_passes, Contains-append_left, Contains-append_right, Contains-get_or}
-use Rattle.std.proofs.lemmas.List.Kept.{AllPairs-filter}
-use Rattle.std.proofs.lemmas.Map.Views.{list_any-from_Contains}
-use Rattle.mesh_atoms.specs.declared.addr.Addr4.{Addr4}
-use Rattle.mesh_atoms.specs.declared.addr.NetAddr.{NetAddr}
-use Rattle.mesh_atoms.specs.declared.hello.Hello.{Hello}
-use Rattle.mesh_atoms.specs.declared.hello.HelloRow.{HelloRow}
-use Rattle.mesh_atoms.specs.declared.settings.Interface.{Interface}
-use Rattle.mesh_atoms.specs.declared.settings.RouterSettings.{RouterSettings}
-use Rattle.mesh_atoms.specs.declared.tuples.Link.{Link}
-use Rattle.mesh_atoms.specs.declared.tuples.LinkKey.{LinkKey}
-use Rattle.mesh_atoms.specs.declared.tuples.Neighbour.{Neighbour}
-use Rattle.mesh_atoms.specs.Base.{addr_eq}
-use Rattle.mesh_atoms.specs.Hello.{Part, Says, IsHelloNow}
-use Rattle.mesh_atoms.specs.Nodes.{IsBefore}
-use Rattle.mesh_atoms.specs.Words.{IsAscending, AreMoreThan}
-use Rattle.mesh_atoms.specs.Sound.{SoundNeighbourhood}
-use Rattle.mesh_atoms.specs.State.{State, Neighbourhood, HasAddress, HasLink, HasSymmetricWith}
-use Rattle.mesh_atoms.specs.TakesHello.{IsHeld}
-use Rattle.mesh_atoms.proofs.Lookups.{addr_equiv, same_addr, has_found, looks_up_links, looks_up_neighbours}
-use Rattle.mesh_atoms.specs.declared.tuples.Relays.{Relays}
+use Rattle.mesh_hello.proofs.Common.{◌≡◌, ℕ, zero, suc, ◌+◌, ◌*◌, ◌<◌, ◌≤◌, ◌⊎◌, inl, inr, refl, sym, ◌∙◌, ap, subst, arith, List, [], ◌∷◌, ◌++◌, length, length-append, map, Contains, Bool, true, false, get_or, common_steps, not, None, AllPairs, filter, flat_map, list_any, cases_lt, false≢true, length-map, get_or-map, All-filter, All-contains, All-contains_itself, filter_passes, Contains-append_left, Contains-append_right, Contains-get_or, AllPairs-filter, list_any-from_Contains, Addr4, NetAddr, Hello, HelloRow, Interface, RouterSettings, Link, LinkKey, Neighbour, addr_eq, Part, Says, IsHelloNow, IsBefore, IsAscending, AreMoreThan, SoundNeighbourhood, State, Neighbourhood, HasAddress, HasLink, HasSymmetricWith, IsHeld, addr_equiv, same_addr, has_found, looks_up_links, looks_up_neighbours, Relays, contains_filter as picked, contains_at, contains_flat_map}
 use Rattle.mesh_hello.proofs.Sorted.{distinct_ascending}
 use Rattle.mesh_hello.proofs.SayingLemmas.Whose.{HasTuple, Linked, Near, Gone, whose}
 use Rattle.mesh_hello.proofs.Fits.{any_contains, distinct_fits}
-use Rattle.mesh_atoms.proofs.Lists.{contains_filter as picked, contains_at, contains_flat_map}
 
 -- Lists
 

@@ -1,29 +1,9 @@
 -- The addresses of which something is said are those that are put into the list.
-use Rattle.std.proofs.Common.{◌≡◌, ◌++◌, ℕ, Bool, true, false, cond, nat_lt, inl, inr, List, [], ◌∷◌, refl, sym, ◌∙◌, ap, subst, slice_get, arith}
-use Rattle.std.proofs.lemmas.Grind.{common_steps}
-use Rattle.std.specs.Prelude.{Contains, Option, Some, None, IsTrue}
-use Rattle.std.specs.List.{flat_map}
-use Rattle.std.specs.Map.{keys_of}
-use Rattle.std.proofs.lemmas.Bool.{false≢true, cases_eq}
-use Rattle.std.proofs.lemmas.List.Elements.{Contains-append_left, Contains-append_right, Contains-append_cases}
-use Rattle.mesh_atoms.specs.declared.addr.Addr4.{Addr4}
-use Rattle.mesh_atoms.specs.declared.hello.LinkStatus.{LinkStatus}
-use Rattle.mesh_atoms.specs.declared.hello.LinkStatus.TheVariants.{Lost as Down, Symmetric, Heard}
-use Rattle.mesh_atoms.specs.declared.settings.Interface.{Interface}
-use Rattle.mesh_atoms.specs.declared.tuples.LinkKey.{LinkKey}
-use Rattle.mesh_atoms.specs.declared.tuples.Link.{Link}
-use Rattle.mesh_atoms.specs.declared.tuples.Lost.{Lost}
-use Rattle.mesh_atoms.specs.declared.tuples.Neighbour.{Neighbour}
-use Rattle.mesh_atoms.specs.Base.{Base, Has}
-use Rattle.mesh_atoms.specs.Hello.{Part, This_if, Other_if, Link_lost, Link_symmetric, Link_heard, Other_lost, Other_symmetric, Says, HasLinkTo}
-use Rattle.mesh_atoms.specs.declared.tuples.LinkState.{LinkState}
-use Rattle.mesh_atoms.specs.declared.tuples.LinkState.TheVariants.{Pending as Is_pending, Lost as Is_lost, Symmetric as Is_symmetric, Heard as Is_heard}
-use Rattle.mesh_atoms.specs.State.{State, state_of, HasSymmetricWith, HasAddressOn}
-use Rattle.mesh_hello.specs.Saying.Said.{linked_addresses, symmetric_addresses, said_addresses}
+use Rattle.mesh_hello.proofs.Common.{◌≡◌, ◌++◌, ℕ, Bool, true, false, cond, nat_lt, inl, inr, List, [], ◌∷◌, refl, sym, ◌∙◌, ap, subst, slice_get, arith, common_steps, Contains, Option, Some, None, IsTrue, flat_map, keys_of, false≢true, cases_eq, Contains-append_left, Contains-append_right, Contains-append_cases, Addr4, LinkStatus, Symmetric, Heard, Interface, LinkKey, Link, Lost, Neighbour, Base, Has, Part, This_if, Other_if, Link_lost, Link_symmetric, Link_heard, Other_lost, Other_symmetric, Says, HasLinkTo, LinkState, Pending as Is_pending, State, state_of, HasSymmetricWith, HasAddressOn, linked_addresses, symmetric_addresses, said_addresses, contains_head, contains_flat_map_cases, contains_flat_map, contains_at, place_of, contains_cases, contains_tail, same_some}
+use Rattle.mesh_atoms.specs.declared.hello.LinkStatus.TheVariants.{Lost as Down}
+use Rattle.mesh_atoms.specs.declared.tuples.LinkState.TheVariants.{Lost as Is_lost, Symmetric as Is_symmetric, Heard as Is_heard}
 use Rattle.mesh_hello.proofs.SayingLemmas.Parts.{IsStatus, not_symmetric}
 use Rattle.mesh_hello.proofs.SayingLemmas.Whose.{Linked, Near, Gone, whose}
-use Rattle.mesh_atoms.proofs.Lists.{contains_head, contains_flat_map_cases, contains_flat_map, contains_at, place_of, contains_cases, contains_tail}
-use Rattle.mesh_atoms.proofs.Options.{same_some}
 
 -- Lists in general
 

@@ -1,14 +1,6 @@
 -- Whose address it is of which a HELLO says something.
-use Rattle.std.proofs.Common.{◌≡◌, ℕ, ◌⊎◌, inl, inr}
-use Rattle.mesh_atoms.specs.declared.addr.Addr4.{Addr4}
-use Rattle.mesh_atoms.specs.declared.tuples.Link.{Link}
-use Rattle.mesh_atoms.specs.declared.tuples.Lost.{Lost}
-use Rattle.mesh_atoms.specs.declared.tuples.Neighbour.{Neighbour}
-use Rattle.mesh_atoms.specs.declared.tuples.LinkState.{LinkState}
-use Rattle.mesh_atoms.specs.declared.tuples.LinkState.TheVariants.{Pending as Is_pending, Lost as Is_lost, Symmetric as Is_symmetric, Heard as Is_heard}
-use Rattle.mesh_atoms.specs.Base.{Has}
-use Rattle.mesh_atoms.specs.Hello.{Part, This_if, Other_if, Link_lost, Link_symmetric, Link_heard, Other_lost, Other_symmetric, Link_in, Link_out, Near_in, Near_out, Flooding, Routing, Says, HasLinkTo}
-use Rattle.mesh_atoms.specs.State.{State, HasAddress, HasSymmetricWith}
+use Rattle.mesh_hello.proofs.Common.{◌≡◌, ℕ, ◌⊎◌, inl, inr, Addr4, Link, Lost, Neighbour, LinkState, Pending as Is_pending, Has, Part, This_if, Other_if, Link_lost, Link_symmetric, Link_heard, Other_lost, Other_symmetric, Link_in, Link_out, Near_in, Near_out, Flooding, Routing, Says, HasLinkTo, State, HasAddress, HasSymmetricWith}
+use Rattle.mesh_atoms.specs.declared.tuples.LinkState.TheVariants.{Lost as Is_lost, Symmetric as Is_symmetric, Heard as Is_heard}
 
 -- the part says that the address is the sender's
 abbrev pub IsLocal : Part → Type 0

@@ -1,25 +1,5 @@
 -- What rows tell as the sender's, and which HELLOs are refused for it.
-use Rattle.std.proofs.Common.{◌≡◌, ◌≢◌, ℕ, Bool, true, false, not, inl, inr, refl, sym, ap, ◌∙◌, arith}
-use Rattle.std.proofs.lemmas.Grind.{common_steps}
-use Rattle.std.specs.Prelude.{IsTrue, ◌↔◌, List, Contains, Any, Some, None, Option, is_some, unwrap_or}
-use Rattle.std.proofs.lemmas.Bool.{eq-eqb}
-use Rattle.mesh_atoms.specs.declared.addr.Addr4.{Addr4}
-use Rattle.mesh_atoms.specs.declared.addr.NetAddr.{NetAddr}
-use Rattle.mesh_atoms.specs.declared.hello.LocalIf.{LocalIf}
-use Rattle.mesh_atoms.specs.declared.hello.LocalIf.TheVariants.{This, Other}
-use Rattle.mesh_atoms.specs.declared.hello.HelloRow.{HelloRow}
-use Rattle.mesh_atoms.specs.declared.hello.Hello.{Hello}
-use Rattle.mesh_atoms.specs.declared.settings.RouterSettings.{RouterSettings}
-use Rattle.mesh_atoms.specs.Base.{host, addr_eq}
-use Rattle.mesh_atoms.specs.Words.{IsValue}
-use Rattle.mesh_atoms.specs.State.{HasAddress}
-use Rattle.mesh_atoms.specs.HelloTold.{TellsLocal, IsListed}
-use Rattle.mesh_atoms.specs.TakesHello.{IsOwn, Local, Originator, Sender, IsNameless, IsFault, IsFaultAt}
-use Rattle.mesh_atoms.proofs.Lookups.{same_addr}
-use Rattle.mesh_atoms.proofs.Nets.{same_net}
-use Rattle.mesh_hello.specs.Told.Receive.{IsLocalRow, IsLocalWith, IsBareSender, NamesAsSender}
-use Rattle.mesh_atoms.proofs.Options.{some_of}
-use Rattle.mesh_atoms.proofs.Values.{same_address}
+use Rattle.mesh_hello.proofs.Common.{◌≡◌, ◌≢◌, ℕ, Bool, true, false, not, inl, inr, refl, sym, ap, ◌∙◌, arith, common_steps, IsTrue, ◌↔◌, List, Contains, Any, Some, None, Option, is_some, unwrap_or, eq-eqb, Addr4, NetAddr, LocalIf, This, Other, HelloRow, Hello, RouterSettings, host, addr_eq, IsValue, HasAddress, TellsLocal, IsListed, IsOwn, Local, Originator, Sender, IsNameless, IsFault, IsFaultAt, same_addr, same_net, IsLocalRow, IsLocalWith, IsBareSender, NamesAsSender, some_of, same_address}
 
 pub host_of : (net : NetAddr) → net.prefix ≡ 32 → net ≡ host net.addr
 host_of net e = same_net net (host net.addr) refl e

@@ -1,19 +1,7 @@
 -- What rows of the receiver's addresses say.
-use Rattle.std.proofs.Common.{◌≡◌, ℕ, ◌<◌, ◌⊎◌, ◌↔◌, inl, inr, refl, sym, ap, subst, arith, List, [], ◌∷◌, length, Contains, Some, None}
-use Rattle.std.proofs.lemmas.Option.{slice_get_within}
-use Rattle.mesh_atoms.specs.declared.addr.Addr4.{Addr4}
-use Rattle.mesh_atoms.specs.declared.addr.NetAddr.{NetAddr}
-use Rattle.mesh_atoms.specs.declared.hello.Hello.{Hello}
-use Rattle.mesh_atoms.specs.declared.hello.HelloRow.{HelloRow}
-use Rattle.mesh_atoms.specs.declared.hello.LinkStatus.{LinkStatus}
-use Rattle.mesh_atoms.specs.declared.hello.LinkStatus.TheVariants.{Lost as Down, Symmetric, Heard}
-use Rattle.mesh_atoms.specs.declared.settings.RouterSettings.{RouterSettings}
-use Rattle.mesh_atoms.specs.Base.{host}
-use Rattle.mesh_atoms.specs.HelloTold.{HasRowOf, TellsMe, IsMyStatus}
-use Rattle.mesh_atoms.specs.State.{HasAddress, HasAddressOn}
-use Rattle.mesh_atoms.proofs.Nets.{same_net}
+use Rattle.mesh_hello.proofs.Common.{◌≡◌, ℕ, ◌<◌, ◌⊎◌, ◌↔◌, inl, inr, refl, sym, ap, subst, arith, List, [], ◌∷◌, length, Contains, Some, None, slice_get_within, Addr4, NetAddr, Hello, HelloRow, LinkStatus, Symmetric, Heard, RouterSettings, host, HasRowOf, TellsMe, IsMyStatus, HasAddress, HasAddressOn, same_net, IsMyRow, TellsMine}
+use Rattle.mesh_atoms.specs.declared.hello.LinkStatus.TheVariants.{Lost as Down}
 use Rattle.mesh_hello.specs.declared.told.mine.Sign.TheVariants.{Status}
-use Rattle.mesh_hello.specs.Told.Mine.{IsMyRow, TellsMine}
 use Rattle.mesh_hello.proofs.Collect.{SomeBelow}
 
 -- a row of one of the addresses, and of the address

@@ -1,17 +1,5 @@
 -- Lists of the sender's addresses.
-use Rattle.std.proofs.Common.{◌≡◌, ◌↔◌, inl, inr, refl, sym, ap, subst, arith, List, [], ◌∷◌, ◌++◌, length, Contains, Some}
-use Rattle.std.proofs.lemmas.List.Elements.{Contains-append_cases, Contains-append_left, Contains-append_right}
-use Rattle.mesh_atoms.specs.declared.addr.Addr4.{Addr4}
-use Rattle.mesh_atoms.specs.declared.addr.NetAddr.{NetAddr}
-use Rattle.mesh_atoms.specs.declared.hello.Hello.{Hello}
-use Rattle.mesh_atoms.specs.declared.hello.HelloRow.{HelloRow}
-use Rattle.mesh_atoms.specs.declared.hello.LocalIf.{LocalIf}
-use Rattle.mesh_atoms.specs.declared.hello.LocalIf.TheVariants.{This, Other}
-use Rattle.mesh_atoms.specs.Base.{host}
-use Rattle.mesh_atoms.specs.HelloTold.{TellsLocal, IsSending, IsListed}
-use Rattle.mesh_atoms.proofs.Nets.{same_net}
-use Rattle.mesh_hello.specs.Gathers.{Gathers}
-use Rattle.mesh_hello.specs.Told.Sender.{IsLocalAddress, IsOrSender}
+use Rattle.mesh_hello.proofs.Common.{◌≡◌, ◌↔◌, inl, inr, refl, sym, ap, subst, arith, List, [], ◌∷◌, ◌++◌, length, Contains, Some, Contains-append_cases, Contains-append_left, Contains-append_right, Addr4, NetAddr, Hello, HelloRow, LocalIf, This, Other, host, TellsLocal, IsSending, IsListed, same_net, Gathers, IsLocalAddress, IsOrSender}
 use Rattle.mesh_hello.proofs.Collect.{SomeBelow, below_contains, adds_one}
 
 -- a row that shows one adds it

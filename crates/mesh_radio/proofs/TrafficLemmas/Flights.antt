@@ -1,6 +1,5 @@
 -- The ordered map of flights against the list in order of sending.
-use Rattle.std.proofs.Common.{◌≡◌, ℕ, ◌+◌, ◌<◌, ◌≤◌, ◌⊎◌, inl, inr, List, [], ◌∷◌, ◌++◌, refl, sym, ◌∙◌, ap, subst, All, Bool, true, false, arith}
-use Rattle.std.specs.Prelude.{cond, nat_lt, map}
+use Rattle.mesh_radio.proofs.Common.{◌≡◌, ℕ, ◌+◌, ◌<◌, ◌≤◌, ◌⊎◌, inl, inr, List, [], ◌∷◌, ◌++◌, refl, sym, ◌∙◌, ap, subst, All, Bool, true, false, arith, cond, nat_lt, map, map-append, All-nil, All-cons, All-head, All-tail, All-weaker, All-map, Delivery, IsHeardFirst}
 use Rattle.std.specs.Ordering.{nat_cmp, ordering_then, is_gt}
 use Rattle.std.specs.declared.cmp.Ordering.{Ordering}
 use Rattle.std.specs.declared.cmp.Ordering.TheVariants.{Less, Equal, Greater}
@@ -9,10 +8,7 @@ use Rattle.std.specs.Map.{keys_of}
 use Rattle.std.specs.BTreeMap.{insert_entry}
 use Rattle.std.proofs.lemmas.Bool.{lt-ltb, le-ltb, ltb-false}
 use Rattle.std.proofs.lemmas.Cmp.{ranked}
-use Rattle.std.proofs.lemmas.List.{map-append}
-use Rattle.std.proofs.lemmas.List.Elements.{All-nil, All-cons, All-head, All-tail, All-weaker, All-map}
 use Rattle.std.proofs.lemmas.Map.Views.{All-keys-insert_entry}
-use Rattle.mesh_machine.specs.Traffic.{Delivery, IsHeardFirst}
 use Rattle.mesh_radio.specs.declared.traffic.air.DeliveryOrder.{DeliveryOrder}
 use Rattle.mesh_radio.specs.declared.traffic.air.FrameInFlight.{FrameInFlight}
 use Rattle.mesh_radio.specs.Traffic.Flights.{FlightEntry, flight_of, insert_by_number, by_number, in_order, turn_cmp, AreNumberedBelow}

@@ -1,15 +1,6 @@
 -- Frames are sent, one after the other.
-use Rattle.std.proofs.Common.{◌≡◌, ℕ, ◌+◌, List, [], ◌∷◌, ◌++◌, refl, sym, ◌∙◌, ap, subst, map, take, append_assoc, append-nil, add-one, Some}
-use Rattle.std.specs.Prelude.{slice_get}
+use Rattle.mesh_radio.proofs.Common.{◌≡◌, ℕ, ◌+◌, List, [], ◌∷◌, ◌++◌, refl, sym, ◌∙◌, ap, subst, map, take, append_assoc, append-nil, add-one, Some, slice_get, map-append, slice_get_within, get_or_from_slice_get, Scenario, Frame, Emission, Traffic, Sends, SendsAll, frame_of, SentFrame, emission_of}
 use Rattle.std.proofs.Math.Seq.{take-suc}
-use Rattle.std.proofs.lemmas.List.{map-append}
-use Rattle.std.proofs.lemmas.Option.{slice_get_within, get_or_from_slice_get}
-use Rattle.mesh_atoms.specs.declared.settings.Scenario.{Scenario}
-use Rattle.mesh_machine.specs.declared.frame.Frame.{Frame}
-use Rattle.mesh_atoms.specs.declared.network.Emission.{Emission}
-use Rattle.mesh_machine.specs.Traffic.{Traffic, Sends, SendsAll, frame_of}
-use Rattle.mesh_radio.specs.declared.occurrences.SentFrame.{SentFrame}
-use Rattle.mesh_radio.specs.Occurrences.{emission_of}
 
 -- whatever is sent from here on, the whole is sent
 abbrev pub SendsOn : Scenario → ℕ → ℕ → List Emission → Traffic → Traffic → Type 0

@@ -1,40 +1,9 @@
 -- The next event: its line, and what follows it.
-use Rattle.std.proofs.Common.{◌≡◌, ℕ, List, [], ◌++◌, refl, sym, ◌∙◌, subst, Bool, true, false, ◌<◌, map, length, get_or, arith, ◌∷◌, append-nil, set-set, Some, inl, inr}
-use Rattle.mesh_atoms.specs.declared.tuples.Relays.{Relays}
-use Rattle.mesh_atoms.specs.RelayGraphs.{AreRelays}
-use Rattle.mesh_atoms.specs.State.{State}
-use Rattle.mesh_trace.specs.Positions.Alike.{HasAddresses}
-use Rattle.mesh_trace.specs.Positions.Standing.{Item, relay_items, TracePosition, with_state, with_traffic}
-use Rattle.mesh_replay.specs.declared.checking.case.Case.{Case}
-use Rattle.mesh_replay.specs.declared.checking.case.CheckedEvent.{CheckedEvent}
-use Rattle.mesh_replay.specs.declared.checking.case.Progress.{Progress}
-use Rattle.mesh_replay.specs.declared.checking.router.EventLines.{EventLines}
-use Rattle.mesh_replay.specs.Checking.Cases.{MayBeIn, IsProgress, LeadsPast, TellsItems}
+use Rattle.mesh_replay.proofs.Common.{◌≡◌, ℕ, List, [], ◌++◌, refl, sym, ◌∙◌, subst, Bool, true, false, ◌<◌, map, length, get_or, arith, ◌∷◌, append-nil, set-set, Some, inl, inr, Relays, AreRelays, State, HasAddresses, Item, relay_items, TracePosition, with_state, with_traffic, Case, CheckedEvent, Progress, EventLines, MayBeIn, IsProgress, LeadsPast, TellsItems, BeginsEvent, HasLines, IsSoundRouter, event_items, sent_items, with_relays, AreAtRest, IsAtRest, HasRelays, IsBegun, StopsRelays, slice_get, slice_set, length-map, slice_get_read, slice_get_within, RouterSettings, Scenario, rows_stay, NetState, Traffic, Reader, Reaches, mapped_at, same_at, set_at, leads_on as walks_on, ComingFrame, NextEvent, at, FitsOrStops, EventBy, IsComing, IsNextEvent, OpensAlone, opening_text, IsReachedNet, net_of, TakesText}
 use Rattle.mesh_replay.specs.Checking.Ending.{EndsEvent, MayBegin, TellsWholeEvent, KeepsRouters}
-use Rattle.mesh_replay.specs.Checking.Events.{BeginsEvent}
-use Rattle.mesh_replay.specs.Checking.Kept.{HasLines, IsSoundRouter, event_items, sent_items, with_relays, AreAtRest, IsAtRest}
-use Rattle.mesh_replay.specs.Checking.RelayLines.{HasRelays, IsBegun, StopsRelays}
 use Rattle.mesh_replay.proofs.CheckingLemmas.Telling.{leads_before, leads_not, leads_nowhere, leads_on, went_one, stops_here, goes_on, goes_not}
-use Rattle.std.specs.Prelude.{slice_get, slice_set}
-use Rattle.std.proofs.lemmas.List.{length-map}
-use Rattle.std.proofs.lemmas.Option.{slice_get_read, slice_get_within}
-use Rattle.mesh_atoms.specs.declared.settings.RouterSettings.{RouterSettings}
-use Rattle.mesh_atoms.specs.declared.settings.Scenario.{Scenario}
-use Rattle.mesh_bases.proofs.RowMoments.{rows_stay}
-use Rattle.mesh_trace.specs.machine.Net.{NetState}
-use Rattle.mesh_trace.specs.machine.Traffic.{Traffic}
-use Rattle.mesh_trace.specs.declared.reading.Reader.{Reader}
-use Rattle.mesh_trace.specs.Positions.Leading.{Reaches}
-use Rattle.mesh_trace.proofs.machine.Places.{mapped_at, same_at, set_at}
 use Rattle.mesh_trace.proofs.PositionsLemmas.Addresses.{positions_have_addresses}
 use Rattle.mesh_trace.proofs.PositionsLemmas.AlikeNets.{set_length}
-use Rattle.mesh_trace.proofs.PositionsLemmas.Walks.{leads_on as walks_on}
-use Rattle.mesh_replay.specs.declared.checking.next.ComingFrame.{ComingFrame}
-use Rattle.mesh_replay.specs.declared.checking.next.NextEvent.{NextEvent}
-use Rattle.mesh_replay.specs.Checking.Going.{at, FitsOrStops}
-use Rattle.mesh_replay.specs.Checking.Next.{EventBy, IsComing, IsNextEvent, OpensAlone, opening_text}
-use Rattle.mesh_replay.specs.Checking.Scenes.{IsReachedNet, net_of}
-use Rattle.mesh_replay.specs.Checking.Texts.{TakesText}
 
 -- ---- The next event, which its line opens.
 

@@ -1,20 +1,5 @@
 -- Lines that are read lead on, and so items of an event are told.
-use Rattle.std.proofs.Common.{ℕ, List, [], ◌∷◌, ◌++◌, refl, sym, ◌∙◌, ap, append_assoc, length-append, arith, Bool, true, false, ◌≡◌, zero, suc, subst, set-set}
-use Rattle.mesh_trace.specs.declared.reading.Reader.{Reader}
-use Rattle.mesh_trace.specs.Positions.Leading.{LineLeads}
-use Rattle.mesh_trace.specs.Positions.Standing.{TracePosition, IsDone, Item, with_state, with_traffic}
-use Rattle.mesh_trace.specs.Reading.Readers.{lines_from, IsReaderOf}
-use Rattle.mesh_trace.proofs.PositionsLemmas.Walks.{leads_on as walks_on}
-use Rattle.mesh_replay.specs.Checking.Going.{Went, NothingLeadsOn, StopsBefore, FitsOrStops, at}
-use Rattle.mesh_replay.specs.Checking.Texts.{IsStill, TookText}
-use Rattle.std.specs.Prelude.{slice_get, slice_set, Some}
-use Rattle.mesh_atoms.specs.State.{State}
-use Rattle.mesh_trace.specs.machine.Traffic.{Traffic as Flights}
-use Rattle.mesh_replay.specs.declared.checking.case.Case.{Case}
-use Rattle.mesh_replay.specs.declared.checking.case.CheckedEvent.{CheckedEvent}
-use Rattle.mesh_replay.specs.declared.checking.case.Progress.{Progress}
-use Rattle.mesh_replay.specs.Checking.Cases.{MayBeIn, IsProgress, LeadsPast, TellsItems}
-use Rattle.mesh_atoms.proofs.Lists.{set_here}
+use Rattle.mesh_replay.proofs.Common.{ℕ, List, [], ◌∷◌, ◌++◌, refl, sym, ◌∙◌, ap, append_assoc, length-append, arith, Bool, true, false, ◌≡◌, zero, suc, subst, set-set, Reader, LineLeads, TracePosition, IsDone, Item, with_state, with_traffic, lines_from, IsReaderOf, leads_on as walks_on, Went, NothingLeadsOn, StopsBefore, FitsOrStops, at, IsStill, TookText, slice_get, slice_set, Some, State, Traffic as Flights, Case, CheckedEvent, Progress, MayBeIn, IsProgress, LeadsPast, TellsItems, set_here}
 
 -- ---- Lines that are read lead on, one after the other.
 

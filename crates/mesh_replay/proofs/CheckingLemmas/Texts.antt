@@ -1,14 +1,6 @@
 -- The next line is taken, where it is what is looked for.
-use Rattle.std.proofs.Common.{◌≡◌, ℕ, ◌+◌, List, ◌∷◌, ◌++◌, refl, sym, ◌∙◌, ap, subst, append_assoc, arith, codes, Bool, false, Option, Some, None}
+use Rattle.mesh_replay.proofs.Common.{◌≡◌, ℕ, ◌+◌, List, ◌∷◌, ◌++◌, refl, sym, ◌∙◌, ap, subst, append_assoc, arith, codes, Bool, false, Option, Some, None, ◌↔◌, IsTrue, IsFalse, IfSome, false≢true, append_cancel_left, append_cancel_right, heads_equal, tails_equal, Reader, IsLineOf, lines_from, IsReaderOf, IsRest, TakesLine, IsNextText, IsStill, ReadsNext, ReadsText, TakesNext, TakesText, TookText}
 use Rattle.std.specs.Borrow.{Bor}
-use Rattle.std.specs.Prelude.{◌↔◌, IsTrue, IsFalse, IfSome}
-use Rattle.std.proofs.lemmas.Bool.{false≢true}
-use Rattle.std.proofs.lemmas.List.{append_cancel_left, append_cancel_right}
-use Rattle.mesh_atoms.proofs.Lists.{heads_equal, tails_equal}
-use Rattle.mesh_trace.specs.declared.reading.Reader.{Reader}
-use Rattle.mesh_trace.specs.Reading.Lines.{IsLineOf}
-use Rattle.mesh_trace.specs.Reading.Readers.{lines_from, IsReaderOf, IsRest, TakesLine}
-use Rattle.mesh_replay.specs.Checking.Texts.{IsNextText, IsStill, ReadsNext, ReadsText, TakesNext, TakesText, TookText}
 
 -- a text that is looked for
 pub takes_text : {trace : List ℕ} {old mid new : Reader} {text : List ℕ} {fits : Bool} → IsStill old mid → mid.text ≡ text → IsReaderOf trace new →

@@ -1,13 +1,5 @@
 -- An input is split in one way.
-use Rattle.std.proofs.Common.{◌≡◌, ℕ, suc, ◌+◌, ◌<◌, ◌≤◌, ◌⊎◌, inl, inr, Bool, true, false, cond, eqb, List, [], ◌∷◌, ◌++◌, Some, length, drop, refl, sym, ap, subst, ◌∙◌, arith}
-use Rattle.std.proofs.lemmas.List.Elements.{All-head, All-tail}
-use Rattle.mesh_config.specs.Keys.Faults.{fault, first}
-use Rattle.mesh_config.specs.Settings.{refusals}
-use Rattle.mesh_replay.specs.declared.answer.Replay.{Replay}
-use Rattle.mesh_replay.specs.Command.Parts.{HaveNone, IsCutAt, IsRule, BeginsReport, IsRuled, IsSplit, HasNoRule}
-use Rattle.mesh_replay.specs.Command.Replays.{Replays, IsRefusedInput, No_trace, Long_scenario, By_settings}
-use Rattle.mesh_trace.specs.Reading.Lines.{lines_of, begun}
-use Rattle.mesh_atoms.proofs.Options.{none_not}
+use Rattle.mesh_replay.proofs.Common.{◌≡◌, ℕ, suc, ◌+◌, ◌<◌, ◌≤◌, ◌⊎◌, inl, inr, Bool, true, false, cond, eqb, List, [], ◌∷◌, ◌++◌, Some, length, drop, refl, sym, ap, subst, ◌∙◌, arith, All-head, All-tail, fault, first, refusals, Replay, HaveNone, IsCutAt, IsRule, BeginsReport, IsRuled, IsSplit, HasNoRule, Replays, IsRefusedInput, No_trace, Long_scenario, By_settings, lines_of, begun, none_not}
 
 -- ---- a text with more in front has other lines
 

@@ -1,15 +1,9 @@
 -- How an answer is told, and inputs that are refused.
-use Rattle.std.proofs.Common.{◌≡◌, Result, Err, ℕ, ◌≤◌, List, Option, Some, Ok, length, subst}
+use Rattle.mesh_replay.proofs.Common.{◌≡◌, Result, Err, ℕ, ◌≤◌, List, Option, Some, Ok, length, subst, Replay, IfErr, Fault, fault, FailsAt, IfSettingRefused, FirstRefusal, IsSplit, IsRefusedInput, By_settings}
 use Rattle.mesh_io.specs.declared.stop.Stop.{Stop}
-use Rattle.mesh_replay.specs.declared.answer.Replay.{Replay}
 use Rattle.mesh_replay.specs.declared.command.input.ReplayFault.{ReplayFault}
 use Rattle.mesh_replay.specs.declared.command.input.ReplayFault.TheVariants.{Stopped}
-use Rattle.std.specs.Prelude.{IfErr}
 use Rattle.mesh_config.specs.declared.keys.fault.ConfigFault.{ConfigFault}
-use Rattle.mesh_config.specs.Keys.Faults.{Fault, fault, FailsAt, IfSettingRefused}
-use Rattle.mesh_config.specs.Settings.{FirstRefusal}
-use Rattle.mesh_replay.specs.Command.Parts.{IsSplit}
-use Rattle.mesh_replay.specs.Command.Replays.{IsRefusedInput, By_settings}
 use Rattle.mesh_config.specs.declared.keys.fault.ConfigFault.TheVariants as faults
 
 -- ---- How an answer is told.

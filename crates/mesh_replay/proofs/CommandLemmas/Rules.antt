@@ -1,15 +1,7 @@
 -- Lines of an input: the first line of a text, the rule, and how a text is cut in front of a line.
-use Rattle.std.proofs.Common.{◌≡◌, ℕ, suc, ◌≤◌, ◌⊎◌, inl, inr, eqb, List, [], ◌∷◌, ◌++◌, codes, length, refl, sym, ap, ◌∙◌, arith, take, drop, append_assoc, false}
-use Rattle.std.proofs.lemmas.Bool.{cases_Bool, eqb-true}
-use Rattle.mesh_replay.specs.Command.Parts.{IsRuled, HaveNone, IsCutAt}
+use Rattle.mesh_replay.proofs.Common.{◌≡◌, ℕ, suc, ◌≤◌, ◌⊎◌, inl, inr, eqb, List, [], ◌∷◌, ◌++◌, codes, length, refl, sym, ap, ◌∙◌, arith, take, drop, append_assoc, false, cases_Bool, eqb-true, IsRuled, HaveNone, IsCutAt, lines_of, begun, drop_all, take-append-drop, append-nil, All-nil, All-push, IsMarkLine, word_of, TellsNext, Reader, lines_from}
 use Rattle.mesh_replay.specs.Command.Split.{BeginsWithRule}
-use Rattle.mesh_trace.specs.Reading.Lines.{lines_of, begun}
-use Rattle.std.proofs.lemmas.List.{drop_all, take-append-drop, append-nil}
-use Rattle.std.proofs.lemmas.List.Elements.{All-nil, All-push}
 use Rattle.mesh_replay.specs.declared.command.marks.Mark.{Mark}
-use Rattle.mesh_replay.specs.Command.Marks.{IsMarkLine, word_of, TellsNext}
-use Rattle.mesh_trace.specs.declared.reading.Reader.{Reader}
-use Rattle.mesh_trace.specs.Reading.Readers.{lines_from}
 use Rattle.mesh_replay.specs.declared.command.marks.Mark.TheVariants as mark
 
 -- ---- The first line of a text, and what stands behind it.

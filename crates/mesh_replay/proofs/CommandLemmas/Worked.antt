@@ -1,9 +1,5 @@
 -- Inputs and their parts, worked by hand.
-use Rattle.std.proofs.Common.{◌≡◌, ℕ, ◌<◌, ◌≤◌, inl, inr, List, [], ◌∷◌, ◌++◌, codes, length, refl, sym, ap, ◌∙◌, arith, length-append}
-use Rattle.std.proofs.lemmas.List.{append-nil}
-use Rattle.std.proofs.lemmas.List.Elements.{All-nil, All-cons}
-use Rattle.mesh_replay.specs.Command.Parts.{HaveNone, IsRule, BeginsReport, IsCutAt}
-use Rattle.mesh_trace.specs.Reading.Lines.{lines_of}
+use Rattle.mesh_replay.proofs.Common.{◌≡◌, ℕ, ◌<◌, ◌≤◌, inl, inr, List, [], ◌∷◌, ◌++◌, codes, length, refl, sym, ap, ◌∙◌, arith, length-append, append-nil, All-nil, All-cons, HaveNone, IsRule, BeginsReport, IsCutAt, lines_of}
 use Rattle.mesh_replay.specs.Command.Worked.{ManyLines, NoRules, Reports, EmptyTraces, EmptyScenarios}
 
 -- lines of other lengths

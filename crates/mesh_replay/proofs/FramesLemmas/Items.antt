@@ -1,57 +1,21 @@
 -- The items of an event are told, each by a line and by the losses of the frame that the line tells.
-use Rattle.std.proofs.Common.{◌≡◌, ℕ, List, [], ◌∷◌, ◌++◌, refl, sym, ◌∙◌, ap, append_assoc, codes, decimal, Option, Some, Ok, Err, inl, inr, ◌+◌, drop, subst, append-nil, Bool, true, false, ◌<◌, ◌≤◌, map, length, None, zero, suc, ◌%◌, get_or, arith, length-append}
-use Rattle.std.specs.Prelude.{◌⊎◌, ◌≢◌, slice_get, slice_set}
-use Rattle.hex.specs.Hex.{encode_lower, decode_of}
+use Rattle.mesh_replay.proofs.Common.{◌≡◌, ℕ, List, [], ◌∷◌, ◌++◌, refl, sym, ◌∙◌, ap, append_assoc, codes, decimal, Option, Some, Ok, Err, inl, inr, ◌+◌, drop, subst, append-nil, Bool, true, false, ◌<◌, ◌≤◌, map, length, None, zero, suc, ◌%◌, get_or, arith, length-append, ◌⊎◌, ◌≢◌, slice_get, slice_set, encode_lower, decode_of, RouterSettings, joined, line_of, sent_line, lost_line, DueMessage, WritesSent, sent_front, GoesOut, HasHello, HasTc, drop_more, drop_all, get_or_append_left, get_or_push, get_or_from_slice_get, slice_get_within, Scenario, State, Reader, Frame, NetState, Traffic as Flights, Sends, TellsItem, Tells_frame, Tells_loss, TellsFrame, Tells_hello, AreTcFrames, Tells_tc, Item, Lost, Sent, with_state, with_traffic, Hello, IsLineOf, lines_from, Case, CheckedEvent, Progress, AnyState, MayBeIn, IsProgress, LeadsPast, StandsIn, TellsItems, at, Went, FitsOrStops, IsNextText, IsStill, TakesText, TookText, sent_text, TakesNext, enumerate_from, item_at, Interface, is_nothing, cases_lt, Tc as TcValue, TcRow, PartSpan, part_of, on_each, IsTcOfRows, span_items}
 use Rattle.hex.specs.declared.error.FromHexError.{FromHexError}
 use Rattle.hex.specs.declared.error.FromHexError.TheVariants.{OutOfMemory}
 use Rattle.hex.proofs.HexLemmas.{decode_of-encode_lower}
-use Rattle.mesh_atoms.specs.declared.settings.RouterSettings.{RouterSettings}
-use Rattle.mesh_texts.specs.Lines.Marks.{joined, line_of}
-use Rattle.mesh_texts.specs.Trace.{sent_line, lost_line}
 use Rattle.mesh_trace.specs.machine.Sendable.{AreOctets}
-use Rattle.mesh_replay.specs.declared.checking.octets.DueMessage.{DueMessage}
-use Rattle.mesh_replay.specs.Checking.Sending.{WritesSent, sent_front, GoesOut, HasHello, HasTc}
-use Rattle.std.proofs.lemmas.List.{drop_more, drop_all, get_or_append_left, get_or_push}
-use Rattle.std.proofs.lemmas.Option.{get_or_from_slice_get, slice_get_within}
-use Rattle.mesh_atoms.specs.declared.settings.Scenario.{Scenario}
-use Rattle.mesh_atoms.specs.State.{State}
-use Rattle.mesh_trace.specs.declared.reading.Reader.{Reader}
-use Rattle.mesh_trace.specs.machine.declared.frame.Frame.{Frame}
-use Rattle.mesh_trace.specs.machine.Net.{NetState}
-use Rattle.mesh_trace.specs.machine.Traffic.{Traffic as Flights, Sends}
-use Rattle.mesh_trace.specs.Positions.Items.{TellsItem, Tells_frame, Tells_loss, TellsFrame, Tells_hello, AreTcFrames, Tells_tc}
-use Rattle.mesh_trace.specs.Positions.Standing.{Item, Lost, Sent, with_state, with_traffic, Hello, Tc}
-use Rattle.mesh_trace.specs.Reading.Lines.{IsLineOf}
-use Rattle.mesh_trace.specs.Reading.Readers.{lines_from}
+use Rattle.mesh_trace.specs.Positions.Standing.{Tc}
 use Rattle.mesh_trace.proofs.PositionsLemmas.Leading.{undone, leads_item, to_item, tells_frame, tells_loss}
-use Rattle.mesh_replay.specs.declared.checking.case.Case.{Case}
-use Rattle.mesh_replay.specs.declared.checking.case.CheckedEvent.{CheckedEvent}
-use Rattle.mesh_replay.specs.declared.checking.case.Progress.{Progress}
-use Rattle.mesh_replay.specs.Checking.Cases.{AnyState, MayBeIn, IsProgress, LeadsPast, StandsIn, TellsItems}
-use Rattle.mesh_replay.specs.Checking.Going.{at, Went, FitsOrStops}
-use Rattle.mesh_replay.specs.Checking.Texts.{IsNextText, IsStill, TakesText, TookText, sent_text, TakesNext}
 use Rattle.mesh_replay.proofs.CheckingLemmas.Telling.{went_one, stops_here, goes_on, goes_there, goes_not, progress_read, set_itself}
-use Rattle.std.specs.List.{enumerate_from}
-use Rattle.mesh_atoms.proofs.Lists.{item_at}
-use Rattle.mesh_atoms.specs.declared.settings.Interface.{Interface}
 use Rattle.mesh_atoms.specs.declared.hello.Hello.{Hello as HelloValue}
 use Rattle.mesh_trace.proofs.PositionsLemmas.AlikeItems.{tells_hello, tells_tc}
-use Rattle.mesh_trace.proofs.SpellingLemmas.Pairs.{is_nothing}
 use Rattle.mesh_wire.specs.Writes.{WritesHello, WritesTc}
 use Rattle.mesh_replay.proofs.CheckingLemmas.Texts.{takes_at}
 use Rattle.mesh_replay.proofs.FramesLemmas.Once.{hello_once, tc_once}
-use Rattle.std.proofs.lemmas.Bool.{cases_lt}
-use Rattle.mesh_atoms.specs.declared.tc.Tc.{Tc as TcValue}
-use Rattle.mesh_atoms.specs.declared.tc.TcRow.{TcRow}
 use Rattle.mesh_atoms.specs.Validity.{IsValidity}
-use Rattle.mesh_topo.specs.declared.advertised.spans.PartSpan.{PartSpan}
-use Rattle.mesh_topo.specs.Advertised.Spans.{part_of}
-use Rattle.mesh_trace.specs.machine.Frames.{on_each}
-use Rattle.mesh_trace.specs.machine.Sending.{IsTcOfRows}
 use Rattle.mesh_trace.proofs.machine.Originators.{some_interface}
 use Rattle.mesh_trace.proofs.PositionsLemmas.LinesLeft.{validity_once}
 use Rattle.mesh_trace.proofs.PositionsLemmas.TcFrames.{on_first, one_part, parts_one, first_is}
-use Rattle.mesh_replay.specs.Checking.Kept.{span_items}
 use Rattle.mesh_replay.specs.declared.checking.octets.DueMessage.TheVariants as due
 
 -- ---- The octets that the line of a frame tells.

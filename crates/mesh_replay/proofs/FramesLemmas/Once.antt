@@ -1,11 +1,7 @@
 -- A router has one HELLO on an interface at a moment, and one TC of some of its rows with a number.
-use Rattle.std.proofs.Common.{◌≡◌, ℕ, ◌≤◌, inl, inr, refl, sym, ◌∙◌, ap, subst, arith, Option, Some, None, Contains, List, Bool}
-use Rattle.mesh_atoms.specs.declared.addr.Addr4.{Addr4}
-use Rattle.mesh_atoms.specs.declared.settings.Interface.{Interface}
-use Rattle.mesh_atoms.specs.declared.settings.RouterSettings.{RouterSettings}
-use Rattle.mesh_atoms.specs.State.{HasAddressOn, State, state_of, link_at, neighbour_at, HasSymmetricWith}
+use Rattle.mesh_replay.proofs.Common.{◌≡◌, ℕ, ◌≤◌, inl, inr, refl, sym, ◌∙◌, ap, subst, arith, Option, Some, None, Contains, List, Bool, Addr4, Interface, RouterSettings, HasAddressOn, State, link_at, neighbour_at, HasSymmetricWith, one_part, IsValue, same_answer, Tc, TcRow, IsTcOfRows}
+use Rattle.mesh_atoms.specs.State.{state_of}
 use Rattle.mesh_atoms.proofs.Lookups.{addr_equiv, has_found, has_found_on, same_addr, link_equiv, same_link}
-use Rattle.mesh_atoms.proofs.Lists.{one_part}
 use Rattle.mesh_atoms.specs.declared.addr.NetAddr.{NetAddr}
 use Rattle.mesh_atoms.specs.declared.codes.metric.Metric.{Metric}
 use Rattle.mesh_atoms.specs.declared.hello.Hello.{Hello}
@@ -24,16 +20,11 @@ use Rattle.mesh_atoms.specs.declared.tuples.Neighbour.{Neighbour}
 use Rattle.mesh_atoms.specs.Hello.{Other_lost, Other_symmetric, Link_in, Link_out, Near_in, Near_out, HasLinkTo, SaysLink, Says, IsHelloRow, IsHelloNow, IsRoundedUp, local_part, link_part, other_part}
 use Rattle.mesh_atoms.specs.Nodes.{IsBefore}
 use Rattle.mesh_atoms.specs.Sound.{SoundNeighbourhood}
-use Rattle.mesh_atoms.specs.Words.{IsValue}
 use Rattle.mesh_atoms.specs.declared.hello.Willing.{Willing}
 use Rattle.mesh_trace.proofs.PositionsLemmas.AlikeStates.{ordered_once}
 use Rattle.mesh_trace.proofs.SpellingLemmas.SameRows.{same_row}
 use Rattle.mesh_atoms.proofs.Values.{one_originator}
 use Rattle.mesh_wire.proofs.OneHello.{same_metrics, same_mpr, hello_from, from_rows}
-use Rattle.mesh_atoms.proofs.Options.{same_answer}
-use Rattle.mesh_atoms.specs.declared.tc.Tc.{Tc}
-use Rattle.mesh_atoms.specs.declared.tc.TcRow.{TcRow}
-use Rattle.mesh_trace.specs.machine.Sending.{IsTcOfRows}
 use Rattle.mesh_wire.proofs.OneTc.{tc_from, from_rows as from_tc_rows}
 
 -- ---- An address stands on one interface of a router.

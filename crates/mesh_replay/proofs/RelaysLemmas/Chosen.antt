@@ -1,24 +1,10 @@
 -- Which relays a router may choose.
-use Rattle.std.proofs.Common.{◌≡◌, ℕ, ◌+◌, ◌-◌, ◌<◌, ◌≤◌, inl, inr, List, length, get_or, subst, arith, ◌^◌, refl, Bool, true, false, Contains, Option, Some, None, Result, Ok, Err}
-use Rattle.std.proofs.lemmas.Bool.{cases_lt}
-use Rattle.std.proofs.lemmas.List.{get_or_default}
-use Rattle.mesh_atoms.specs.declared.addr.Addr4.{Addr4}
-use Rattle.std.specs.Prelude.{◌↔◌, IfOk, IsTrue, cond}
-use Rattle.std.proofs.lemmas.List.Elements.{All-weaker, All-contains_itself}
+use Rattle.mesh_replay.proofs.Common.{◌≡◌, ℕ, ◌+◌, ◌-◌, ◌<◌, ◌≤◌, inl, inr, List, length, get_or, subst, arith, ◌^◌, refl, Bool, true, false, Contains, Option, Some, None, Result, Ok, Err, cases_lt, get_or_default, Addr4, ◌↔◌, IfOk, IsTrue, cond, All-weaker, All-contains_itself, Relays, AreRelays, AreRelaysOf, State, IsAscending, Before, StandAgain, with_relays, AreWide, IsAgain, IsGraphFor, MayTell, relays_for, HasAddresses, AreAddresses}
 use Rattle.mesh_atoms.specs.declared.graphs.Direct.{Direct}
 use Rattle.mesh_atoms.specs.declared.graphs.Far.{Far}
 use Rattle.mesh_atoms.specs.declared.graphs.Near.{Near}
 use Rattle.mesh_atoms.specs.declared.graphs.NeighbourGraph.{NeighbourGraph}
-use Rattle.mesh_atoms.specs.declared.tuples.Relays.{Relays}
-use Rattle.mesh_atoms.specs.RelayGraphs.{AreRelays, AreRelaysOf}
 use Rattle.mesh_atoms.specs.Relays.{Covers, Needed, Offers, IsWilling, IsRelay, IsOtherRelay, IsAsCheap}
-use Rattle.mesh_atoms.specs.State.{State}
-use Rattle.mesh_atoms.specs.Words.{IsAscending}
-use Rattle.mesh_replay.specs.declared.checking.router.Before.{Before}
-use Rattle.mesh_replay.specs.Checking.Kept.{StandAgain, with_relays}
-use Rattle.mesh_replay.specs.Checking.RelayLines.{AreWide, IsAgain, IsGraphFor, MayTell, relays_for}
-use Rattle.mesh_trace.specs.Positions.Alike.{HasAddresses}
-use Rattle.mesh_trace.proofs.PositionsLemmas.RelayTexts.{AreAddresses}
 
 -- ---- Addresses that ascend, as far as they were looked at.
 

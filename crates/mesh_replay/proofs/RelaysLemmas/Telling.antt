@@ -1,32 +1,6 @@
 -- The lines of relays: one line, and then all of an event.
-use Rattle.std.proofs.Common.{◌≡◌, ℕ, ◌<◌, List, [], ◌∷◌, ◌++◌, refl, sym, ◌∙◌, ap, append_assoc, codes, true, false, Option, Some, None, length, ◌+◌, map, subst, arith}
-use Rattle.std.specs.Prelude.{slice_get}
-use Rattle.mesh_atoms.specs.declared.addr.Addr4.{Addr4}
-use Rattle.mesh_atoms.specs.declared.settings.Interface.{Interface}
-use Rattle.mesh_atoms.specs.declared.settings.RouterSettings.{RouterSettings}
-use Rattle.mesh_atoms.specs.State.{State}
-use Rattle.mesh_atoms.proofs.Lists.{item_at as stands, length_pushed as longer}
-use Rattle.mesh_texts.specs.Lines.Marks.{name_of_face, face_name, relays_text}
-use Rattle.mesh_texts.specs.Trace.{flooding_text, routing_relays_line}
-use Rattle.mesh_trace.specs.declared.reading.Reader.{Reader}
-use Rattle.mesh_trace.specs.machine.Net.{NetState}
-use Rattle.mesh_trace.specs.Positions.Items.{TellsItem, Tells_flooding, Tells_routing, with_flooding, with_routing}
-use Rattle.mesh_trace.specs.Positions.Standing.{Item, Flooding, Routing, with_state, relay_items}
-use Rattle.mesh_trace.specs.Reading.Lines.{IsLineOf}
-use Rattle.mesh_replay.specs.declared.checking.case.Case.{Case}
-use Rattle.mesh_replay.specs.declared.checking.case.CheckedEvent.{CheckedEvent}
-use Rattle.mesh_replay.specs.declared.checking.case.Progress.{Progress}
-use Rattle.mesh_replay.specs.Checking.Cases.{MayBeIn, LeadsPast, IsProgress}
-use Rattle.mesh_replay.specs.Checking.RelayLines.{MayTell, HasRelays, HasTold, StopsRelays, relays_left, with_flooded}
-use Rattle.mesh_replay.specs.Checking.Texts.{IsNextText, IsStill, TookText, told_text, TakesNext}
+use Rattle.mesh_replay.proofs.Common.{◌≡◌, ℕ, ◌<◌, List, [], ◌∷◌, ◌++◌, refl, sym, ◌∙◌, ap, append_assoc, codes, true, false, Option, Some, None, length, ◌+◌, map, subst, arith, slice_get, Addr4, Interface, RouterSettings, State, item_at as stands, length_pushed as longer, name_of_face, face_name, relays_text, flooding_text, routing_relays_line, Reader, NetState, TellsItem, Tells_flooding, Tells_routing, with_flooding, with_routing, Item, Flooding, Routing, with_state, relay_items, IsLineOf, Case, CheckedEvent, Progress, MayBeIn, LeadsPast, IsProgress, MayTell, HasRelays, HasTold, StopsRelays, relays_left, with_flooded, IsNextText, IsStill, TookText, told_text, TakesNext, enumerate_from, drop_all, drop_more, Relays, none_told, each_more, is_nothing, with_relays}
 use Rattle.mesh_replay.proofs.FramesLemmas.Items.{item_told, item_not}
-use Rattle.std.specs.List.{enumerate_from}
-use Rattle.std.proofs.lemmas.List.{drop_all, drop_more}
-use Rattle.mesh_atoms.specs.declared.tuples.Relays.{Relays}
-use Rattle.mesh_trace.specs.Positions.Due.{none_told}
-use Rattle.mesh_trace.proofs.machine.Places.{each_more}
-use Rattle.mesh_trace.proofs.SpellingLemmas.Pairs.{is_nothing}
-use Rattle.mesh_replay.specs.Checking.Kept.{with_relays}
 use Rattle.mesh_replay.proofs.CheckingLemmas.Telling.{leads_next, leads_not, leads_nowhere, progress_read}
 use Rattle.mesh_replay.proofs.CheckingLemmas.Texts.{takes_at}
 use Rattle.mesh_replay.proofs.RelaysLemmas.Chosen.{told_apart, told_with}

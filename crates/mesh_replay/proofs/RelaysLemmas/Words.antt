@@ -1,20 +1,10 @@
 -- Addresses are read back from their texts.
-use Rattle.std.proofs.Common.{◌≡◌, ℕ, zero, suc, ◌+◌, ◌-◌, ◌<◌, ◌^◌, ◌/◌, ◌%◌, ◌*◌, inl, inr, true, false, Bool, eqb, List, [], ◌∷◌, ◌++◌, length, length-append, take, drop, refl, sym, ap, ◌∙◌, subst, arith, append_assoc, codes, decimal, Some, None, Option, below_more, All}
-use Rattle.std.specs.Prelude.{◌==◌, ◌&&◌, nat_lt, slice_range, slice_index}
+use Rattle.mesh_replay.proofs.Common.{◌≡◌, ℕ, zero, suc, ◌+◌, ◌-◌, ◌<◌, ◌^◌, ◌/◌, ◌%◌, ◌*◌, inl, inr, true, false, Bool, eqb, List, [], ◌∷◌, ◌++◌, length, length-append, take, drop, refl, sym, ap, ◌∙◌, subst, arith, append_assoc, codes, decimal, Some, None, Option, below_more, All, ◌==◌, ◌&&◌, nat_lt, slice_range, slice_index, position_from, cases_Bool, eqb-true, ne_eqb, lt-ltb, eq-eqb, ltb-true, ltb-false, and_parts as both, append-nil, take_at, drop_at, take_all, Addr4, number_of, cut, dotted_of, address_of, dotted, spaced, relays_text, All-head, All-tail, contains_none, same_relays}
 use Rattle.std.specs.Fmt.{digits}
-use Rattle.std.specs.List.{position_from}
-use Rattle.std.proofs.lemmas.Bool.{cases_Bool, eqb-true, ne_eqb, lt-ltb, eq-eqb, ltb-true, ltb-false, and_parts as both}
 use Rattle.std.proofs.lemmas.Iterator.Adapters.{position_from-zero}
-use Rattle.std.proofs.lemmas.List.{append-nil, take_at, drop_at, take_all}
-use Rattle.mesh_atoms.specs.declared.addr.Addr4.{Addr4}
-use Rattle.mesh_atoms.specs.Literals.{number_of, cut, dotted_of, address_of}
-use Rattle.mesh_texts.specs.Lines.Marks.{dotted, spaced, relays_text}
 use Rattle.mesh_texts.proofs.Cuts.{lacks, lacks_rest, not_here}
 use Rattle.mesh_texts.proofs.Marked.{decimal_lacks, dotted_lacks}
 use Rattle.mesh_texts.proofs.RouteLines.{in_order, same_dotted}
-use Rattle.std.proofs.lemmas.List.Elements.{All-head, All-tail}
-use Rattle.mesh_atoms.proofs.Lists.{contains_none}
-use Rattle.mesh_trace.proofs.PositionsLemmas.RelayTexts.{same_relays}
 
 -- ---- Addresses are read back from their texts.
 

@@ -1,46 +1,25 @@
 -- What an event leaves of a router before its relays are told.
-use Rattle.std.proofs.Common.{ℕ, zero, suc, ◌≤◌, ◌<◌, sym, subst, arith, List, length, ◌≡◌, ◌+◌, ◌%◌, ◌∙◌, Bool, false, [], IsTrue, map, refl, ap, ◌++◌, inl, inr, append-nil, All}
-use Rattle.std.specs.Prelude.{nat_eq}
-use Rattle.std.proofs.lemmas.List.Elements.{All-nil, All-push, All-append}
-use Rattle.mesh_atoms.specs.declared.addr.Addr4.{Addr4}
-use Rattle.mesh_atoms.specs.declared.settings.RouterSettings.{RouterSettings}
-use Rattle.mesh_atoms.specs.declared.tc.Tc.{Tc}
-use Rattle.mesh_atoms.specs.State.{Bases, NotedMessages, State, Neighbourhood}
+use Rattle.mesh_replay.proofs.Common.{ℕ, zero, suc, ◌≤◌, ◌<◌, sym, subst, arith, List, length, ◌≡◌, ◌+◌, ◌%◌, ◌∙◌, Bool, false, [], IsTrue, map, refl, ap, ◌++◌, inl, inr, append-nil, All, nat_eq, All-nil, All-push, All-append, Addr4, RouterSettings, Tc, Bases, NotedMessages, State, Neighbourhood, Frame, octets_at, on_each, length-map, HasToAdvertise, IsNextMoment, PartSpan, part_of, TcsDue, Tcs_due, part_items, Follows, HearsBy, Taken, TicksBy, tc_items, AreFewRows, HasLines, IsAtRest, IsSoundRouter, StandAgain, event_items, hello_items, state_of, with_relays, AreRelays, Derived, IsOpening, Item, Sent, relay_items, Before, EventLines, BeginsDerived, BeginsEvent, TakesDueLines}
 use Rattle.mesh_trace.specs.machine.packet.declared.packet.Span.{Span}
 use Rattle.mesh_trace.specs.machine.packet.Fields.{MessageFields}
 use Rattle.mesh_trace.specs.machine.flood.declared.verdict.Heading.{Heading}
 use Rattle.mesh_trace.specs.machine.flood.declared.verdict.Forward.{Forward}
 use Rattle.mesh_trace.specs.machine.declared.arrival.Arrival.{Arrival}
 use Rattle.mesh_trace.specs.machine.declared.fate.Fate.{Fate}
-use Rattle.mesh_trace.specs.machine.declared.frame.Frame.{Frame}
-use Rattle.mesh_trace.specs.machine.Frames.{octets_at, on_each}
 use Rattle.mesh_trace.specs.machine.Messages.{ConsidersForwarding, ProcessesTc, Tc_taken, Tc_passed, TakesMessage, Hello_read, Hello_broken, Tc_read, Tc_broken, Other_passed, Other_left, TakesMessages, No_messages, First_message, forwarding}
-use Rattle.std.proofs.lemmas.List.{length-map}
 use Rattle.mesh_atoms.specs.Advertised.{AreParts, AreTcRows}
-use Rattle.mesh_trace.specs.machine.Sending.{HasToAdvertise, IsNextMoment}
-use Rattle.mesh_topo.specs.declared.advertised.spans.PartSpan.{PartSpan}
-use Rattle.mesh_topo.specs.Advertised.Spans.{part_of}
-use Rattle.mesh_trace.specs.Positions.Due.{TcsDue, Tcs_due, part_items, Follows, HearsBy, Taken, TicksBy}
-use Rattle.mesh_replay.specs.Checking.Kept.{tc_items, AreFewRows, HasLines, IsAtRest, IsSoundRouter, StandAgain, event_items, hello_items, state_of, with_relays}
 use Rattle.mesh_atoms.specs.Live.{Live}
-use Rattle.mesh_atoms.specs.RelayGraphs.{AreRelays}
 use Rattle.mesh_bases.proofs.HeldLemmas.Taken.{live_held}
 use Rattle.mesh_bases.proofs.Staying.{relays_kept, rows_kept}
 use Rattle.mesh_bases.specs.Held.Held.{Held}
 use Rattle.mesh_bases.specs.Held.Taking.{TakesFrame}
 use Rattle.mesh_bases.specs.Renewed.{HasNext}
-use Rattle.mesh_bases.specs.declared.derived.Derived.{Derived}
 use Rattle.mesh_nbrs.specs.Same.{SameNear}
 use Rattle.mesh_routes.proofs.SameBases.{tables_of}
 use Rattle.mesh_trace.specs.machine.Laws.{SoundBases}
-use Rattle.mesh_trace.specs.machine.Machine.{IsOpening}
 use Rattle.mesh_trace.proofs.machine.Opening.{opening_sound}
 use Rattle.mesh_trace.proofs.machine.Soundness.{bases_of}
 use Rattle.mesh_trace.proofs.machine.nhdp.TcCounts.{tc_rows_few}
-use Rattle.mesh_trace.specs.Positions.Standing.{Item, Sent, relay_items}
-use Rattle.mesh_replay.specs.declared.checking.router.Before.{Before}
-use Rattle.mesh_replay.specs.declared.checking.router.EventLines.{EventLines}
-use Rattle.mesh_replay.specs.Checking.Events.{BeginsDerived, BeginsEvent, TakesDueLines}
 use Rattle.mesh_trace.specs.machine.flood.declared.verdict.Forward.TheVariants as forward
 
 -- ---- What a router forwards goes out on interfaces that it has.

@@ -1,26 +1,9 @@
 -- What is answered where lines that were read lead to.
-use Rattle.std.proofs.Common.{◌≡◌, ℕ, ◌+◌, ◌<◌, ◌↔◌, List, [], ◌∷◌, ◌++◌, refl, sym, ◌∙◌, ap, subst, length, drop, append_assoc, append-nil, length-append, arith}
-use Rattle.std.proofs.lemmas.List.{drop_all, length-drop}
-use Rattle.mesh_atoms.specs.declared.settings.Scenario.{Scenario}
-use Rattle.mesh_trace.specs.machine.Net.{NetState}
-use Rattle.mesh_trace.specs.machine.NetRun.{IsOver}
-use Rattle.mesh_replay.specs.declared.answer.Replay.{Replay}
+use Rattle.mesh_replay.proofs.Common.{◌≡◌, ℕ, ◌+◌, ◌<◌, ◌↔◌, List, [], ◌∷◌, ◌++◌, refl, sym, ◌∙◌, ap, subst, length, drop, append_assoc, append-nil, length-append, arith, drop_all, length-drop, Scenario, NetState, IsOver, Replay, Case, Progress, Outcome, Fits, Unfit, Over, at, Went, HasRead, Comes, Reader, Reaches, IsWholeTrace, IsUnfit, At_line, Behind_all, TracePosition, lines_of, lines_from, leads_on}
 use Rattle.mesh_replay.specs.declared.answer.Replay.TheVariants.{Yes, No}
-use Rattle.mesh_replay.specs.declared.checking.case.Case.{Case}
-use Rattle.mesh_replay.specs.declared.checking.case.Progress.{Progress}
-use Rattle.mesh_replay.specs.declared.checking.scene.Outcome.{Outcome}
-use Rattle.mesh_replay.specs.declared.checking.scene.Outcome.TheVariants.{Fits, Unfit, Over}
 use Rattle.mesh_replay.specs.Checking.Answers.{ReplayAnswers}
-use Rattle.mesh_replay.specs.Checking.Going.{at, Went}
-use Rattle.mesh_replay.specs.Checking.Reached.{HasRead}
-use Rattle.mesh_replay.specs.Checking.Scenes.{Comes}
-use Rattle.mesh_trace.specs.declared.reading.Reader.{Reader}
-use Rattle.mesh_trace.specs.Positions.Leading.{Reaches, Fits as FitsBehind, IsWholeTrace, IsUnfit, At_line, Behind_all}
-use Rattle.mesh_trace.specs.Positions.Standing.{TracePosition}
-use Rattle.mesh_trace.specs.Reading.Lines.{lines_of}
-use Rattle.mesh_trace.specs.Reading.Readers.{lines_from}
+use Rattle.mesh_trace.specs.Positions.Leading.{Fits as FitsBehind}
 use Rattle.mesh_trace.proofs.PositionsLemmas.Fixed.{one_decides_fit, one_decides_end, unfit_is_not_whole, one_unfit, nothing_follows}
-use Rattle.mesh_trace.proofs.PositionsLemmas.Walks.{leads_on}
 use Rattle.mesh_replay.proofs.CommandLemmas.Rules.{no_lines}
 
 -- lines that were read behind others

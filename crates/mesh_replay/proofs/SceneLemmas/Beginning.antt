@@ -1,25 +1,6 @@
 -- A network before its first line.
-use Rattle.std.proofs.Common.{◌≡◌, ℕ, ◌+◌, ◌<◌, List, [], ◌∷◌, ◌++◌, refl, sym, ◌∙◌, ap, map, subst, length, get_or, All, arith, Some, None, length-append}
-use Rattle.std.specs.Prelude.{slice_get}
-use Rattle.std.proofs.lemmas.List.{length-map, map-append}
-use Rattle.std.proofs.lemmas.Option.{slice_get_read}
-use Rattle.std.proofs.lemmas.List.Elements.{All-nil}
-use Rattle.mesh_atoms.specs.State.{State}
-use Rattle.mesh_atoms.specs.declared.settings.RouterSettings.{RouterSettings}
-use Rattle.mesh_atoms.specs.declared.settings.Scenario.{Scenario}
-use Rattle.mesh_trace.specs.machine.Machine.{IsOpening}
-use Rattle.mesh_trace.specs.machine.NetRun.{IsOpeningNet}
+use Rattle.mesh_replay.proofs.Common.{◌≡◌, ℕ, ◌+◌, ◌<◌, List, [], ◌∷◌, ◌++◌, refl, sym, ◌∙◌, ap, map, subst, length, get_or, All, arith, Some, None, length-append, slice_get, length-map, map-append, slice_get_read, All-nil, State, RouterSettings, Scenario, IsOpening, IsOpeningNet, each_more, same_at, Case, Progress, FirstTick, IsCase, at, AreAtOpeningUpTo, AreAtOpening, IsOpeningProgress, IsAtFirstLine, HasRead, IsSoundScene, net_of, lines_from}
 use Rattle.mesh_trace.specs.machine.Traffic as net
-use Rattle.mesh_trace.proofs.machine.Places.{each_more, same_at}
-use Rattle.mesh_replay.specs.declared.checking.case.Case.{Case}
-use Rattle.mesh_replay.specs.declared.checking.case.Progress.{Progress}
-use Rattle.mesh_replay.specs.declared.checking.scene.FirstTick.{FirstTick}
-use Rattle.mesh_replay.specs.Checking.Cases.{IsCase}
-use Rattle.mesh_replay.specs.Checking.Going.{at}
-use Rattle.mesh_replay.specs.Checking.Opening.{AreAtOpeningUpTo, AreAtOpening, IsOpeningProgress, IsAtFirstLine}
-use Rattle.mesh_replay.specs.Checking.Reached.{HasRead}
-use Rattle.mesh_replay.specs.Checking.Scenes.{IsSoundScene, net_of}
-use Rattle.mesh_trace.specs.Reading.Readers.{lines_from}
 use Rattle.mesh_replay.proofs.RouterLemmas.Following.{kept_at_opening}
 
 module _ {A : Type 0} (state : A → State) where

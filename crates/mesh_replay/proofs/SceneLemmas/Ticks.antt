@@ -1,43 +1,8 @@
 -- The next event: which it is, and the line that opens it.
-use Rattle.std.proofs.Common.{◌≡◌, ℕ, ◌+◌, ◌<◌, List, length, [], refl, sym, subst, arith, Some, ◌≤◌, ◌∷◌, ◌++◌, ◌∙◌, ap, All, get_or, Bool, true, false, None}
-use Rattle.std.specs.Prelude.{slice_get, min, IsTrue, MatchOption, Option}
-use Rattle.mesh_atoms.specs.State.{State}
-use Rattle.mesh_trace.specs.machine.Net.{NetState, HasOnlyLastTicks, TicksNext, HearsNext, IsSender, IsFirstDue}
-use Rattle.mesh_trace.specs.machine.NetRun.{IsOver}
-use Rattle.mesh_trace.specs.Positions.Due.{TicksBy, HearsBy}
+use Rattle.mesh_replay.proofs.Common.{◌≡◌, ℕ, ◌+◌, ◌<◌, List, length, [], refl, sym, subst, arith, Some, ◌≤◌, ◌∷◌, ◌++◌, ◌∙◌, ap, All, get_or, Bool, true, false, None, slice_get, min, IsTrue, MatchOption, Option, State, NetState, HasOnlyLastTicks, TicksNext, HearsNext, IsSender, IsFirstDue, IsOver, TicksBy, HearsBy, LineLeads, To_event, To_item, TracePosition, with_state, with_traffic, IsLineOf, same_at, tick_line, heard_line, at, FitsOrStops, OpensAlone, FindsNext, FindsNone, IsNextEvent, LandsFrame, set_here, item_at, All-head, All-tail, All-weaker, Addr4, Delivery, with_heard, face_name, slice_get-get_or, RouterSettings, due, arc_ends, first_and_others, Case, Progress, ComingFrame, NextEvent, FirstTick, Outcome, Fits, Unfit, Delivered, delivery_of, HasTaken, SeededTraffic, IsCase, IsProgress, AreAtRest, Comes, IsSoundScene, net_of}
 use Rattle.mesh_trace.specs.Positions.Events.{OpensTick, OpensEvent, By_delivery, By_tick, By_last_tick, OpensHearing}
-use Rattle.mesh_trace.specs.Positions.Leading.{LineLeads, To_event, To_item}
-use Rattle.mesh_trace.specs.Positions.Standing.{TracePosition, with_state, with_traffic}
-use Rattle.mesh_trace.specs.Reading.Lines.{IsLineOf}
-use Rattle.mesh_trace.proofs.machine.Places.{same_at}
 use Rattle.mesh_trace.proofs.PositionsLemmas.EventsOnce.{due_once, not_tick, not_last, tick_not_last, behind_all as behind, sender_once}
-use Rattle.mesh_texts.specs.Trace.{tick_line, heard_line}
-use Rattle.mesh_replay.specs.Checking.Going.{at, FitsOrStops}
-use Rattle.mesh_replay.specs.Checking.Next.{OpensAlone, FindsNext, FindsNone, IsNextEvent, LandsFrame}
-use Rattle.mesh_atoms.proofs.Lists.{set_here, item_at}
-use Rattle.std.proofs.lemmas.List.Elements.{All-head, All-tail, All-weaker}
-use Rattle.mesh_atoms.specs.declared.addr.Addr4.{Addr4}
 use Rattle.mesh_atoms.specs.declared.settings.RadioArc.{RadioArc}
-use Rattle.mesh_trace.specs.machine.Traffic.{Delivery, with_heard}
-use Rattle.mesh_texts.specs.Lines.Marks.{face_name}
-use Rattle.std.proofs.lemmas.Option.{slice_get-get_or}
-use Rattle.mesh_atoms.specs.declared.settings.RouterSettings.{RouterSettings}
-use Rattle.mesh_trace.specs.machine.Machine.{due}
-use Rattle.mesh_trace.proofs.machine.Arcs.{arc_ends}
-use Rattle.mesh_trace.proofs.machine.Sent.{first_and_others}
-use Rattle.mesh_replay.specs.declared.checking.case.Case.{Case}
-use Rattle.mesh_replay.specs.declared.checking.case.Progress.{Progress}
-use Rattle.mesh_replay.specs.declared.checking.next.ComingFrame.{ComingFrame}
-use Rattle.mesh_replay.specs.declared.checking.next.NextEvent.{NextEvent}
-use Rattle.mesh_replay.specs.declared.checking.scene.FirstTick.{FirstTick}
-use Rattle.mesh_replay.specs.declared.checking.scene.Outcome.{Outcome}
-use Rattle.mesh_replay.specs.declared.checking.scene.Outcome.TheVariants.{Fits, Unfit}
-use Rattle.mesh_replay.specs.declared.traffic.air.Delivered.{Delivered}
-use Rattle.mesh_replay.specs.Traffic.Air.{delivery_of}
-use Rattle.mesh_replay.specs.Traffic.Traffic.{HasTaken, SeededTraffic}
-use Rattle.mesh_replay.specs.Checking.Cases.{IsCase, IsProgress}
-use Rattle.mesh_replay.specs.Checking.Kept.{AreAtRest}
-use Rattle.mesh_replay.specs.Checking.Scenes.{Comes, IsSoundScene, net_of}
 use Rattle.mesh_replay.specs.Checking.Ticking.{HasNoTickLeft, IsFoundTick, Due_first, At_end, outcome_of}
 use Rattle.mesh_trace.specs.machine.Traffic as net
 

@@ -1,17 +1,6 @@
 -- What flies, and the frame in the air that is heard first.
-use Rattle.std.proofs.Common.{◌≡◌, ℕ, ◌+◌, ◌<◌, ◌≤◌, List, [], ◌∷◌, ap, zero, suc, length, get_or, map, All, arith, refl, Some, below_more, Result, Ok, Err}
-use Rattle.std.specs.Prelude.{slice_get, IfOk, OnOk}
-use Rattle.std.specs.List.{remove}
-use Rattle.std.proofs.lemmas.List.Elements.{All-nil, All-cons, All-map}
-use Rattle.std.proofs.lemmas.Option.{slice_get_within, slice_get_read, slice_get-get_or}
-use Rattle.mesh_trace.specs.machine.Traffic.{IsHeardFirst, Traffic, Sends, leaving}
-use Rattle.mesh_trace.proofs.machine.Places.{same_at}
-use Rattle.mesh_replay.specs.declared.traffic.air.Delivered.{Delivered}
-use Rattle.mesh_replay.specs.Traffic.Air.{delivery_of, IsNextFrame, AreNoEarlier}
-use Rattle.mesh_atoms.proofs.Lists.{item_at as stands}
+use Rattle.mesh_replay.proofs.Common.{◌≡◌, ℕ, ◌+◌, ◌<◌, ◌≤◌, List, [], ◌∷◌, ap, zero, suc, length, get_or, map, All, arith, refl, Some, below_more, Result, Ok, Err, slice_get, IfOk, OnOk, remove, All-nil, All-cons, All-map, slice_get_within, slice_get_read, slice_get-get_or, IsHeardFirst, Traffic, Sends, leaving, same_at, Delivered, delivery_of, IsNextFrame, AreNoEarlier, item_at as stands, Scenario, sent_all, numbered}
 use Rattle.mesh_atoms.specs.declared.network.Emission.{Emission}
-use Rattle.mesh_atoms.specs.declared.settings.Scenario.{Scenario}
-use Rattle.mesh_trace.proofs.machine.Sent.{sent_all, numbered}
 
 -- ---- The frame in the air that is heard first.
 

@@ -1,26 +1,8 @@
 -- The search for the route to a node, and for the longest prefix.
-use Rattle.std.proofs.Common.{◌≡◌, ◌≢◌, ℕ, ◌+◌, ◌-◌, ◌*◌, ◌/◌, ◌^◌, ◌<◌, ◌≤◌, inl, inr, refl, sym, ◌∙◌, ap, subst, arith, List, [], ◌∷◌, length, Result, Ok, Err, Option, Some, None, Bor, slice_get, slice_index_or, true, false, Contains}
-use Rattle.std.proofs.lemmas.Grind.{common_steps}
-use Rattle.std.specs.Prelude.{IfOk, IfErr, IfSome, IfNone}
+use Rattle.mesh_routes.proofs.Common.{◌≡◌, ◌≢◌, ℕ, ◌+◌, ◌-◌, ◌*◌, ◌/◌, ◌^◌, ◌<◌, ◌≤◌, inl, inr, refl, sym, ◌∙◌, ap, subst, arith, List, [], ◌∷◌, length, Result, Ok, Err, Option, Some, None, Bor, slice_get, slice_index_or, true, false, Contains, common_steps, IfOk, IfErr, IfSome, IfNone, AllPairs, HoldsAt, is_lt, Ordering, Less, Equal, Greater, cases_Bool, cases_lt, tied_itself, searchable_from_sorted, slice_get_within, slice_get-get_or, get_or_from_slice_get, Addr4, NetAddr, Route, IsBefore, net_cmp, net_total, net_exact, net_less, same_net, Holds, IsLongest, HasNoRouteTo, before_trans, not_before_itself}
 use Rattle.std.specs.Option.{option_copied}
-use Rattle.std.specs.List.{AllPairs, HoldsAt}
 use Rattle.std.specs.List.Sorted.{IsSortedBy, IsSearchInRange, IsBinarySearchResult}
-use Rattle.std.specs.Ordering.{is_lt}
-use Rattle.std.specs.declared.cmp.Ordering.{Ordering}
-use Rattle.std.specs.declared.cmp.Ordering.TheVariants.{Less, Equal, Greater}
-use Rattle.std.proofs.lemmas.Bool.{cases_Bool, cases_lt}
-use Rattle.std.proofs.lemmas.Cmp.{tied_itself}
-use Rattle.std.proofs.lemmas.List.Sorted.{searchable_from_sorted}
-use Rattle.std.proofs.lemmas.Option.{slice_get_within, slice_get-get_or, get_or_from_slice_get}
-use Rattle.mesh_atoms.specs.declared.addr.Addr4.{Addr4}
-use Rattle.mesh_atoms.specs.declared.addr.NetAddr.{NetAddr}
-use Rattle.mesh_atoms.specs.declared.graphs.Route.{Route}
-use Rattle.mesh_atoms.specs.Nodes.{IsBefore, net_cmp}
-use Rattle.mesh_atoms.proofs.NetOrder.{net_total, net_exact, net_less}
-use Rattle.mesh_atoms.proofs.Nets.{same_net}
-use Rattle.mesh_atoms.specs.NextHop.{Holds, IsLongest, HasNoRouteTo}
 use Rattle.mesh_routes.specs.Hops.NextHop.{IsPlaceOf, IsLongestAt}
-use Rattle.mesh_atoms.proofs.Values.{before_trans, not_before_itself}
 
 pub is_less : (o : Ordering) → is_lt o ≡ true → o ≡ Less
 is_less Less e = refl

@@ -1,5 +1,5 @@
 -- Two tests.
-use Rattle.std.proofs.Common.{◌≡◌, ◌↔◌, refl, Bool, true, false, not, IsTrue}
+use Rattle.mesh_routes.proofs.Common.{◌≡◌, ◌↔◌, refl, Bool, true, false, not, IsTrue}
 
 -- neither of two
 pub neither : {P Q : Type 0} (a b : Bool) → a ≡ false → IsTrue a ↔ P → IsTrue b ↔ Q → IsTrue (not b) ↔ ((P → ⊥) × (Q → ⊥))

@@ -1,21 +1,7 @@
 -- The order of ways, and what a range of ways begins with.
-use Rattle.std.proofs.Common.{◌≡◌, ◌≢◌, ℕ, ◌<◌, ◌≤◌, ◌⊎◌, inl, inr, refl, sym, ◌∙◌, ap, subst, arith, true, false, List, [], ◌∷◌, Contains}
-use Rattle.std.proofs.lemmas.Grind.{common_steps}
-use Rattle.std.specs.Ordering.{nat_cmp, ordering_then, is_gt}
-use Rattle.std.specs.declared.cmp.Ordering.{Ordering}
-use Rattle.std.specs.declared.cmp.Ordering.TheVariants.{Less, Equal, Greater}
+use Rattle.mesh_routes.proofs.Common.{◌≡◌, ◌≢◌, ℕ, ◌<◌, ◌≤◌, ◌⊎◌, inl, inr, refl, sym, ◌∙◌, ap, subst, arith, true, false, List, [], ◌∷◌, Contains, common_steps, nat_cmp, ordering_then, is_gt, Ordering, Less, Equal, Greater, IsTotalOrder, BTreeSet, then_total, on_total, nat_cmp_total, ranked, CmpEqualImpliesEq, exact_unsigned, btree_set_contains_iff, Addr4, then_equal, NeighbourLink, way_cmp, IsNoWorse, IsBestLink, IsCutOff, same_addr}
 use Rattle.std.specs.declared.ops.Bound.TheVariants.{Included, Unbounded}
-use Rattle.std.specs.Cmp.{IsTotalOrder}
 use Rattle.std.specs.BTreeSet as sorted
-use Rattle.std.specs.BTreeSet.{BTreeSet}
-use Rattle.std.proofs.lemmas.Cmp.{then_total, on_total, nat_cmp_total, ranked}
-use Rattle.std.proofs.lemmas.Map.Lookups.{CmpEqualImpliesEq, exact_unsigned}
-use Rattle.std.proofs.lemmas.Map.Views.{btree_set_contains_iff}
-use Rattle.mesh_atoms.specs.declared.addr.Addr4.{Addr4}
-use Rattle.mesh_atoms.proofs.NetOrder.{then_equal}
-use Rattle.mesh_routes.specs.declared.hops.ways.NeighbourLink.{NeighbourLink}
-use Rattle.mesh_routes.specs.Hops.Ways.{way_cmp, IsNoWorse, IsBestLink, IsCutOff}
-use Rattle.mesh_atoms.proofs.Values.{same_addr}
 
 pub way_total : IsTotalOrder way_cmp
 way_total = then_total (on_total (λ (a : NeighbourLink). a.originator.0) nat_cmp_total)

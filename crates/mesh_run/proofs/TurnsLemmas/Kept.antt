@@ -1,17 +1,6 @@
 -- Turns where routes and relays may be put off: whole states go through them too, of which those states are kept. At the end of a run nothing is
 -- put off.
-use Rattle.std.proofs.Common.{◌≡◌, ℕ, ◌<◌, ◌≤◌, List, Option, Some, None, refl, sym, ap, subst, ◌∙◌, arith}
-use Rattle.std.proofs.lemmas.Bool.{le-leb}
-use Rattle.mesh_atoms.specs.State.{State}
-use Rattle.mesh_core.specs.Deferred.{IsKeptOf}
-use Rattle.mesh_core.proofs.Kept.{kept_through, step_from}
-use Rattle.mesh_io.specs.Airs.{Report}
-use Rattle.mesh_texts.specs.machine.declared.frame.Frame.{Frame}
-use Rattle.mesh_texts.specs.machine.Machine.{Event, Tick, Step, Ticked}
-use Rattle.mesh_run.specs.Turns.Parts.{KeepsEvent}
-use Rattle.mesh_run.specs.Turns.Turns.{heard_at, DoesEvent, tick_of, Position, RunsTurns, CameToNothing}
-use Rattle.mesh_run.specs.Turns.Turns.CameToNothing.{Nothing, A_moment, An_ear}
-use Rattle.mesh_run.specs.Turns.Turns.RunsTurns.{Stays, Then_begins, Then_listens}
+use Rattle.mesh_run.proofs.Common.{◌≡◌, ℕ, ◌<◌, ◌≤◌, List, Option, Some, None, refl, sym, ap, subst, ◌∙◌, arith, le-leb, State, IsKeptOf, kept_through, step_from, Report, Frame, Event, Tick, Step, Ticked, KeepsEvent, heard_at, DoesEvent, tick_of, Position, RunsTurns, CameToNothing, Nothing, A_moment, An_ear, Stays, Then_begins, Then_listens}
 
 -- The turns of whole states
 

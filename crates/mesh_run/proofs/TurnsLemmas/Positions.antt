@@ -1,19 +1,6 @@
 -- What was done from one position to another, and then more.
-use Rattle.std.proofs.Common.{◌≡◌, ℕ, ◌+◌, ◌-◌, ◌^◌, ◌<◌, ◌≤◌, min, max, List, [], ◌++◌, ◌∷◌, Option, Some, None, refl, sym, ap, subst, ◌∙◌, append_assoc, arith, cond, nat_le}
-use Rattle.std.proofs.lemmas.List.{append-nil, length-append}
-use Rattle.std.proofs.lemmas.Bool.{le-leb, lt-leb}
+use Rattle.mesh_run.proofs.Common.{◌≡◌, ℕ, ◌+◌, ◌-◌, ◌^◌, ◌<◌, ◌≤◌, min, max, List, [], ◌++◌, ◌∷◌, Option, Some, None, refl, sym, ap, subst, ◌∙◌, append_assoc, arith, cond, nat_le, append-nil, length-append, le-leb, lt-leb, State, kept_whole, Report, Heard_frame, Heard_silence, Heard_fault, TellsMore, Event, Hear, due, Tally, Position, RunsTurns, tick_of, moment_of, greatest_of, Stays, Then_begins, Then_listens, A_moment, An_ear, KeepsEvent, Acts, HearsInterface, HearsInVain, Going, Broken, Turning, Stopped, at, counted}
 use Rattle.mesh_atoms.specs.declared.addr.Addr4.{Addr4}
-use Rattle.mesh_atoms.specs.State.{State}
-use Rattle.mesh_core.proofs.Kept.{kept_whole}
-use Rattle.mesh_io.specs.Airs.{Report}
-use Rattle.mesh_io.specs.Airs.Report.{Heard_frame, Heard_silence, Heard_fault}
-use Rattle.mesh_io.specs.Told.{TellsMore}
-use Rattle.mesh_texts.specs.machine.Machine.{Event, Hear, due}
-use Rattle.mesh_run.specs.declared.turns.tally.Tally.{Tally}
-use Rattle.mesh_run.specs.Turns.Turns.{Position, RunsTurns, tick_of, moment_of, greatest_of}
-use Rattle.mesh_run.specs.Turns.Turns.RunsTurns.{Stays, Then_begins, Then_listens}
-use Rattle.mesh_run.specs.Turns.Turns.CameToNothing.{A_moment, An_ear}
-use Rattle.mesh_run.specs.Turns.Parts.{KeepsEvent, Acts, HearsInterface, HearsInVain, Going, Broken, Turning, Stopped, at, counted}
 use Rattle.mesh_run.proofs.TurnsLemmas.Tellings.{tells_nothing, tells_more, counted_nothing, counted_more}
 
 -- What an interface hears

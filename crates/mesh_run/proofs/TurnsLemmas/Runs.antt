@@ -1,17 +1,8 @@
 -- Turns as runs of the router's machine.
-use Rattle.std.proofs.Common.{◌≡◌, ℕ, Bool, true, false, cond, List, [], ◌++◌, ◌∷◌, drop, get_or, Option, Some, None, refl, sym, ap, subst, ◌∙◌, nat_le}
-use Rattle.std.specs.List.{flat_map}
+use Rattle.mesh_run.proofs.Common.{◌≡◌, ℕ, Bool, true, false, cond, List, [], ◌++◌, ◌∷◌, drop, get_or, Option, Some, None, refl, sym, ap, subst, ◌∙◌, nat_le, flat_map, append-nil, State, Report, Attached_to, Heard_frame, Heard_silence, Heard_fault, Handed, Frame, Event, Tick, Step, Steps, No_events, First_event, due, handed, ear_of, heard_at, AreHanded, DoesEvent, tick_of, Position, RunsTurns, Stays, Then_begins, Then_listens}
 use Rattle.std.proofs.lemmas.Grind.{flat_map-append}
-use Rattle.std.proofs.lemmas.List.{append-nil}
-use Rattle.mesh_atoms.specs.State.{State}
-use Rattle.mesh_io.specs.Airs.{Report}
-use Rattle.mesh_io.specs.Airs.Report.{Attached_to, Heard_frame, Heard_silence, Heard_fault, Handed}
 use Rattle.mesh_texts.proofs.machine.Opening.{runs_sound}
-use Rattle.mesh_texts.specs.machine.declared.frame.Frame.{Frame}
-use Rattle.mesh_texts.specs.machine.Machine.{Event, Tick, Step, Steps, No_events, First_event, due}
 use Rattle.mesh_run.specs.Turns.Laws.{HeardFrame, heard_by, heard_in, TurnsAreRuns, TurnsKeepSound}
-use Rattle.mesh_run.specs.Turns.Turns.{handed, ear_of, heard_at, AreHanded, DoesEvent, tick_of, Position, RunsTurns}
-use Rattle.mesh_run.specs.Turns.Turns.RunsTurns.{Stays, Then_begins, Then_listens}
 
 -- one step more
 steps_more : (old mid new : State) (events : List Event) (sent : List (List Frame)) (event : Event) (frames : List Frame) →

@@ -1,16 +1,8 @@
 -- What was told in all, and its counts.
-use Rattle.std.proofs.Common.{◌≡◌, ℕ, ◌+◌, ◌<◌, List, All, length, [], ◌++◌, ◌∷◌, Option, Some, None, refl, sym, ap, ◌∙◌, append_assoc, arith, cond, map}
-use Rattle.std.specs.List.{count_by}
-use Rattle.std.proofs.lemmas.List.{append-nil, map-append}
+use Rattle.mesh_run.proofs.Common.{◌≡◌, ℕ, ◌+◌, ◌<◌, List, All, length, [], ◌++◌, ◌∷◌, Option, Some, None, refl, sym, ap, ◌∙◌, append_assoc, arith, cond, map, count_by, append-nil, map-append, Report, TellsMore, Frame, Tally, handed, is_heard, is_sent, is_fault, Hands, counted}
 use Rattle.std.proofs.lemmas.List.Sums.{sum_by-append}
 use Rattle.mesh_atoms.specs.declared.settings.RouterSettings.{RouterSettings}
-use Rattle.mesh_io.specs.Airs.{Report}
-use Rattle.mesh_io.specs.Told.{TellsMore}
-use Rattle.mesh_texts.specs.machine.declared.frame.Frame.{Frame}
 use Rattle.mesh_texts.specs.machine.Sendable.{IsSendable}
-use Rattle.mesh_run.specs.declared.turns.tally.Tally.{Tally}
-use Rattle.mesh_run.specs.Turns.Turns.{handed, is_heard, is_sent, is_fault}
-use Rattle.mesh_run.specs.Turns.Parts.{Hands, counted}
 
 -- nothing was told
 pub tells_nothing : {A : Type 0} (a : Option (List A)) → TellsMore a a []

@@ -1,19 +1,5 @@
 -- Turns from the opening of a router on.
-use Rattle.std.proofs.Common.{◌≡◌, ℕ, ◌+◌, ◌≤◌, max, List, [], ◌++◌, length, Option, refl, sym, ap, ◌∙◌, arith}
-use Rattle.std.specs.List.{count_by}
-use Rattle.std.proofs.lemmas.List.{append-nil}
-use Rattle.mesh_atoms.specs.declared.settings.RunSetup.{RunSetup}
-use Rattle.mesh_atoms.specs.State.{State}
-use Rattle.mesh_core.specs.Deferred.{IsKeptOf}
-use Rattle.mesh_core.proofs.Kept.{kept_whole}
-use Rattle.mesh_io.specs.Airs.{Report}
-use Rattle.mesh_texts.specs.machine.Machine.{IsOpening}
-use Rattle.mesh_run.specs.declared.turns.tally.Ended.{Ended}
-use Rattle.mesh_run.specs.declared.turns.tally.Tally.{Tally}
-use Rattle.mesh_run.specs.Turns.Turns.{moment_of, greatest_of, is_heard, is_sent, is_fault, tally_of, ended_by, DoesTurns, StopsTurns}
-use Rattle.mesh_run.specs.Turns.Turns.RunsTurns.{Stays}
-use Rattle.mesh_run.specs.Turns.Turns.CameToNothing.{Nothing}
-use Rattle.mesh_run.specs.Turns.Parts.{Turning, Stopped, at, counted}
+use Rattle.mesh_run.proofs.Common.{◌≡◌, ℕ, ◌+◌, ◌≤◌, max, List, [], ◌++◌, length, Option, refl, sym, ap, ◌∙◌, arith, count_by, append-nil, RunSetup, State, IsKeptOf, kept_whole, Report, IsOpening, Ended, Tally, moment_of, greatest_of, is_heard, is_sent, is_fault, tally_of, ended_by, DoesTurns, StopsTurns, Stays, Nothing, Turning, Stopped, at, counted}
 use Rattle.mesh_run.proofs.TurnsLemmas.Kept.{whole_turns, lost_whole}
 use Rattle.mesh_run.proofs.TurnsLemmas.Tellings.{tells_nothing}
 

@@ -1,13 +1,5 @@
 -- The least address that one of two lists alone has.
-use Rattle.std.proofs.Common.{◌≡◌, ℕ, ◌+◌, ◌<◌, ◌≤◌, ◌⊎◌, inl, inr, refl, ap, subst, arith, List, Contains, Option, Some, None, Bool, true, false, cond, nat_lt, length, slice_get}
-use Rattle.std.proofs.lemmas.Grind.{common_steps}
-use Rattle.std.specs.Prelude.{◌↔◌, IsTrue}
-use Rattle.std.proofs.lemmas.Bool.{false≢true, ltb-true, ltb-false, cases_eq}
-use Rattle.mesh_atoms.specs.declared.addr.Addr4.{Addr4}
-use Rattle.mesh_settled.specs.Gaps.Fields.{AreApart}
-use Rattle.mesh_settled.specs.Gaps.Found.{IsLeastMissing, lower}
-use Rattle.mesh_atoms.proofs.Lists.{place_of as place_in, contains_at}
-use Rattle.mesh_atoms.proofs.Options.{same_some}
+use Rattle.mesh_settled.proofs.Common.{◌≡◌, ℕ, ◌+◌, ◌<◌, ◌≤◌, ◌⊎◌, inl, inr, refl, ap, subst, arith, List, Contains, Option, Some, None, Bool, true, false, cond, nat_lt, length, slice_get, common_steps, ◌↔◌, IsTrue, false≢true, ltb-true, ltb-false, cases_eq, Addr4, AreApart, IsLeastMissing, lower, place_of as place_in, contains_at, same_some}
 
 -- it stands before place i
 abbrev pub IsEarlier : {X : Type 0} → List X → ℕ → X → Type 0

@@ -1,24 +1,9 @@
 -- The interface at the end of an arc has a least address.
-use Rattle.std.proofs.Common.{◌≡◌, ℕ, zero, suc, ◌+◌, ◌<◌, ◌≤◌, inl, inr, ◌∙◌, ap, subst, arith, length, List, [], Contains, Option, Some, None, true, false, map, slice_get, get_or}
-use Rattle.std.specs.Prelude.{option_map, slice_index}
-use Rattle.std.proofs.lemmas.Bool.{ltb-true, and_parts as both}
-use Rattle.std.proofs.lemmas.Option.{slice_get-map, slice_get-get_or, slice_get_cases, get_or_from_slice_get}
-use Rattle.mesh_atoms.specs.declared.addr.Addr4.{Addr4}
-use Rattle.mesh_atoms.specs.declared.codes.metric.Metric.{Metric}
-use Rattle.mesh_atoms.specs.declared.settings.Interface.{Interface}
-use Rattle.mesh_atoms.specs.declared.settings.RouterSettings.{RouterSettings}
-use Rattle.mesh_atoms.specs.declared.settings.Scenario.{Scenario}
-use Rattle.mesh_atoms.specs.Radio.{Leads, Router}
+use Rattle.mesh_settled.proofs.Common.{◌≡◌, ℕ, zero, suc, ◌+◌, ◌<◌, ◌≤◌, inl, inr, ◌∙◌, ap, subst, arith, length, List, [], Contains, Option, Some, None, true, false, map, slice_get, get_or, option_map, slice_index, ltb-true, and_parts as both, slice_get-map, slice_get-get_or, slice_get_cases, get_or_from_slice_get, Addr4, Metric, Interface, RouterSettings, Scenario, Leads, IsLeastAddress, Decides-each, ends_of, IsLeastMissing, lower, contains_map, contains_at, contains_none, no as never, on_interface}
+use Rattle.mesh_atoms.specs.Radio.{Router}
 use Rattle.mesh_atoms.specs.Settings.{is_interface, joins_routers}
-use Rattle.mesh_atoms.specs.Settled.{IsLeastAddress}
-use Rattle.mesh_atoms.proofs.Deciding.{Decides-each}
-use Rattle.mesh_paths.proofs.Scenarios.{ends_of}
-use Rattle.mesh_settled.specs.Gaps.Found.{IsLeastMissing, lower}
 use Rattle.mesh_settled.proofs.GapsLemmas.Apart.{IsEarlier, one_more, all_missing}
 use Rattle.mesh_settled.proofs.GapsLemmas.JointLemmas.{least_in}
-use Rattle.mesh_atoms.proofs.Lists.{contains_map, contains_at, contains_none}
-use Rattle.mesh_paths.proofs.Rows.{no as never}
-use Rattle.mesh_atoms.proofs.Values.{on_interface}
 
 -- the least of the first addresses of a list
 least_first : (list : List Addr4) (n : ℕ) → n ≤ length list → (o : Option Addr4) × IsLeastMissing (IsEarlier list n) [] o

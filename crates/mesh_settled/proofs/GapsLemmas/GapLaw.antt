@@ -1,50 +1,21 @@
 -- A router is settled exactly where it has no gap.
-use Rattle.std.proofs.Common.{◌≡◌, ℕ, zero, suc, ◌+◌, ◌*◌, ◌<◌, ◌≤◌, ◌⊎◌, inl, inr, arith, refl, sym, ◌∙◌, ap, subst, [], ◌∷◌, List, Option, Some, None, Bool, true, false, cond, slice_get}
-use Rattle.std.specs.Prelude.{◌↔◌, Contains}
-use Rattle.std.specs.List.{list_any}
+use Rattle.mesh_settled.proofs.Common.{◌≡◌, ℕ, zero, suc, ◌+◌, ◌*◌, ◌<◌, ◌≤◌, ◌⊎◌, inl, inr, arith, refl, sym, ◌∙◌, ap, subst, [], ◌∷◌, List, Option, Some, None, Bool, true, false, cond, slice_get, ◌↔◌, Contains, list_any, none-some, Addr4, NetAddr, RadioGraph, Metric, Interface, RouterSettings, Scenario, LinkKey, TwoHopKey, Base, Has, metric_value, Says, Flooding, Routing, Joins, Adjacent, IsMetric, At, IsLeastAddress, IsLinkTo, IsNeighbourOf, IsTwoHopBy, IsPeer, IsRouterBy, IsAddressBy, IsNetworkBy, IsSettledAt, Symmetric as Is_symmetric, State, state_of, HasLink, HasTwoHop, HasSymmetric, HasAddress, Decides-some, joins_back, sound_scenario, Link, Neighbour, TwoHop, Router, Address, Network, Field, AllSame, link_fields, neighbour_fields, two_hop_fields, topology_fields, router_fields, address_fields, network_fields, known_cost, Look, look, IsHeldTopic, IsPresentTopic, AreSame, HasNoGap, all_addresses, IsNetwork, one_originator, some_equal as some_nat, same_some, same_answer}
 use Rattle.std.proofs.lemmas.List.Elements.{Contains-append_cases, Contains-append_left, Contains-append_right}
-use Rattle.std.proofs.lemmas.Option.{none-some}
 use mathlib.Core.HLevel.{is_prop→PathP}
 use Rattle.std.specs.Coded.{le_prop}
-use Rattle.mesh_atoms.specs.declared.addr.Addr4.{Addr4}
-use Rattle.mesh_atoms.specs.declared.addr.NetAddr.{NetAddr}
-use Rattle.mesh_atoms.specs.declared.graphs.RadioGraph.{RadioGraph}
 use Rattle.mesh_atoms.specs.declared.hello.Willing.{Willing}
-use Rattle.mesh_atoms.specs.declared.codes.metric.Metric.{Metric}
-use Rattle.mesh_atoms.specs.declared.settings.Interface.{Interface}
-use Rattle.mesh_atoms.specs.declared.settings.RouterSettings.{RouterSettings}
-use Rattle.mesh_atoms.specs.declared.settings.Scenario.{Scenario}
 use Rattle.mesh_atoms.specs.declared.tuples.Link.{Link as LinkTuple}
-use Rattle.mesh_atoms.specs.declared.tuples.LinkKey.{LinkKey}
 use Rattle.mesh_atoms.specs.declared.tuples.Neighbour.{Neighbour as NeighbourTuple}
 use Rattle.mesh_atoms.specs.declared.tuples.TwoHop.{TwoHop as TwoHopTuple}
-use Rattle.mesh_atoms.specs.declared.tuples.TwoHopKey.{TwoHopKey}
 use Rattle.mesh_atoms.specs.declared.tuples.RouterTuple.{RouterTuple}
 use Rattle.mesh_atoms.specs.declared.tuples.AddressTuple.{AddressTuple}
 use Rattle.mesh_atoms.specs.declared.tuples.NetworkTuple.{NetworkTuple}
-use Rattle.mesh_atoms.specs.Base.{Base, Has}
-use Rattle.mesh_atoms.specs.Codes.Codes.{metric_value}
-use Rattle.mesh_atoms.specs.Hello.{Says, Flooding, Routing}
-use Rattle.mesh_atoms.specs.Radio.{Joins, Adjacent, IsMetric}
-use Rattle.mesh_atoms.specs.Settled.{At, IsLeastAddress, IsLinkTo, IsNeighbourOf, IsTwoHopBy, IsPeer, IsRouterBy, IsAddressBy, IsNetworkBy, IsSettledAt}
-use Rattle.mesh_atoms.specs.declared.tuples.LinkState.TheVariants.{Symmetric as Is_symmetric}
-use Rattle.mesh_atoms.specs.State.{State, state_of, HasLink, HasTwoHop, HasSymmetric, HasAddress}
 use Rattle.mesh_atoms.proofs.CodesLemmas.CodeLaws.{cost-injective}
-use Rattle.mesh_atoms.proofs.Deciding.{Decides-some}
-use Rattle.mesh_paths.proofs.Admitted.{joins_back}
-use Rattle.mesh_paths.proofs.Scenarios.{sound_scenario}
-use Rattle.mesh_atoms.specs.declared.gap.GapKey.TheVariants.{Link, Neighbour, TwoHop, Router, Address, Network}
-use Rattle.mesh_settled.specs.Gaps.Fields.{Field, AllSame, link_fields, neighbour_fields, two_hop_fields, topology_fields, router_fields, address_fields, network_fields, known_cost}
-use Rattle.mesh_settled.specs.Gaps.Gaps.{Look, look, IsHeldTopic, IsPresentTopic, AreSame, HasNoGap}
-use Rattle.mesh_settled.specs.Gaps.Joints.{all_addresses}
-use Rattle.mesh_settled.specs.Gaps.Network.{IsNetwork}
 use Rattle.mesh_settled.specs.Gaps.Law.{NoGapIsSettled}
 use Rattle.mesh_settled.proofs.GapsLemmas.FaceLemmas.{end_has_least}
 use Rattle.mesh_settled.proofs.GapsLemmas.MetricLemmas.{has_metric}
 use Rattle.mesh_settled.proofs.GapsLemmas.ShownLemmas.{shows_flooding, shows_routing}
 use Rattle.mesh_settled.proofs.GapsLemmas.Sides.{all_self, all_sym}
-use Rattle.mesh_atoms.proofs.Values.{one_originator}
-use Rattle.mesh_atoms.proofs.Options.{some_equal as some_nat, same_some, same_answer}
 
 -- Values that fields tell
 

@@ -1,27 +1,5 @@
 -- Least addresses, and hops by the pairs of the radio graph.
-use Rattle.std.proofs.Common.{◌≡◌, ℕ, ◌+◌, ◌<◌, ◌≤◌, inl, inr, refl, sym, ◌∙◌, ap, subst, arith, List, [], Option, Some, None, Bool, true, false, nat_eq, nat_lt, slice_index_or, length, map, slice_get, Contains}
-use Rattle.std.specs.Prelude.{◌↔◌, IsTrue, is_some}
-use Rattle.std.specs.Option.{option_map}
-use Rattle.std.proofs.lemmas.Bool.{false≢true, eqb-true, eq-eqb, ltb-true, ltb-false, cases_eq}
-use Rattle.std.proofs.lemmas.Option.{slice_get-map, none-some, slice_get_read, slice_get_past, slice_get_within}
-use Rattle.std.specs.Borrow.{Bor}
-use Rattle.mesh_atoms.specs.declared.addr.Addr4.{Addr4}
-use Rattle.mesh_atoms.specs.declared.graphs.Pair.{Pair}
-use Rattle.mesh_atoms.specs.declared.graphs.RadioGraph.{RadioGraph}
-use Rattle.mesh_atoms.specs.declared.codes.metric.Metric.{Metric}
-use Rattle.mesh_atoms.specs.declared.settings.RouterSettings.{RouterSettings}
-use Rattle.mesh_atoms.specs.declared.settings.Scenario.{Scenario}
-use Rattle.mesh_atoms.specs.Words.{IsValue}
-use Rattle.mesh_atoms.specs.Radio.{Joins, IsRadioGraph}
-use Rattle.mesh_atoms.specs.Settled.{At, IsLeastAddress}
-use Rattle.mesh_atoms.specs.State.{State, HasAddressOn, HasAddress}
-use Rattle.mesh_settled.specs.declared.gaps.joints.Joint.{Joint}
-use Rattle.mesh_settled.specs.Gaps.Found.{IsLeastMissing}
-use Rattle.mesh_settled.specs.Gaps.Joints.{IsBack, IsLeastOf, IsJointBy, IsJointWith, IsOfSome}
-use Rattle.mesh_paths.proofs.Admitted.{joins_back}
-use Rattle.mesh_atoms.proofs.Lists.{contains_none, contains_at, place_of as place_in}
-use Rattle.mesh_paths.proofs.Rows.{no as never}
-use Rattle.mesh_atoms.proofs.Options.{same_some}
+use Rattle.mesh_settled.proofs.Common.{◌≡◌, ℕ, ◌+◌, ◌<◌, ◌≤◌, inl, inr, refl, sym, ◌∙◌, ap, subst, arith, List, [], Option, Some, None, Bool, true, false, nat_eq, nat_lt, slice_index_or, length, map, slice_get, Contains, ◌↔◌, IsTrue, is_some, option_map, false≢true, eqb-true, eq-eqb, ltb-true, ltb-false, cases_eq, slice_get-map, none-some, slice_get_read, slice_get_past, slice_get_within, Bor, Addr4, Pair, RadioGraph, Metric, RouterSettings, Scenario, IsValue, Joins, IsRadioGraph, At, IsLeastAddress, State, HasAddressOn, HasAddress, Joint, IsLeastMissing, IsBack, IsLeastOf, IsJointBy, IsJointWith, IsOfSome, joins_back, contains_none, contains_at, place_of as place_in, no as never, same_some}
 
 pub least_in : (settings : RouterSettings) (i : ℕ) (list : List Addr4) (o : Option Addr4) → ((a : Addr4) → Contains list a ↔ HasAddressOn settings i a) →
     IsLeastMissing (λ a. Contains list a) [] o → IsValue (IsLeastAddress settings i) o

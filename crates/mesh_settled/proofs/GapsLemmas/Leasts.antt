@@ -1,16 +1,7 @@
 -- The order of keys, and the lesser of two gaps.
-use Rattle.std.proofs.Common.{◌≡◌, ℕ, ◌+◌, ◌<◌, ◌≤◌, ◌⊎◌, inl, inr, refl, sym, subst, arith, Option, Some, None, Bool, true, false, cond, nat_lt, nat_eq}
-use Rattle.std.proofs.lemmas.Grind.{common_steps}
-use Rattle.std.specs.Prelude.{List, slice_get}
-use Rattle.std.proofs.lemmas.Bool.{false≢true, ltb-true, lt-ltb, ltb-false, eqb-true, eq-eqb, cases_eq, cases_Bool, and_parts, or_cases}
-use Rattle.mesh_settled.specs.declared.gaps.found.Found.{Found}
+use Rattle.mesh_settled.proofs.Common.{◌≡◌, ℕ, ◌+◌, ◌<◌, ◌≤◌, ◌⊎◌, inl, inr, refl, sym, subst, arith, Option, Some, None, Bool, true, false, cond, nat_lt, nat_eq, common_steps, List, slice_get, false≢true, ltb-true, lt-ltb, ltb-false, eqb-true, eq-eqb, cases_eq, cases_Bool, and_parts, or_cases, Found, GapKey, same_some, true_false, Field, Look, IsHeldTuple, IsPresentTuple, AreSame, precedes, is_ranked_before, rank_of, IsLeastGap, IsTest, lesser, found_at}
 use Rattle.mesh_settled.specs.declared.gaps.found.Rank.{Rank}
-use Rattle.mesh_atoms.specs.declared.gap.GapKey.{GapKey}
-use Rattle.mesh_atoms.proofs.Options.{same_some, true_false}
 use Rattle.mesh_settled.specs.declared.gaps.compare.HeldAndPresent.{HeldAndPresent}
-use Rattle.mesh_settled.specs.Gaps.Fields.{Field}
-use Rattle.mesh_settled.specs.Gaps.Gaps.{Look, IsHeldTuple, IsPresentTuple, AreSame, precedes, is_ranked_before, rank_of}
-use Rattle.mesh_settled.specs.Gaps.Found.{IsLeastGap, IsTest, lesser, found_at}
 
 -- The order
 

@@ -1,43 +1,11 @@
 -- Links that are held.
-use Rattle.std.proofs.Common.{◌≡◌, ℕ, ◌<◌, ◌≤◌, ◌⊎◌, inl, inr, arith, refl, sym, ◌∙◌, ap, subst, length, [], List, Option, Some, None, Bool, true, false, cond}
-use Rattle.std.specs.Prelude.{◌↔◌, IsTrue, slice_get, Contains}
-use Rattle.std.specs.Borrow.{Bor}
-use Rattle.std.proofs.lemmas.Bool.{false≢true}
-use Rattle.std.proofs.lemmas.Option.{none-some, get_or_from_slice_get, slice_get_within}
-use Rattle.mesh_atoms.specs.declared.addr.Addr4.{Addr4}
-use Rattle.mesh_atoms.specs.declared.graphs.Pair.{Pair}
-use Rattle.mesh_atoms.specs.declared.graphs.RadioGraph.{RadioGraph}
-use Rattle.mesh_atoms.specs.declared.codes.metric.Metric.{Metric}
-use Rattle.mesh_atoms.specs.declared.settings.RouterSettings.{RouterSettings}
-use Rattle.mesh_atoms.specs.declared.settings.Scenario.{Scenario}
-use Rattle.mesh_atoms.specs.Codes.Codes.{metric_value}
-use Rattle.mesh_atoms.specs.Hello.{Says, Flooding}
-use Rattle.mesh_atoms.specs.Words.{IsValue}
-use Rattle.mesh_atoms.specs.Radio.{Joins}
-use Rattle.mesh_atoms.specs.Settled.{At, IsLinkTo, IsLeastAddress}
-use Rattle.mesh_atoms.specs.declared.tuples.LinkKey.{LinkKey}
+use Rattle.mesh_settled.proofs.Common.{◌≡◌, ℕ, ◌<◌, ◌≤◌, ◌⊎◌, inl, inr, arith, refl, sym, ◌∙◌, ap, subst, length, [], List, Option, Some, None, Bool, true, false, cond, ◌↔◌, IsTrue, slice_get, Contains, Bor, false≢true, none-some, get_or_from_slice_get, slice_get_within, Addr4, Pair, RadioGraph, Metric, RouterSettings, Scenario, metric_value, Says, Flooding, IsValue, Joins, At, IsLinkTo, IsLeastAddress, LinkKey, HasDistinctKeys, find, base_of, link_eq, Symmetric as Is_symmetric, State, is_symmetric, state_of, HasAddressOn, looks_up_links, tests_symmetric, sound_scenario, Found, GapKey, Link as Of_link, Joint, Field, AllSame, link_fields, known_cost, IsSide, IsLeastGap, lesser, Look, look, IsHeldTuple, IsPresentTuple, IsHeldLink, IsPresentLink, IsJointWith, IsLeastOf, IsNetwork, symmetric_fields, given_link, IsLinkHeld, IsGivenAt, IsGiven, IsLinkKey, same_some, same_answer, place_of as place_in}
 use Rattle.mesh_atoms.specs.declared.tuples.Link.{Link}
-use Rattle.mesh_atoms.specs.Base.{HasDistinctKeys, find, base_of, link_eq}
-use Rattle.mesh_atoms.specs.declared.tuples.LinkState.TheVariants.{Symmetric as Is_symmetric}
-use Rattle.mesh_atoms.specs.State.{State, is_symmetric, state_of, HasAddressOn}
-use Rattle.mesh_atoms.proofs.Lookups.{looks_up_links, tests_symmetric}
-use Rattle.mesh_paths.proofs.Scenarios.{sound_scenario}
-use Rattle.mesh_settled.specs.declared.gaps.found.Found.{Found}
-use Rattle.mesh_atoms.specs.declared.gap.GapKey.{GapKey}
-use Rattle.mesh_atoms.specs.declared.gap.GapKey.TheVariants.{Link as Of_link}
-use Rattle.mesh_settled.specs.declared.gaps.joints.Joint.{Joint}
 use Rattle.mesh_settled.specs.declared.gaps.links.GivenLink.{GivenLink}
-use Rattle.mesh_settled.specs.Gaps.Fields.{Field, AllSame, link_fields, known_cost}
-use Rattle.mesh_settled.specs.Gaps.Found.{IsSide, IsLeastGap, lesser}
-use Rattle.mesh_settled.specs.Gaps.Gaps.{Look, look, IsHeldTuple, IsPresentTuple, IsHeldLink, IsPresentLink}
-use Rattle.mesh_settled.specs.Gaps.Joints.{IsJointWith, IsLeastOf}
-use Rattle.mesh_settled.specs.Gaps.Network.{IsNetwork}
-use Rattle.mesh_settled.specs.Gaps.Links.{symmetric_fields, given_link, IsGivenBy, IsLinkHeld, IsGivenAt, IsGiven, IsLinkKey}
+use Rattle.mesh_settled.specs.Gaps.Links.{IsGivenBy}
 use Rattle.mesh_settled.proofs.GapsLemmas.JointLemmas.{same_state}
 use Rattle.mesh_settled.proofs.GapsLemmas.Leasts.{least_as, least_all, least_lesser}
 use Rattle.mesh_settled.proofs.GapsLemmas.Sides.{all_self}
-use Rattle.mesh_atoms.proofs.Options.{same_some, same_answer}
-use Rattle.mesh_atoms.proofs.Lists.{place_of as place_in}
 
 module _ (p : State) (now i : ℕ) (key : LinkKey) (distinct : HasDistinctKeys link_eq (base_of p.bases.neighbourhood.links i)) where
   abbrev stands : Option (Link × ℕ)

@@ -1,18 +1,5 @@
 -- The metric from one router to another.
-use Rattle.std.proofs.Common.{◌≡◌, ℕ, zero, suc, ◌+◌, ◌≤◌, ◌⊎◌, inl, inr, refl, ◌∙◌, ap, subst, arith, length, List, Option, Some, None, Bool, true, false, cond, nat_lt, nat_eq, slice_get}
-use Rattle.std.proofs.lemmas.Grind.{common_steps}
-use Rattle.std.proofs.lemmas.Bool.{false≢true, cases_eq, eqb-true, eq-eqb, ltb-true, ltb-false}
-use Rattle.std.proofs.lemmas.Option.{slice_get_cases}
-use Rattle.mesh_atoms.specs.declared.graphs.Pair.{Pair}
-use Rattle.mesh_atoms.specs.declared.graphs.RadioGraph.{RadioGraph}
-use Rattle.mesh_atoms.specs.declared.codes.metric.Metric.{Metric}
-use Rattle.mesh_atoms.specs.declared.settings.Scenario.{Scenario}
-use Rattle.mesh_atoms.specs.Codes.Codes.{metric_value}
-use Rattle.mesh_atoms.specs.Words.{IsValue}
-use Rattle.mesh_atoms.specs.Radio.{Joins, IsMetric, IsRadioGraph}
-use Rattle.mesh_settled.specs.Gaps.Metrics.{less, cheaper, IsLeading, IsLeastMetricOf}
-use Rattle.mesh_atoms.proofs.Lists.{contains_at, place_of as place_in}
-use Rattle.mesh_atoms.proofs.Options.{same_some}
+use Rattle.mesh_settled.proofs.Common.{◌≡◌, ℕ, zero, suc, ◌+◌, ◌≤◌, ◌⊎◌, inl, inr, refl, ◌∙◌, ap, subst, arith, length, List, Option, Some, None, Bool, true, false, cond, nat_lt, nat_eq, slice_get, common_steps, false≢true, cases_eq, eqb-true, eq-eqb, ltb-true, ltb-false, slice_get_cases, Pair, RadioGraph, Metric, Scenario, metric_value, IsValue, Joins, IsMetric, IsRadioGraph, less, cheaper, IsLeading, IsLeastMetricOf, contains_at, place_of as place_in, same_some}
 
 module _ (pairs : List Pair) (y z n : ℕ) (e : Pair) (at : slice_get pairs n ≡ Some e) where
   leads_more : (f : Pair) → IsLeading pairs y z n f → IsLeading pairs y z (n + 1) f

@@ -1,41 +1,13 @@
 -- Neighbours on both sides.
-use Rattle.std.proofs.Common.{◌≡◌, ℕ, ◌+◌, ◌<◌, ◌≤◌, ◌⊎◌, inl, inr, refl, sym, ◌∙◌, ap, subst, arith, length, List, Contains, Option, Some, None, Bool, true, false, cond, nat_lt, map}
-use Rattle.std.proofs.lemmas.Grind.{common_steps}
-use Rattle.std.specs.Prelude.{◌↔◌, IsTrue, is_some}
-use Rattle.std.proofs.lemmas.Bool.{false≢true, cases_eq, ltb-true, ltb-false}
-use Rattle.std.proofs.lemmas.Option.{none-some, slice_get_within}
-use Rattle.mesh_atoms.specs.declared.addr.Addr4.{Addr4}
-use Rattle.mesh_atoms.specs.declared.graphs.RadioGraph.{RadioGraph}
-use Rattle.mesh_atoms.specs.declared.codes.metric.Metric.{Metric}
-use Rattle.mesh_atoms.specs.declared.settings.RouterSettings.{RouterSettings}
-use Rattle.mesh_atoms.specs.declared.settings.Scenario.{Scenario}
+use Rattle.mesh_settled.proofs.Common.{◌≡◌, ℕ, ◌+◌, ◌<◌, ◌≤◌, ◌⊎◌, inl, inr, refl, sym, ◌∙◌, ap, subst, arith, length, List, Contains, Option, Some, None, Bool, true, false, cond, nat_lt, map, common_steps, ◌↔◌, IsTrue, is_some, false≢true, cases_eq, ltb-true, ltb-false, none-some, slice_get_within, Addr4, RadioGraph, Metric, RouterSettings, Scenario, HasDistinctKeys, addr_eq, Says, Routing, IsMetric, At, IsNeighbourOf, State, HasAddress, HasAddressOn, IsOriginator, neighbour_at, looks_up_neighbours, sound_scenario, originator_address, Found, GapKey, Neighbour as Of_neighbour, Field, AllSame, neighbour_fields, IsSide, IsLeastGap, IsLeastMissing, lesser, least_of, Look, look, IsHeldTuple, IsPresentTuple, IsHeldNeighbour, IsPresentNeighbour, all_addresses, IsNetwork, given_tuple, given_fields, IsNear, IsGivenNear, IsNeighbourHeld, IsOriginatorOf, IsOriginatorBelow, IsNeighbourKey, same_some, place_of as place_in, one_originator, same_addr as addr_is}
 use Rattle.mesh_atoms.specs.declared.tuples.Neighbour.{Neighbour}
-use Rattle.mesh_atoms.specs.Base.{HasDistinctKeys, addr_eq}
-use Rattle.mesh_atoms.specs.Hello.{Says, Routing}
-use Rattle.mesh_atoms.specs.Radio.{IsMetric}
-use Rattle.mesh_atoms.specs.Settled.{At, IsNeighbourOf}
-use Rattle.mesh_atoms.specs.State.{State, HasAddress, HasAddressOn, IsOriginator, neighbour_at}
-use Rattle.mesh_atoms.proofs.Lookups.{looks_up_neighbours}
-use Rattle.mesh_paths.proofs.Scenarios.{sound_scenario}
-use Rattle.mesh_paths.proofs.SettledNeighbours.{originator_address}
-use Rattle.mesh_settled.specs.declared.gaps.found.Found.{Found}
-use Rattle.mesh_atoms.specs.declared.gap.GapKey.{GapKey}
-use Rattle.mesh_atoms.specs.declared.gap.GapKey.TheVariants.{Neighbour as Of_neighbour}
 use Rattle.mesh_settled.specs.declared.gaps.neighbours.GivenNeighbour.{GivenNeighbour}
-use Rattle.mesh_settled.specs.Gaps.Fields.{Field, AllSame, neighbour_fields}
-use Rattle.mesh_settled.specs.Gaps.Found.{IsSide, IsLeastGap, IsLeastMissing, lesser, least_of}
-use Rattle.mesh_settled.specs.Gaps.Gaps.{Look, look, IsHeldTuple, IsPresentTuple, IsHeldNeighbour, IsPresentNeighbour}
-use Rattle.mesh_settled.specs.Gaps.Joints.{all_addresses}
-use Rattle.mesh_settled.specs.Gaps.Network.{IsNetwork}
-use Rattle.mesh_settled.specs.Gaps.Neighbours.{symmetric_fields, given_tuple, given_fields, IsNear, IsGivenNear, IsGivenAt, IsNeighbourHeld, IsOriginatorOf, IsOriginatorBelow, IsNeighbourKey}
+use Rattle.mesh_settled.specs.Gaps.Neighbours.{symmetric_fields, IsGivenAt}
 use Rattle.mesh_settled.proofs.GapsLemmas.GapLaw.{all_are, neighbours_alike}
 use Rattle.mesh_settled.proofs.GapsLemmas.JointLemmas.{same_state, next_place}
 use Rattle.mesh_settled.proofs.GapsLemmas.Leasts.{least_as, least_all, least_lesser}
 use Rattle.mesh_settled.proofs.GapsLemmas.PeerLemmas.{within}
 use Rattle.mesh_settled.proofs.GapsLemmas.Sides.{all_self}
-use Rattle.mesh_atoms.proofs.Options.{same_some}
-use Rattle.mesh_atoms.proofs.Lists.{place_of as place_in}
-use Rattle.mesh_atoms.proofs.Values.{one_originator, same_addr as addr_is}
 
 -- The least address that a list hasn't
 

@@ -1,25 +1,7 @@
 -- Senders of TCs, and stray routers.
-use Rattle.std.proofs.Common.{◌≡◌, ◌≢◌, ℕ, ◌<◌, ◌≤◌, arith, refl, sym, ◌∙◌, ap, subst, length, List, Some, Bool, true, false, slice_get, nat_eq, map}
-use Rattle.std.specs.Prelude.{◌↔◌, IsTrue, Option, None, is_some, not}
-use Rattle.std.proofs.lemmas.Bool.{false≢true, eqb-true, eq-eqb}
-use Rattle.std.proofs.lemmas.Option.{slice_get_within}
+use Rattle.mesh_settled.proofs.Common.{◌≡◌, ◌≢◌, ℕ, ◌<◌, ◌≤◌, arith, refl, sym, ◌∙◌, ap, subst, length, List, Some, Bool, true, false, slice_get, nat_eq, map, ◌↔◌, IsTrue, Option, None, is_some, not, false≢true, eqb-true, eq-eqb, slice_get_within, Addr4, RadioGraph, Interface, RouterSettings, Scenario, Joined, At, IsStray, State, HasAddress, IsOriginator, IsValue, sound_scenario, originator_address, IsNetwork, IsPeerOriginator, IsStrayAt, same_addr as addr_is, same_some}
 use Rattle.std.proofs.lemmas.List.{length-map}
-use Rattle.mesh_atoms.specs.declared.addr.Addr4.{Addr4}
-use Rattle.mesh_atoms.specs.declared.graphs.RadioGraph.{RadioGraph}
-use Rattle.mesh_atoms.specs.declared.settings.Interface.{Interface}
-use Rattle.mesh_atoms.specs.declared.settings.RouterSettings.{RouterSettings}
-use Rattle.mesh_atoms.specs.declared.settings.Scenario.{Scenario}
-use Rattle.mesh_atoms.specs.Radio.{Joined}
-use Rattle.mesh_atoms.specs.Settled.{At, IsStray}
-use Rattle.mesh_atoms.specs.State.{State, HasAddress, IsOriginator}
-use Rattle.mesh_atoms.specs.Words.{IsValue}
-use Rattle.mesh_paths.proofs.Scenarios.{sound_scenario}
-use Rattle.mesh_paths.proofs.SettledNeighbours.{originator_address}
-use Rattle.mesh_settled.specs.Gaps.Network.{IsNetwork}
-use Rattle.mesh_settled.specs.Gaps.Peers.{IsPeerOriginator, IsStrayAt}
 use Rattle.mesh_settled.proofs.GapsLemmas.JointLemmas.{same_state}
-use Rattle.mesh_atoms.proofs.Values.{same_addr as addr_is}
-use Rattle.mesh_atoms.proofs.Options.{same_some}
 
 module _ (s : Scenario) (graph : RadioGraph) (states : List State) (now x : ℕ) (net : IsNetwork s graph states now) where
   pub not_sender : (from : Addr4) (w : ℕ) (b : Bool) → IsTrue b ↔ ((w ≢ x) × Joined s x w) → b ≡ false → IsTrue false ↔ IsPeerOriginator s states x from w

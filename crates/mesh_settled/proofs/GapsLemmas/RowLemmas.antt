@@ -1,30 +1,9 @@
 -- The rows of a router's TC, and what they say.
-use Rattle.std.proofs.Common.{◌≡◌, ℕ, ◌<◌, inl, inr, arith, refl, sym, ◌∙◌, ap, subst, length, List, Option, Some, None, Bool, true, false, cond, slice_get, get_or, nat_eq}
-use Rattle.std.specs.Prelude.{◌↔◌, IsTrue, not, Contains, option_map, AllPairs}
-use Rattle.std.proofs.lemmas.Bool.{false≢true, eq-eqb, cases_eq, cases_lt, and_parts as both, and_from}
-use Rattle.std.proofs.lemmas.Option.{none-some, get_or_from_slice_get}
-use Rattle.mesh_atoms.specs.declared.addr.Addr4.{Addr4}
-use Rattle.mesh_atoms.specs.declared.addr.NetAddr.{NetAddr}
-use Rattle.mesh_atoms.specs.declared.codes.metric.Metric.{Metric}
+use Rattle.mesh_settled.proofs.Common.{◌≡◌, ℕ, ◌<◌, inl, inr, arith, refl, sym, ◌∙◌, ap, subst, length, List, Option, Some, None, Bool, true, false, cond, slice_get, get_or, nat_eq, ◌↔◌, IsTrue, not, Contains, option_map, AllPairs, false≢true, eq-eqb, cases_eq, cases_lt, and_parts as both, and_from, none-some, get_or_from_slice_get, Addr4, NetAddr, Metric, host, net_eq, IsValue, Sound, State, IsOriginator, neighbour_at, looks_up_neighbours, same_net, Claim, TopologyKind, Routers, Addresses, Networks, IsOfSome, IsValueOf, dest_of, is_row_of, claim_by, claim_if, key_at, IsClaimBy, not_before_itself, same_some, cond_none_some, place_of as place_in, no as never}
 use Rattle.mesh_atoms.specs.declared.tc.TcRow.{TcRow}
 use Rattle.mesh_atoms.specs.declared.tuples.Neighbour.{Neighbour}
 use Rattle.mesh_atoms.specs.Advertised.{Advertises, AdvertisesOriginator, AdvertisesNetwork, IsTcRow, Of_address, Of_network}
-use Rattle.mesh_atoms.specs.Base.{host, net_eq}
-use Rattle.mesh_atoms.specs.Words.{IsValue}
 use Rattle.mesh_atoms.specs.Nodes.{IsBefore}
-use Rattle.mesh_atoms.specs.Sound.{Sound}
-use Rattle.mesh_atoms.specs.State.{State, IsOriginator, neighbour_at}
-use Rattle.mesh_atoms.proofs.Lookups.{looks_up_neighbours, same_net}
-use Rattle.mesh_settled.specs.declared.gaps.topics.Claim.{Claim}
-use Rattle.mesh_settled.specs.declared.gaps.topics.TopologyKind.{TopologyKind}
-use Rattle.mesh_settled.specs.declared.gaps.topics.TopologyKind.TheVariants.{Routers, Addresses, Networks}
-use Rattle.mesh_settled.specs.Gaps.Joints.{IsOfSome}
-use Rattle.mesh_settled.specs.Gaps.Peers.{IsValueOf}
-use Rattle.mesh_settled.specs.Gaps.Topics.{dest_of, is_row_of, claim_by, claim_if, key_at, IsClaimBy}
-use Rattle.mesh_atoms.proofs.Values.{not_before_itself}
-use Rattle.mesh_atoms.proofs.Options.{same_some, cond_none_some}
-use Rattle.mesh_atoms.proofs.Lists.{place_of as place_in}
-use Rattle.mesh_paths.proofs.Rows.{no as never}
 
 -- Whether a row is_row_of
 

@@ -1,19 +1,7 @@
 -- Whether a HELLO shows an address as a relay's is decided.
-use Rattle.std.proofs.Common.{◌≡◌, ℕ, refl, sym, ◌∙◌, subst, List, Contains, Option, Some, None, Bool, false, slice_get, Decides}
-use Rattle.std.specs.Prelude.{IsTrue, ◌&&◌}
-use Rattle.std.specs.List.{list_any}
-use Rattle.std.proofs.lemmas.Bool.{false≢true}
-use Rattle.std.proofs.lemmas.Option.{none-some}
-use Rattle.mesh_atoms.specs.declared.addr.Addr4.{Addr4}
+use Rattle.mesh_settled.proofs.Common.{◌≡◌, ℕ, refl, sym, ◌∙◌, subst, List, Contains, Option, Some, None, Bool, false, slice_get, Decides, IsTrue, ◌&&◌, list_any, false≢true, none-some, Addr4, LinkKey, Base, addr_eq, Says, Flooding, Routing, State, is_symmetric, HasSymmetricWith, Decides-some, Decides-addr, Decides-and, tests_symmetric, same_some}
 use Rattle.mesh_atoms.specs.declared.tuples.Link.{Link}
-use Rattle.mesh_atoms.specs.declared.tuples.LinkKey.{LinkKey}
 use Rattle.mesh_atoms.specs.declared.tuples.Neighbour.{Neighbour}
-use Rattle.mesh_atoms.specs.Base.{Base, addr_eq}
-use Rattle.mesh_atoms.specs.Hello.{Says, Flooding, Routing}
-use Rattle.mesh_atoms.specs.State.{State, is_symmetric, HasSymmetricWith}
-use Rattle.mesh_atoms.proofs.Deciding.{Decides-some, Decides-addr, Decides-and}
-use Rattle.mesh_atoms.proofs.Lookups.{tests_symmetric}
-use Rattle.mesh_atoms.proofs.Options.{same_some}
 
 -- the property is decided
 abbrev pub Decided : Type 0 → Type 0

@@ -1,16 +1,9 @@
 -- What two sides have at a key, and the test of it.
-use Rattle.std.proofs.Common.{Bool, List, None, Option, Some, [], ap, inl, inr, refl, subst, sym, ℕ, ◌+◌, ◌∙◌, ◌∷◌, ◌≡◌, ◌≢◌, arith}
-use Rattle.std.proofs.lemmas.Grind.{common_steps}
-use Rattle.std.specs.Prelude.{◌↔◌, is_some, option_map}
+use Rattle.mesh_settled.proofs.Common.{Bool, List, None, Option, Some, [], ap, inl, inr, refl, subst, sym, ℕ, ◌+◌, ◌∙◌, ◌∷◌, ◌≡◌, ◌≢◌, arith, common_steps, ◌↔◌, is_some, option_map, GapKey, Field, Number, SaySame, AllSame, Differ, DifferFrom, Look, IsHeldTuple, IsPresentTuple, IsExcepted, Held_alone, Present_alone, Unequal, IsGapAt, at_field, IsTest, IsTestFrom, IsSide, IsLeastGap, compared, found_at, none-some, same_some}
 use Rattle.mesh_settled.specs.declared.gaps.compare.Difference.{Difference}
-use Rattle.mesh_atoms.specs.declared.gap.GapKey.{GapKey}
-use Rattle.mesh_settled.specs.Gaps.Fields.{Field, Addresses, Number, SaySame, AllSame, Differ, DifferFrom}
-use Rattle.mesh_settled.specs.Gaps.Gaps.{Look, IsHeldTuple, IsPresentTuple, IsExcepted, Held_alone, Present_alone, Unequal, IsGapAt, at_field}
-use Rattle.mesh_settled.specs.Gaps.Found.{IsTest, IsTestFrom, IsSide, IsLeastGap, compared, found_at}
+use Rattle.mesh_settled.specs.Gaps.Fields.{Addresses}
 use Rattle.mesh_settled.proofs.GapsLemmas.Leasts.{least_one}
 use Rattle.mesh_atoms.specs.declared.gap.GapValue.{GapValue}
-use Rattle.std.proofs.lemmas.Option.{none-some}
-use Rattle.mesh_atoms.proofs.Options.{same_some}
 
 -- Fields that say the same
 

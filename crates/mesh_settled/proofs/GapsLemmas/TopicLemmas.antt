@@ -1,42 +1,14 @@
 -- Topology tuples on both sides, of any kind.
-use Rattle.std.proofs.Common.{◌≡◌, ℕ, ◌<◌, ◌⊎◌, inl, inr, refl, sym, ◌∙◌, ap, subst, length, List, Option, Some, None, slice_get, map}
-use Rattle.std.specs.Prelude.{◌↔◌, option_map}
-use Rattle.mesh_atoms.specs.declared.addr.Addr4.{Addr4}
-use Rattle.mesh_atoms.specs.declared.addr.NetAddr.{NetAddr}
-use Rattle.mesh_atoms.specs.declared.graphs.RadioGraph.{RadioGraph}
-use Rattle.mesh_atoms.specs.declared.settings.RouterSettings.{RouterSettings}
-use Rattle.mesh_atoms.specs.declared.settings.Scenario.{Scenario}
+use Rattle.mesh_settled.proofs.Common.{◌≡◌, ℕ, ◌<◌, ◌⊎◌, inl, inr, refl, sym, ◌∙◌, ap, subst, length, List, Option, Some, None, slice_get, map, ◌↔◌, option_map, Addr4, NetAddr, RadioGraph, RouterSettings, Scenario, Base, Has, find, host, router_eq, address_eq, network_eq, Joined, At, IsPeer, IsStray, Sound, State, IsOriginator, has_found, router_equiv, same_router, address_equiv, same_address, network_equiv, same_network, sound_scenario, originator_address, Found, GapKey, Claim, TopologyKind, Routers, Addresses, Networks, Field, AllSame, IsSide, IsLeastGap, lesser, Look, look, IsHeldTuple, IsPresentTuple, IsExcepted, AreSame, IsNetwork, IsPeerOriginator, IsValueOf, claim, claim_fields, key_at, ends_at, IsClaimBy, IsPresentClaim, IsHeldAt, IsTupleHeld, IsToRows, IsByRows, IsByAllRows, IsTopicKey, same_some, place_of as place_in, one_originator}
 use Rattle.mesh_atoms.specs.declared.tuples.RouterKey.{RouterKey}
 use Rattle.mesh_atoms.specs.declared.tuples.AddressKey.{AddressKey}
 use Rattle.mesh_atoms.specs.declared.tuples.NetworkKey.{NetworkKey}
-use Rattle.mesh_atoms.specs.Base.{Base, Has, find, host, router_eq, address_eq, network_eq}
-use Rattle.mesh_atoms.specs.Radio.{Joined}
-use Rattle.mesh_atoms.specs.Settled.{At, IsPeer, IsStray}
-use Rattle.mesh_atoms.specs.Sound.{Sound}
-use Rattle.mesh_atoms.specs.State.{State, IsOriginator}
-use Rattle.mesh_atoms.proofs.Lookups.{has_found, router_equiv, same_router, address_equiv, same_address, network_equiv, same_network}
 use Rattle.mesh_topo.specs.TcSets.Tuples.{router_says, address_says, network_says}
-use Rattle.mesh_paths.proofs.Scenarios.{sound_scenario}
-use Rattle.mesh_paths.proofs.SettledNeighbours.{originator_address}
-use Rattle.mesh_settled.specs.declared.gaps.found.Found.{Found}
-use Rattle.mesh_atoms.specs.declared.gap.GapKey.{GapKey}
-use Rattle.mesh_settled.specs.declared.gaps.topics.Claim.{Claim}
-use Rattle.mesh_settled.specs.declared.gaps.topics.TopologyKind.{TopologyKind}
-use Rattle.mesh_settled.specs.declared.gaps.topics.TopologyKind.TheVariants.{Routers, Addresses, Networks}
-use Rattle.mesh_settled.specs.Gaps.Fields.{Field, AllSame}
-use Rattle.mesh_settled.specs.Gaps.Found.{IsSide, IsLeastGap, lesser}
-use Rattle.mesh_settled.specs.Gaps.Gaps.{Look, look, IsHeldTuple, IsPresentTuple, IsExcepted, AreSame}
-use Rattle.mesh_settled.specs.Gaps.Network.{IsNetwork}
-use Rattle.mesh_settled.specs.Gaps.Peers.{IsPeerOriginator, IsValueOf}
-use Rattle.mesh_settled.specs.Gaps.Topics.{claim, claim_fields, key_at, ends_at, IsClaimBy, IsPresentClaim, IsHeldAt, IsTupleHeld, IsToRows, IsByRows, IsByAllRows, IsTopicKey}
 use Rattle.mesh_settled.proofs.GapsLemmas.JointLemmas.{same_state}
 use Rattle.mesh_settled.proofs.GapsLemmas.Leasts.{least_as, least_all, least_lesser}
 use Rattle.mesh_settled.proofs.GapsLemmas.PeerLemmas.{within}
 use Rattle.mesh_settled.proofs.GapsLemmas.RowLemmas.{dest_is, same_key, of_row}
 use Rattle.mesh_settled.proofs.GapsLemmas.Sides.{all_self, held_in}
-use Rattle.mesh_atoms.proofs.Options.{same_some}
-use Rattle.mesh_atoms.proofs.Lists.{place_of as place_in}
-use Rattle.mesh_atoms.proofs.Values.{one_originator}
 
 -- What is held
 

@@ -1,43 +1,15 @@
 -- 2-hop tuples on both sides.
-use Rattle.std.proofs.Common.{◌≡◌, ℕ, ◌⊎◌, inl, inr, refl, sym, ◌∙◌, ap, subst, [], List, Option, Some, None, Bool, true, false, cond, slice_get}
-use Rattle.std.specs.Prelude.{◌↔◌, IsTrue, not, ◌&&◌, Contains, option_map}
-use Rattle.std.proofs.lemmas.Bool.{false≢true}
-use Rattle.std.proofs.lemmas.Option.{get_or_from_slice_get}
-use Rattle.mesh_atoms.specs.declared.addr.Addr4.{Addr4}
-use Rattle.mesh_atoms.specs.declared.graphs.Pair.{Pair}
-use Rattle.mesh_atoms.specs.declared.graphs.RadioGraph.{RadioGraph}
-use Rattle.mesh_atoms.specs.declared.codes.metric.Metric.{Metric}
-use Rattle.mesh_atoms.specs.declared.settings.Scenario.{Scenario}
+use Rattle.mesh_settled.proofs.Common.{◌≡◌, ℕ, ◌⊎◌, inl, inr, refl, sym, ◌∙◌, ap, subst, [], List, Option, Some, None, Bool, true, false, cond, slice_get, ◌↔◌, IsTrue, not, ◌&&◌, Contains, option_map, false≢true, get_or_from_slice_get, Addr4, Pair, RadioGraph, Metric, Scenario, TwoHopKey, Has, HasDistinctKeys, find, base_of, two_hop_eq, SaysSymmetric, At, IsTwoHopBy, IsLeastAddress, State, HasAddress, HasTwoHop, is_symmetric, link_at, Joins, tests_symmetric, looks_up_links, looks_up_two_hops, looks_up_neighbours, sound_scenario, Found, GapKey, Link as Of_link, TwoHop as Of_two_hop, Field, AllSame, link_fields, two_hop_fields, IsSide, IsLeastGap, lesser, Look, look, IsHeldTuple, IsPresentTuple, IsHeldTwoHop, IsPresentTwoHop, IsLeastOf, IsNetwork, IsLinkKey, if_far, key_by, IsJoinedPeer, IsTwoHopAt, IsHeldBy, IsGivenBy, IsKeyBy, IsKeyOf, IsKeyOfSome, IsTwoHopKey, same_some, place_of as place_in}
 use Rattle.mesh_atoms.specs.declared.tuples.Link.{Link}
 use Rattle.mesh_atoms.specs.declared.tuples.Neighbour.{Neighbour}
 use Rattle.mesh_atoms.specs.declared.tuples.TwoHop.{TwoHop}
-use Rattle.mesh_atoms.specs.declared.tuples.TwoHopKey.{TwoHopKey}
-use Rattle.mesh_atoms.specs.Base.{Has, HasDistinctKeys, find, base_of, two_hop_eq}
-use Rattle.mesh_atoms.specs.Hello.{SaysSymmetric}
-use Rattle.mesh_atoms.specs.Settled.{At, IsTwoHopBy, IsLeastAddress}
-use Rattle.mesh_atoms.specs.State.{State, HasAddress, HasTwoHop, is_symmetric, link_at}
 use Rattle.mesh_atoms.specs.Live.{is_symmetric_at, is_symmetric_entry}
-use Rattle.mesh_atoms.specs.Radio.{Joins}
-use Rattle.mesh_atoms.proofs.Lookups.{tests_symmetric, looks_up_links, looks_up_two_hops, looks_up_neighbours}
-use Rattle.mesh_paths.proofs.Scenarios.{sound_scenario}
-use Rattle.mesh_settled.specs.declared.gaps.found.Found.{Found}
-use Rattle.mesh_atoms.specs.declared.gap.GapKey.{GapKey}
-use Rattle.mesh_atoms.specs.declared.gap.GapKey.TheVariants.{Link as Of_link, TwoHop as Of_two_hop}
 use Rattle.mesh_machine.specs.declared.said.Said.{Said}
-use Rattle.mesh_settled.specs.Gaps.Fields.{Field, AllSame, link_fields, two_hop_fields}
-use Rattle.mesh_settled.specs.Gaps.Found.{IsSide, IsLeastGap, lesser}
-use Rattle.mesh_settled.specs.Gaps.Gaps.{Look, look, IsHeldTuple, IsPresentTuple, IsHeldTwoHop, IsPresentTwoHop}
-use Rattle.mesh_settled.specs.Gaps.Joints.{IsLeastOf}
-use Rattle.mesh_settled.specs.Gaps.Network.{IsNetwork}
-use Rattle.mesh_settled.specs.Gaps.Links.{IsLinkKey}
 use Rattle.mesh_machine.specs.Said.{IsSaidOf}
-use Rattle.mesh_settled.specs.Gaps.TwoHops.{if_far, key_by, IsJoinedPeer, IsTwoHopAt, IsHeldBy, IsGivenBy, IsKeyBy, IsKeyOf, IsKeyOfSome, IsTwoHopKey}
 use Rattle.mesh_settled.proofs.GapsLemmas.JointLemmas.{same_state}
 use Rattle.mesh_settled.proofs.GapsLemmas.Leasts.{least_as, least_all, least_lesser}
 use Rattle.mesh_settled.proofs.GapsLemmas.LinkLemmas.{one_end}
 use Rattle.mesh_settled.proofs.GapsLemmas.Sides.{all_self, held_in}
-use Rattle.mesh_atoms.proofs.Options.{same_some}
-use Rattle.mesh_atoms.proofs.Lists.{place_of as place_in}
 
 pub held_two_hop : (p : State) (i : ℕ) (key : TwoHopKey) → HasDistinctKeys two_hop_eq (base_of p.bases.neighbourhood.two_hops i) →
     IsSide (IsHeldTwoHop p i key) (option_map two_hop_fields (option_map (λ e. e.0) (find two_hop_eq (base_of p.bases.neighbourhood.two_hops i) key)))

@@ -1,9 +1,6 @@
 -- Hexadecimal digits, piece by piece.
-use Rattle.std.proofs.Common.{◌≡◌, ℕ, ◌+◌, List, [], ◌∷◌, ◌++◌, take, drop, refl, ap, ◌∙◌}
-use Rattle.std.specs.Prelude.{slice_index, ◌/◌, ◌%◌}
+use Rattle.mesh_texts.proofs.Common.{◌≡◌, ℕ, ◌+◌, List, [], ◌∷◌, ◌++◌, take, drop, refl, ap, ◌∙◌, slice_index, ◌/◌, ◌%◌, append-nil, encode_with, encode_lower, lower_digits}
 use Rattle.std.proofs.Math.Seq.{take-add}
-use Rattle.std.proofs.lemmas.List.{append-nil}
-use Rattle.hex.specs.Hex.{encode_with, encode_lower, lower_digits}
 
 encode_with-append : (t xs ys : List ℕ) → encode_with t (xs ++ ys) ≡ encode_with t xs ++ encode_with t ys
 unfolding encode_with

@@ -1,29 +1,17 @@
 -- What the program answers, from what was done and the line that was put on err.
-use Rattle.std.proofs.Common.{◌≡◌, ℕ, ◌+◌, ◌<◌, ◌≤◌, ◌⊎◌, inl, inr, List, [], length, Option, Some, None, Result, Ok, Err, refl, sym, subst, ◌∙◌, arith}
-use Rattle.std.specs.Prelude.{IsErr, codes}
-use Rattle.mesh_atoms.proofs.Options.{same_ok}
-use Rattle.mesh_config.specs.RunSettings.{run_refusals}
+use Rattle.mesh_tool.proofs.Common.{◌≡◌, ℕ, ◌+◌, ◌<◌, ◌≤◌, ◌⊎◌, inl, inr, List, [], length, Option, Some, None, Result, Ok, Err, refl, sym, subst, ◌∙◌, arith, IsErr, codes, same_ok, run_refusals, StatesSetup, SpendsTurns, FailsToAttach, first, SourceUse, SinkUse, Call, UsesNoAir, Asks, ReadsNothing, IsInput, IsInputTooLong, IsWorkedOn, PutsText, PutsNothing, Command, RunsSoFar, command_in, StopsReading, Leaves, DoesJob, Unread, Worked, Does, No_command, Did, TellsLine, TellsEnding, words_line, read_line, refused_line, attach_line, turns_line, memory_line, Job, Kind, words_of}
 use Rattle.mesh_dump.specs.Dump.{DumpMakes}
 use Rattle.mesh_io.specs.Faults.{Rose}
 use Rattle.mesh_io.specs.Pieces.{MakesOne, PutsAll}
 use Rattle.mesh_replay.specs.declared.answer.Replay.TheVariants.{No}
 use Rattle.mesh_replay.specs.Command.Replays.{IsAnswerText}
-use Rattle.mesh_run.specs.Run.{StatesSetup, SpendsTurns, FailsToAttach}
-use Rattle.mesh_config.specs.Keys.Faults.{first}
 use Rattle.mesh_tool.specs.declared.jobs.ending.Ending.{Ending}
 use Rattle.mesh_tool.specs.declared.jobs.ending.Ending.TheVariants as ending
 use Rattle.mesh_tool.specs.declared.jobs.status.Status.{Status}
 use Rattle.mesh_tool.specs.declared.jobs.status.Status.TheVariants as status
 use Rattle.mesh_tool.specs.Answers.Answers.{FaultLine, Wrong_words, Read_fault, Refusal, Attach_fault, Turns_spent, Allocation_failure, Whole, All_well, Some_refused, Is_no_run, On_out, On_err, OutputStands, Is_whole, Is_told, Is_failed, Answers}
-use Rattle.mesh_tool.specs.Jobs.Calls.{SourceUse, SinkUse, Call, UsesNoAir, Asks, ReadsNothing, IsInput, IsInputTooLong, IsWorkedOn, PutsText, PutsNothing}
-use Rattle.mesh_tool.specs.Jobs.Commands.{Command, RunsSoFar, command_in}
-use Rattle.mesh_tool.specs.Jobs.Endings.{StopsReading, Leaves, DoesJob, Unread, Worked, Does, No_command, Did, TellsLine, TellsEnding}
-use Rattle.mesh_tool.specs.Jobs.Lines.{words_line, read_line, refused_line, attach_line, turns_line, memory_line}
 use Rattle.mesh_tool.specs.Jobs.Works.{WorksOn, Refuses, Too_long, By_rule, TakesUpTo, TakesInput, Finishes, Before_reading, On_the_way}
-use Rattle.mesh_tool.specs.declared.words.job.Job.{Job}
 use Rattle.mesh_tool.specs.declared.words.job.Job.TheVariants as job
-use Rattle.mesh_emulate.specs.declared.making.kind.Kind.{Kind}
-use Rattle.mesh_tool.specs.Words.Words.{words_of}
 use Rattle.mesh_tool.proofs.JobsLemmas.Outputs.{clear_not_refused}
 use Rattle.mesh_tool.proofs.AnswersLemmas.Reads.{works_within, works_short, whole_input, long_not_taken}
 

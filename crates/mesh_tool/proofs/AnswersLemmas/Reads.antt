@@ -1,8 +1,5 @@
 -- The octets that a command works on.
-use Rattle.std.proofs.Common.{◌≡◌, ℕ, ◌+◌, ◌<◌, ◌≤◌, List, [], ◌++◌, length, Option, Some, None, sym, ap, subst, ◌∙◌, arith, length-append}
-use Rattle.std.specs.Io.KnownBytes.{Consumes, IsAtEnd}
-use Rattle.std.proofs.lemmas.List.{append-nil}
-use Rattle.mesh_tool.specs.Jobs.Calls.{SourceUse, ReadsNothing, IsInput, IsInputTooLong, IsWorkedOn}
+use Rattle.mesh_tool.proofs.Common.{◌≡◌, ℕ, ◌+◌, ◌<◌, ◌≤◌, List, [], ◌++◌, length, Option, Some, None, sym, ap, subst, ◌∙◌, arith, length-append, Consumes, IsAtEnd, append-nil, SourceUse, ReadsNothing, IsInput, IsInputTooLong, IsWorkedOn}
 
 -- ---- by the most octets of its input
 

@@ -1,10 +1,5 @@
 -- What the output of a run says of it.
-use Rattle.std.proofs.Common.{◌≡◌, ℕ, List, Option, Some, None, inl, inr}
-use Rattle.mesh_atoms.proofs.Options.{none_not}
-use Rattle.mesh_config.specs.Keys.Faults.{fault, first}
-use Rattle.mesh_config.specs.RunSettings.{run_refusals, FirstRunRefusal}
-use Rattle.mesh_run.specs.Run.{ToldInCall, RouterRunMakes}
-use Rattle.mesh_tool.specs.Jobs.Commands.{RunsSoFar}
+use Rattle.mesh_tool.proofs.Common.{◌≡◌, ℕ, List, Option, Some, None, inl, inr, none_not, fault, first, run_refusals, FirstRunRefusal, ToldInCall, RouterRunMakes, RunsSoFar}
 
 -- octets of a router that is run aren't refused
 pub clear_not_refused : (octets : List ℕ) (number : ℕ) (key : List ℕ) → first (run_refusals octets) ≡ None → FirstRunRefusal octets number key → ⊥

@@ -1,10 +1,7 @@
 -- The pieces of a line that tells a fault.
-use Rattle.std.proofs.Common.{◌≡◌, ℕ, ◌+◌, ◌<◌, List, [], ◌∷◌, ◌++◌, Bor, codes, drop, get_or, length, map, take, refl, sym, ap, ◌∙◌, append_assoc}
+use Rattle.mesh_tool.proofs.Common.{◌≡◌, ℕ, ◌+◌, ◌<◌, List, [], ◌∷◌, ◌++◌, Bor, codes, drop, get_or, length, map, take, refl, sym, ap, ◌∙◌, append_assoc, concat, append-nil, drop_more, map-append, take-append-drop, take_more, refusal_name, refused_line, attach_line, turns_line}
 use Rattle.std.specs.Fmt.{decimal}
-use Rattle.std.specs.List.{concat}
-use Rattle.std.proofs.lemmas.List.{append-nil, drop_more, map-append, take-append-drop, take_more}
 use Rattle.std.proofs.lemmas.List.Folds.{concat-append}
-use Rattle.mesh_tool.specs.Jobs.Lines.{refusal_name, refused_line, attach_line, turns_line}
 
 -- the text of pieces
 abbrev pub text : List (Bor (List ℕ)) → List ℕ

@@ -1,17 +1,8 @@
 -- Words are read as a job exactly where they ask for it.
-use Rattle.std.proofs.Common.{◌≡◌, ℕ, ◌+◌, inl, inr, List, [], ◌∷◌, length, Option, Some, None, Result, Ok, Bool, true, false, ◌&&◌, refl, sym, ap, subst, ◌∙◌, arith}
-use Rattle.std.specs.Prelude.{codes, option_map}
-use Rattle.std.specs.List.{flat_map, AllByRecursion}
-use Rattle.std.specs.Cmp.Lexicographic.{bytes_decides}
-use Rattle.mesh_atoms.specs.declared.addr.Addr4.{Addr4}
-use Rattle.mesh_atoms.specs.Literals.{only_if}
-use Rattle.mesh_tool.specs.declared.words.job.Job.{Job}
+use Rattle.mesh_tool.proofs.Common.{◌≡◌, ℕ, ◌+◌, inl, inr, List, [], ◌∷◌, length, Option, Some, None, Result, Ok, Bool, true, false, ◌&&◌, refl, sym, ap, subst, ◌∙◌, arith, codes, option_map, flat_map, AllByRecursion, bytes_decides, Addr4, only_if, Job, Kind, Parsing, is_word, turns_of, kind_of, routers_of, seed_of, no_emulate_options, plain_jobs, plain_word, command_word, takes, or_at, read_on, words_of, InAnyOrder, OptionWords, make_options, AreEmulateOptions, AreOptions, AskFor}
 use Rattle.mesh_tool.specs.declared.words.job.Job.TheVariants as job
-use Rattle.mesh_emulate.specs.declared.making.kind.Kind.{Kind}
-use Rattle.mesh_tool.specs.declared.words.asked.Parsing.{Parsing}
 use Rattle.mesh_tool.specs.declared.words.asked.Parsing.TheVariants as asked
-use Rattle.mesh_tool.specs.Words.Words.{is_word, turns_of, kind_of, routers_of, seed_of, no_emulate_options, command_of, plain_jobs, plain_word, command_word, takes, or_at, read_on, words_of}
-use Rattle.mesh_tool.specs.Words.CommandLines.{InAnyOrder, OptionWords, make_options, AreEmulateOptions, AreOptions, AskFor}
+use Rattle.mesh_tool.specs.Words.Words.{command_of}
 use Rattle.mesh_tool.proofs.WordsLemmas.EmulateLines.{ReadFrom, comes_read, all_read, option_on, reads_on}
 use Rattle.mesh_tool.proofs.WordsLemmas.MakeLines.{makes_from, make_asked}
 use Rattle.mesh_tool.proofs.WordsLemmas.Orders.{in_each_order}

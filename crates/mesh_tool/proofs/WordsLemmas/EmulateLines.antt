@@ -1,22 +1,11 @@
 -- The options of `emulate` of a scenario that is read: asked for, and read.
-use Rattle.std.proofs.Common.{◌≡◌, ℕ, zero, suc, ◌+◌, ◌≤◌, ◌⊎◌, inl, inr, List, [], ◌∷◌, ◌++◌, length, Option, Some, None, Result, Ok, Bool, true, false, not, ◌&&◌, refl, sym, ap, subst, ◌∙◌, arith}
-use Rattle.std.specs.Prelude.{codes, is_none}
-use Rattle.std.specs.List.{flat_map}
-use Rattle.std.proofs.lemmas.List.{append-nil}
-use Rattle.mesh_atoms.specs.declared.addr.Addr4.{Addr4}
-use Rattle.mesh_atoms.specs.Literals.{◌>>=◌, address_of}
-use Rattle.mesh_tool.specs.declared.words.job.Job.{Job}
+use Rattle.mesh_tool.proofs.Common.{◌≡◌, ℕ, zero, suc, ◌+◌, ◌≤◌, ◌⊎◌, inl, inr, List, [], ◌∷◌, ◌++◌, length, Option, Some, None, Result, Ok, Bool, true, false, not, ◌&&◌, refl, sym, ap, subst, ◌∙◌, arith, codes, is_none, flat_map, append-nil, Addr4, ◌>>=◌, address_of, Job, Parsing, is_word, is_without, make_option, no_make_options, emulate_option, or_at, read_on, InAnyOrder, OptionWords, PlacedOption, at_place, placed, IsTraceOption, IsSend, IsProbe, append_none as nothing, cond_none_some}
 use Rattle.mesh_tool.specs.declared.words.job.Job.TheVariants as job
-use Rattle.mesh_tool.specs.declared.words.asked.Parsing.{Parsing}
 use Rattle.mesh_tool.specs.declared.words.asked.Parsing.TheVariants as asked
 use Rattle.mesh_tool.specs.declared.words.asked.EmulateOptions.{EmulateOptions}
 use Rattle.mesh_tool.specs.declared.words.asked.EmulateValue.TheVariants as value
-use Rattle.mesh_tool.specs.Words.Words.{is_word, is_without, make_option, no_make_options, emulate_option, or_at, read_on}
-use Rattle.mesh_tool.specs.Words.CommandLines.{InAnyOrder, OptionWords, PlacedOption, at_place, placed, IsTraceOption, IsSend, IsProbe}
 use Rattle.mesh_tool.proofs.WordsLemmas.Orders.{later, last, none_left, taken_out, IsFew, first_or_later}
 use Rattle.mesh_tool.proofs.WordsLemmas.Reading.{or_at_ok, if_some, stands, same_job}
-use Rattle.mesh_atoms.proofs.Lists.{append_none as nothing}
-use Rattle.mesh_atoms.proofs.Options.{cond_none_some}
 
 abbrev pub options_of : Bool → Option (ℕ × Addr4) → Option ℕ → EmulateOptions
 options_of trace send probe = record { trace = trace; send = send; probe = probe }

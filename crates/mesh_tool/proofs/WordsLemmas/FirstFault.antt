@@ -1,17 +1,10 @@
 -- Words are refused exactly at the first word at fault.
-use Rattle.std.proofs.Common.{◌≡◌, ℕ, ◌+◌, ◌<◌, ◌≤◌, ◌⊎◌, inl, inr, List, [], ◌∷◌, ◌++◌, length, take, drop, Option, Some, None, Result, Ok, Err, refl, sym, ap, subst, ◌∙◌, arith, append_assoc, length-append}
-use Rattle.std.specs.Prelude.{codes, IsOk, IsErr}
-use Rattle.std.proofs.lemmas.Bool.{cases_order}
-use Rattle.std.proofs.lemmas.List.{append-nil, take-append-drop, take-take}
+use Rattle.mesh_tool.proofs.Common.{◌≡◌, ℕ, ◌+◌, ◌<◌, ◌≤◌, ◌⊎◌, inl, inr, List, [], ◌∷◌, ◌++◌, length, take, drop, Option, Some, None, Result, Ok, Err, refl, sym, ap, subst, ◌∙◌, arith, append_assoc, length-append, codes, IsOk, IsErr, cases_order, append-nil, take-append-drop, take-take, Job, Kind, Parsing, read_on, takes, or_at, job_of, words_of}
 use Rattle.std.proofs.Math.Seq.{take-append_seam, take-append-add}
-use Rattle.mesh_tool.specs.declared.words.job.Job.{Job}
-use Rattle.mesh_emulate.specs.declared.making.kind.Kind.{Kind}
 use Rattle.mesh_emulate.specs.declared.making.kind.Kind.TheVariants as kind
-use Rattle.mesh_tool.specs.declared.words.asked.Parsing.{Parsing}
 use Rattle.mesh_tool.specs.declared.words.asked.Parsing.TheVariants as asked
 use Rattle.mesh_tool.specs.declared.words.asked.EmulateValue.TheVariants as emulates
 use Rattle.mesh_tool.specs.declared.words.asked.MakeValue.TheVariants as value
-use Rattle.mesh_tool.specs.Words.Words.{read_on, takes, or_at, job_of, words_of}
 use Rattle.mesh_tool.specs.Words.FirstFault.{IsCommandLine, BeginACommandLine, IsFirstAtFault}
 
 -- ---- whatever is asked for, some words complete it

@@ -1,18 +1,10 @@
 -- The options of a made scenario, read.
-use Rattle.std.proofs.Common.{◌≡◌, ℕ, ◌+◌, inl, inr, List, [], ◌∷◌, ◌++◌, Option, Some, None, Result, Ok, true, ◌&&◌, refl, sym, ap, subst, ◌∙◌}
-use Rattle.std.specs.Prelude.{codes, is_none, option_map}
-use Rattle.std.specs.List.{flat_map}
-use Rattle.mesh_atoms.specs.Literals.{◌>>=◌}
-use Rattle.mesh_tool.specs.declared.words.job.Job.{Job}
+use Rattle.mesh_tool.proofs.Common.{◌≡◌, ℕ, ◌+◌, inl, inr, List, [], ◌∷◌, ◌++◌, Option, Some, None, Result, Ok, true, ◌&&◌, refl, sym, ap, subst, ◌∙◌, codes, is_none, option_map, flat_map, ◌>>=◌, Job, Kind, Parsing, is_word, kind_of, routers_of, seed_of, make_option, make_job, or_at, read_on, InAnyOrder, OptionWords, AskFor}
 use Rattle.mesh_tool.specs.declared.words.job.Job.TheVariants as job
-use Rattle.mesh_emulate.specs.declared.making.kind.Kind.{Kind}
-use Rattle.mesh_tool.specs.declared.words.asked.Parsing.{Parsing}
 use Rattle.mesh_tool.specs.declared.words.asked.Parsing.TheVariants as asked
 use Rattle.mesh_tool.specs.declared.words.asked.MakeOptions.{MakeOptions}
 use Rattle.mesh_tool.specs.declared.words.asked.MakeValue.{MakeValue}
 use Rattle.mesh_tool.specs.declared.words.asked.MakeValue.TheVariants as value
-use Rattle.mesh_tool.specs.Words.Words.{is_word, kind_of, routers_of, seed_of, make_option, make_job, or_at, read_on}
-use Rattle.mesh_tool.specs.Words.CommandLines.{InAnyOrder, OptionWords, AskFor}
 use Rattle.mesh_tool.proofs.WordsLemmas.Orders.{later, last}
 use Rattle.mesh_tool.proofs.WordsLemmas.Reading.{or_at_ok, if_some, stands, only_stands, same_job}
 

@@ -1,7 +1,5 @@
 -- Lists in any order.
-use Rattle.std.proofs.Common.{◌≡◌, ◌⊎◌, inl, inr, List, [], ◌∷◌, ◌++◌, refl, sym, ap, subst, ◌∙◌, append_assoc}
-use Rattle.mesh_tool.specs.Words.CommandLines.{InAnyOrder}
-use Rattle.mesh_atoms.proofs.Lists.{append_none as no_parts}
+use Rattle.mesh_tool.proofs.Common.{◌≡◌, ◌⊎◌, inl, inr, List, [], ◌∷◌, ◌++◌, refl, sym, ap, subst, ◌∙◌, append_assoc, InAnyOrder, append_none as no_parts}
 
 -- ---- the orders of three
 

@@ -1,14 +1,7 @@
 -- What a command line asks for is in its range.
-use Rattle.std.proofs.Common.{◌≡◌, ℕ, ◌+◌, ◌-◌, ◌*◌, ◌≤◌, List, [], ◌∷◌, Option, Some, None, Result, Ok, Err, Bool, true, false, ◌&&◌, refl, sym, subst, arith}
-use Rattle.std.specs.Prelude.{IfOk, nat_le}
-use Rattle.std.proofs.lemmas.Bool.{leb-true}
-use Rattle.mesh_atoms.specs.Literals.{◌>>=◌, only_if, is_digit, digits_of, begins_right, number_of}
-use Rattle.mesh_tool.specs.declared.words.job.Job.{Job}
+use Rattle.mesh_tool.proofs.Common.{◌≡◌, ℕ, ◌+◌, ◌-◌, ◌*◌, ◌≤◌, List, [], ◌∷◌, Option, Some, None, Result, Ok, Err, Bool, true, false, ◌&&◌, refl, sym, subst, arith, IfOk, nat_le, leb-true, ◌>>=◌, only_if, is_digit, digits_of, begins_right, number_of, Job, number_from, words_of, AskFor, IsJobInRange, cond_none_some as if_found}
 use Rattle.mesh_tool.specs.declared.words.job.Job.TheVariants as job
-use Rattle.mesh_tool.specs.Words.Words.{number_from, words_of}
-use Rattle.mesh_tool.specs.Words.CommandLines.{AskFor, IsJobInRange}
 use Rattle.mesh_tool.proofs.WordsLemmas.CommandLines.{read_is_asked}
-use Rattle.mesh_atoms.proofs.Options.{cond_none_some as if_found}
 
 both_within : (a : Bool) (n most : ℕ) → (a && nat_le n most) ≡ true → n ≤ most
 both_within true n most h = leb-true n most h

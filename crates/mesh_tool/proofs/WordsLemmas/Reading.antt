@@ -1,11 +1,5 @@
 -- Steps of reading the words of a command line.
-use Rattle.std.proofs.Common.{◌≡◌, ℕ, ◌⊎◌, inl, inr, List, Option, Some, None, Result, Ok, Bool, true, false, ◌&&◌, cond, refl, sym}
-use Rattle.std.specs.Cmp.Lexicographic.{bytes_decides}
-use Rattle.mesh_atoms.specs.Literals.{only_if}
-use Rattle.mesh_tool.specs.declared.words.job.Job.{Job}
-use Rattle.mesh_tool.specs.declared.words.asked.Parsing.{Parsing}
-use Rattle.mesh_tool.specs.Words.Words.{is_word, or_at}
-use Rattle.std.proofs.lemmas.Bool.{and_parts}
+use Rattle.mesh_tool.proofs.Common.{◌≡◌, ℕ, ◌⊎◌, inl, inr, List, Option, Some, None, Result, Ok, Bool, true, false, ◌&&◌, cond, refl, sym, bytes_decides, only_if, Job, Parsing, is_word, or_at, and_parts}
 
 pub or_at_ok : {A B : Type 0} (place : ℕ) (o : Option A) (f : A → Result B ℕ) (b : B) → or_at place o f ≡ Ok b → (next : A) × (o ≡ Some next) × (f next ≡ Ok b)
 or_at_ok place (Some x) f b h = (x, refl, h)

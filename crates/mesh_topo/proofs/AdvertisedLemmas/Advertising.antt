@@ -1,35 +1,12 @@
 -- The rows of what is offered are the rows that a router advertises.
-use Rattle.std.proofs.Common.{◌≡◌, ◌≤◌, not, ◌⊎◌, ◌↔◌, inl, inr, Bool, true, false, cond, List, [], ◌∷◌, map, Option, Some, None, refl, sym, ap, subst, ◌∙◌, arith}
-use Rattle.std.proofs.lemmas.Grind.{common_steps}
-use Rattle.std.specs.Prelude.{Contains, IsTrue, flat_map, is_none}
-use Rattle.std.specs.List.{list_any}
-use Rattle.std.specs.Ordering.{is_eq}
-use Rattle.std.specs.BTreeMap.{BTreeMap, get, IsOrdered}
-use Rattle.std.proofs.lemmas.Bool.{cases_Bool, and_parts as both}
+use Rattle.mesh_topo.proofs.Common.{◌≡◌, ◌≤◌, not, ◌⊎◌, ◌↔◌, inl, inr, Bool, true, false, cond, List, [], ◌∷◌, map, Option, Some, None, refl, sym, ap, subst, ◌∙◌, arith, common_steps, Contains, IsTrue, flat_map, is_none, list_any, is_eq, BTreeMap, get, IsOrdered, cases_Bool, and_parts as both, Addr4, NetAddr, Metric, TcRow, GivesAsSelector, AdvertisesBy, AdvertisesOriginatorBy, IsRowBy, Of_address, Of_network, AreRowsBy, AreTcRows, host, net_eq, metric_value, State, HasSymmetric, cost-injective, Offer, Selector, net_cmp, offered, of_address, of_selector, of_network, row_of, net_total, net_exact, same_at, at_same, contains_head as at_head, contains_tail as in_tail, contains_cases, contains_none as none_in, contains_map as in_map, contains_map_cases as from_map, contains_flat_map as in_each, contains_flat_map_cases, same_metric, list_any_at}
 use Rattle.std.proofs.lemmas.Map.Views.{btree_map_get_iff}
-use Rattle.mesh_atoms.specs.declared.addr.Addr4.{Addr4}
-use Rattle.mesh_atoms.specs.declared.addr.NetAddr.{NetAddr}
-use Rattle.mesh_atoms.specs.declared.codes.metric.Metric.{Metric}
 use Rattle.mesh_atoms.specs.declared.settings.Attached4.{Attached4}
-use Rattle.mesh_atoms.specs.declared.tc.TcRow.{TcRow}
-use Rattle.mesh_atoms.specs.Advertised.{GivesAsSelector, AdvertisesBy, AdvertisesOriginatorBy, IsRowBy, Of_address, Of_network, AreRowsBy, AreTcRows}
-use Rattle.mesh_atoms.specs.Base.{host, net_eq}
-use Rattle.mesh_atoms.specs.Codes.Codes.{metric_value}
 use Rattle.mesh_atoms.specs.Settings.{are_distinct}
-use Rattle.mesh_atoms.specs.State.{State, HasSymmetric}
-use Rattle.mesh_atoms.proofs.CodesLemmas.CodeLaws.{cost-injective}
-use Rattle.mesh_topo.specs.declared.advertised.rows.Offer.{Offer}
-use Rattle.mesh_topo.specs.declared.advertised.rows.Selector.{Selector}
-use Rattle.mesh_atoms.specs.Nodes.{net_cmp}
-use Rattle.mesh_topo.specs.Advertised.Offers.{offered, of_address, of_selector, of_network, row_of}
 use Rattle.mesh_topo.specs.Advertised.Selectors.{AreSelectors, SelectorGives}
 use Rattle.mesh_topo.proofs.AdvertisedLemmas.Best.{Best, SumsUp, sums_as, sums_all}
-use Rattle.mesh_atoms.proofs.NetOrder.{net_total, net_exact, same_at, at_same}
 use Rattle.mesh_topo.proofs.AdvertisedLemmas.RowOrder.{ascending_rows}
 use Rattle.mesh_atoms.proofs.Values.{same_host, net_itself}
-use Rattle.mesh_atoms.proofs.Lists.{contains_head as at_head, contains_tail as in_tail, contains_cases, contains_none as none_in, contains_map as in_map, contains_map_cases as from_map, contains_flat_map as in_each, contains_flat_map_cases}
-use Rattle.mesh_atoms.proofs.Rows.{same_metric}
-use Rattle.std.proofs.lemmas.List.Folds.{list_any_at}
 
 -- ---- selectors
 

@@ -1,17 +1,5 @@
 -- The best of what is offered of a node.
-use Rattle.std.proofs.Common.{◌≡◌, ◌<◌, ◌≤◌, ◌⊎◌, ◌↔◌, inl, inr, Bool, true, false, cond, List, [], ◌∷◌, Option, Some, None, refl, sym, ap, subst, ◌∙◌, arith}
-use Rattle.std.specs.Prelude.{Contains, IsTrue, is_some, nat_lt, ◌||◌}
-use Rattle.std.specs.Ordering.{is_eq}
-use Rattle.std.proofs.lemmas.Bool.{ltb-true, ltb-false}
-use Rattle.mesh_atoms.specs.declared.addr.NetAddr.{NetAddr}
-use Rattle.mesh_atoms.specs.declared.codes.metric.Metric.{Metric}
-use Rattle.mesh_atoms.specs.Codes.Codes.{metric_value}
-use Rattle.mesh_atoms.proofs.CodesLemmas.CodeLaws.{cost-le}
-use Rattle.mesh_topo.specs.declared.advertised.rows.Offer.{Offer}
-use Rattle.mesh_atoms.specs.Nodes.{net_cmp}
-use Rattle.mesh_topo.specs.Advertised.Offers.{lesser, put_offer, offered}
-use Rattle.mesh_atoms.proofs.NetOrder.{same_at, at_same}
-use Rattle.mesh_atoms.proofs.Lists.{contains_head as at_head, contains_tail as in_tail, contains_cases, contains_none as none_in}
+use Rattle.mesh_topo.proofs.Common.{◌≡◌, ◌<◌, ◌≤◌, ◌⊎◌, ◌↔◌, inl, inr, Bool, true, false, cond, List, [], ◌∷◌, Option, Some, None, refl, sym, ap, subst, ◌∙◌, arith, Contains, IsTrue, is_some, nat_lt, ◌||◌, is_eq, ltb-true, ltb-false, NetAddr, Metric, metric_value, cost-le, Offer, net_cmp, lesser, put_offer, offered, same_at, at_same, contains_head as at_head, contains_tail as in_tail, contains_cases, contains_none as none_in}
 
 -- the offer sums up these offers of an address
 pub record Best (C : Offer → Type 0) (o : Offer) : Type 0 where

@@ -1,19 +1,7 @@
 -- Rows that are cut into runs.
-use Rattle.std.proofs.Common.{◌≡◌, ℕ, suc, ◌+◌, ◌-◌, ◌*◌, ◌<◌, ◌≤◌, inl, inr, List, [], ◌∷◌, ◌++◌, length, take, drop, map, sym, ap, subst, ◌∙◌, arith, length-append, length-take, length-drop, Some}
-use Rattle.std.proofs.lemmas.Grind.{common_steps}
-use Rattle.std.specs.Prelude.{slice_get, slice_range, flat_map, option_map, min}
-use Rattle.std.proofs.lemmas.Bool.{cases_lt}
-use Rattle.std.proofs.lemmas.Grind.{flat_map-append}
-use Rattle.std.proofs.lemmas.List.{take-append-drop, nil_from_length, append-nil, length-map}
-use Rattle.std.proofs.lemmas.List.Folds.{flat_map-map}
-use Rattle.std.proofs.lemmas.Option.{slice_get-map, slice_get_within}
+use Rattle.mesh_topo.proofs.Common.{◌≡◌, ℕ, suc, ◌+◌, ◌-◌, ◌*◌, ◌<◌, ◌≤◌, inl, inr, List, [], ◌∷◌, ◌++◌, length, take, drop, map, sym, ap, subst, ◌∙◌, arith, length-append, length-take, length-drop, Some, common_steps, slice_get, slice_range, flat_map, option_map, min, cases_lt, flat_map-append, take-append-drop, nil_from_length, append-nil, length-map, flat_map-map, slice_get-map, slice_get_within, TcRow, AreParts, PartSpan, part_of, AreSpans, item_at as there, get_pushed as push_at}
 use Rattle.std.proofs.Math.Nat.{mul-le-mul_right, suc-mul}
 use Rattle.std.proofs.Math.Seq.{take-append-add, take-length}
-use Rattle.mesh_atoms.specs.declared.tc.TcRow.{TcRow}
-use Rattle.mesh_atoms.specs.Advertised.{AreParts}
-use Rattle.mesh_topo.specs.declared.advertised.spans.PartSpan.{PartSpan}
-use Rattle.mesh_topo.specs.Advertised.Spans.{part_of, AreSpans}
-use Rattle.mesh_atoms.proofs.Lists.{item_at as there, get_pushed as push_at}
 
 -- full runs up to a place, which is not the last
 pub record AreFull (rows most first : ℕ) (spans : List PartSpan) : Type 0 where

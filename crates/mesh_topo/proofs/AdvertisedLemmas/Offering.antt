@@ -1,11 +1,5 @@
 -- Offers that are put one after the other.
-use Rattle.std.proofs.Common.{◌≡◌, List, [], ◌∷◌, ◌++◌, Option, None, refl, arith}
-use Rattle.std.proofs.lemmas.Grind.{common_steps}
-use Rattle.std.specs.BTreeMap.{BTreeMap, get}
-use Rattle.mesh_atoms.specs.declared.addr.NetAddr.{NetAddr}
-use Rattle.mesh_topo.specs.declared.advertised.rows.Offer.{Offer}
-use Rattle.mesh_atoms.specs.Nodes.{net_cmp}
-use Rattle.mesh_topo.specs.Advertised.Offers.{offered, KeepsWithOffers}
+use Rattle.mesh_topo.proofs.Common.{◌≡◌, List, [], ◌∷◌, ◌++◌, Option, None, refl, arith, common_steps, BTreeMap, get, NetAddr, Offer, net_cmp, offered, KeepsWithOffers}
 
 pub offered_all : (net : NetAddr) (xs ys : List (NetAddr × Offer)) (offer : Option Offer) → offered net (xs ++ ys) offer ≡ offered net ys (offered net xs offer)
 offered_all net [] ys offer = refl

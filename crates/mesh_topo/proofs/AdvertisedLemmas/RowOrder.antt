@@ -1,17 +1,6 @@
 -- The rows of a map in the order of networks.
-use Rattle.std.proofs.Common.{◌≡◌, ℕ, zero, suc, refl, sym, subst, arith, List, [], ◌∷◌, map, slice_index_or}
-use Rattle.std.specs.Prelude.{AllPairs}
-use Rattle.std.specs.declared.cmp.Ordering.TheVariants.{Less}
-use Rattle.std.specs.List.Sorted.{IsStrictlySortedBy}
+use Rattle.mesh_topo.proofs.Common.{◌≡◌, ℕ, zero, suc, refl, sym, subst, arith, List, [], ◌∷◌, map, slice_index_or, AllPairs, Less, IsStrictlySortedBy, length-map, Less-from_sorted, NetAddr, TcRow, IsBefore, net_cmp, net_less, Offer, row_of}
 use Rattle.std.specs.Map.{keys_of}
-use Rattle.std.proofs.lemmas.List.{length-map}
-use Rattle.std.proofs.lemmas.Map.Keys.{Less-from_sorted}
-use Rattle.mesh_atoms.specs.declared.addr.NetAddr.{NetAddr}
-use Rattle.mesh_atoms.specs.declared.tc.TcRow.{TcRow}
-use Rattle.mesh_atoms.specs.Nodes.{IsBefore, net_cmp}
-use Rattle.mesh_atoms.proofs.NetOrder.{net_less}
-use Rattle.mesh_topo.specs.declared.advertised.rows.Offer.{Offer}
-use Rattle.mesh_topo.specs.Advertised.Offers.{row_of}
 
 dest_at : (es : List (NetAddr × Offer)) (k : ℕ) (d : TcRow) → (slice_index_or (map row_of es) k d).dest ≡ slice_index_or (keys_of es) k d.dest
 dest_at [] k d = refl

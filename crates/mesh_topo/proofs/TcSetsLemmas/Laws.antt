@@ -1,21 +1,5 @@
 -- What a TC does to one set of tuples.
-use Rattle.std.proofs.Common.{◌≡◌, ℕ, ◌+◌, ◌<◌, ◌≤◌, ◌⊎◌, inl, inr, Bool, true, false, cond, not, ◌&&◌, List, length, take, Option, Some, None, slice_index_or, refl, sym, ap, subst, ◌∙◌, arith, eq-eqb}
-use Rattle.std.specs.Prelude.{option_map, slice_get, nat_eq, is_some, count_by, IsTrue, ◌↔◌}
-use Rattle.std.specs.BTreeSet.{BTreeSet}
-use Rattle.std.specs.Cmp.{IsEquivalence}
-use Rattle.std.specs.declared.cmp.Ordering.{Ordering}
-use Rattle.std.proofs.lemmas.Bool.{cases_lt, cases_Bool, false≢true}
-use Rattle.std.proofs.lemmas.List.Sums.{count_by_more_yes, count_by_more_no}
-use Rattle.std.proofs.lemmas.Option.{slice_get-get_or, slice_get_within, get_or_from_slice_get}
-use Rattle.mesh_atoms.specs.declared.addr.Addr4.{Addr4}
-use Rattle.mesh_atoms.specs.declared.codes.metric.Metric.{Metric}
-use Rattle.mesh_atoms.specs.declared.tc.Tc.{Tc}
-use Rattle.mesh_atoms.specs.Base.{Base, find, SetsOnly, addr_eq}
-use Rattle.mesh_atoms.specs.AfterTc.{if_not_dropped, Becomes, BecomesSet, Given, Left}
-use Rattle.mesh_expire.specs.Keyed.{AreKeys}
-use Rattle.mesh_expire.proofs.Laws.{find_same}
-use Rattle.mesh_topo.specs.TcSets.Same.{SaysSame}
-use Rattle.mesh_topo.specs.TcSets.Sets.{GivenBy, GivenBefore, PutsGiven, PutsRows, Put, Stood}
+use Rattle.mesh_topo.proofs.Common.{◌≡◌, ℕ, ◌+◌, ◌<◌, ◌≤◌, ◌⊎◌, inl, inr, Bool, true, false, cond, not, ◌&&◌, List, length, take, Option, Some, None, slice_index_or, refl, sym, ap, subst, ◌∙◌, arith, eq-eqb, option_map, slice_get, nat_eq, is_some, count_by, IsTrue, ◌↔◌, BTreeSet, IsEquivalence, Ordering, cases_lt, cases_Bool, false≢true, count_by_more_yes, count_by_more_no, slice_get-get_or, slice_get_within, get_or_from_slice_get, Addr4, Metric, Tc, Base, find, SetsOnly, addr_eq, if_not_dropped, Becomes, BecomesSet, Given, Left, AreKeys, find_same, SaysSame, GivenBy, GivenBefore, PutsGiven, PutsRows, Put, Stood}
 use Rattle.mesh_atoms.proofs.Options.{none_is_some}
 
 -- ---- rows that are put one after the other

@@ -1,20 +1,5 @@
 -- A walk over the keys of an originator, for those that are outdated.
-use Rattle.std.proofs.lemmas.Grind.{common_steps}
-use Rattle.std.proofs.lemmas.Bool.{not-true}
-use Rattle.std.proofs.Common.{◌≡◌, ℕ, ◌≤◌, Bool, true, false, not, nat_eq, ◌&&◌, ◌||◌, List, [], ◌∷◌, ◌++◌, refl, sym, ap, subst, ◌∙◌, arith, is_some, Option, Some, None, eq-eqb}
-use Rattle.std.specs.List.{list_any, filter, AllByRecursion}
-use Rattle.std.specs.List.Sorted.{IsStrictlySortedBy}
-use Rattle.std.specs.Ordering.{is_gt, is_le, is_eq}
-use Rattle.std.specs.declared.cmp.Ordering.{Ordering}
-use Rattle.std.specs.declared.cmp.Ordering.TheVariants.{Less, Equal, Greater}
-use Rattle.std.specs.Cmp.{IsEquivalence}
-use Rattle.std.specs.BTreeSet.{BTreeSet, contains}
-use Rattle.std.proofs.lemmas.Map.Keys.{sorted_head, sorted_tail}
-use Rattle.mesh_atoms.specs.declared.addr.Addr4.{Addr4}
-use Rattle.mesh_atoms.specs.Base.{Base, find, addr_eq}
-use Rattle.mesh_topo.specs.TcSets.Sets.{has_other_number, is_outdated}
-use Rattle.mesh_atoms.proofs.Lists.{any_filter}
-use Rattle.mesh_atoms.proofs.Lookups.{same_addr}
+use Rattle.mesh_topo.proofs.Common.{common_steps, not-true, ◌≡◌, ℕ, ◌≤◌, Bool, true, false, not, nat_eq, ◌&&◌, ◌||◌, List, [], ◌∷◌, ◌++◌, refl, sym, ap, subst, ◌∙◌, arith, is_some, Option, Some, None, eq-eqb, list_any, filter, AllByRecursion, IsStrictlySortedBy, is_gt, is_le, is_eq, Ordering, Less, Equal, Greater, IsEquivalence, BTreeSet, contains, sorted_head, sorted_tail, Addr4, Base, find, addr_eq, has_other_number, is_outdated, any_filter, same_addr}
 
 any_last : {K : Type 0} (p : K → Bool) (xs : List K) (k : K) → list_any p (xs ++ k ∷ []) ≡ (list_any p xs || p k)
 any_last p [] k = grind (arith, common_steps)

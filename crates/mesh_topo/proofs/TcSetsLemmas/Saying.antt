@@ -1,10 +1,7 @@
 -- Whether two tuples say the same.
-use Rattle.std.proofs.Common.{◌≡◌, ℕ, eqb, ap, ◌∙◌, Decides}
-use Rattle.std.specs.Prelude.{Option, ◌&&◌}
+use Rattle.mesh_topo.proofs.Common.{◌≡◌, ℕ, eqb, ap, ◌∙◌, Decides, Option, ◌&&◌, Metric, options, metrics}
 use Rattle.std.specs.Option.{option_eq}
 use Rattle.std.proofs.lemmas.Bool.Decides.{Decides-and, Decides-eqb, Decides-like}
-use Rattle.mesh_atoms.specs.declared.codes.metric.Metric.{Metric}
-use Rattle.mesh_atoms.proofs.Rows.{options, metrics}
 
 -- it is as their distances and their metrics are
 pub says_same : (a b : Option ℕ × Metric) → Decides (option_eq eqb a.0 b.0 && eqb a.1.code b.1.code) (a ≡ b)

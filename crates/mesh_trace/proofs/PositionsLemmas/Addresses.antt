@@ -1,56 +1,13 @@
 -- Wherever lines lead, neighbours have addresses of 32 bits: HELLOs in the air name their senders so.
-use Rattle.std.proofs.lemmas.Grind.{common_steps}
-use Rattle.std.proofs.Common.{◌≡◌, ◌⊎◌, ℕ, zero, suc, ◌+◌, ◌%◌, ◌<◌, ◌^◌, inl, inr, refl, sym, ◌∙◌, ap, subst, arith, List, [], ◌∷◌, ◌++◌, length, map, Option, Some, None, Contains, Bool}
-use Rattle.std.specs.Prelude.{slice_get, slice_set, nat_eq}
-use Rattle.std.specs.List.{enumerate_from}
-use Rattle.std.proofs.lemmas.List.Elements.{Contains-append_cases, Contains-append_left, Contains-append_right}
-use Rattle.std.proofs.lemmas.Option.{slice_get_within}
-use Rattle.mesh_atoms.specs.declared.addr.Addr4.{Addr4}
-use Rattle.mesh_atoms.specs.declared.hello.Hello.{Hello}
-use Rattle.mesh_atoms.specs.declared.settings.RadioArc.{RadioArc}
-use Rattle.mesh_atoms.specs.declared.settings.RouterSettings.{RouterSettings}
-use Rattle.mesh_atoms.specs.declared.settings.Scenario.{Scenario}
-use Rattle.mesh_atoms.specs.declared.tc.Tc.{Tc}
-use Rattle.mesh_atoms.specs.declared.tc.TcRow.{TcRow}
-use Rattle.mesh_atoms.specs.declared.tuples.Neighbour.{Neighbour}
-use Rattle.mesh_atoms.specs.AfterHello.{BecomesOther, Joins, Remains, AfterHello}
-use Rattle.mesh_atoms.specs.Base.{base_of}
-use Rattle.mesh_atoms.specs.HelloTold.{Told}
-use Rattle.mesh_atoms.specs.Live.{Restores, LiveNeighbourhood}
-use Rattle.mesh_atoms.specs.State.{Neighbourhood, NotedMessages, Bases, State, neighbour_at}
-use Rattle.mesh_atoms.specs.TakesHello.{HelloAnswer, TakesHello, Breaks, Overfull, Overfull_two_hops, Takes}
-use Rattle.mesh_atoms.proofs.Lookups.{has_found, addr_equiv, same_addr}
-use Rattle.mesh_texts.specs.machine.addr.declared.records.RawAddr.{RawAddr}
-use Rattle.mesh_texts.specs.machine.packet.declared.packet.Span.{Span}
-use Rattle.mesh_texts.specs.machine.packet.Fields.{MessageFields}
-use Rattle.mesh_texts.specs.machine.packet.Grammar.{SpellsMessage}
-use Rattle.mesh_texts.specs.machine.flood.declared.verdict.Heading.{Heading}
-use Rattle.mesh_texts.specs.machine.flood.declared.verdict.Forward.{Forward}
+use Rattle.mesh_trace.proofs.Common.{common_steps, ◌≡◌, ◌⊎◌, ℕ, zero, suc, ◌+◌, ◌%◌, ◌<◌, ◌^◌, inl, inr, refl, sym, ◌∙◌, ap, subst, arith, List, [], ◌∷◌, ◌++◌, length, map, Option, Some, None, Contains, Bool, slice_get, slice_set, nat_eq, enumerate_from, Contains-append_cases, Contains-append_left, Contains-append_right, slice_get_within, Addr4, Hello, RadioArc, RouterSettings, Scenario, Tc, TcRow, Neighbour, BecomesOther, Joins, Remains, AfterHello, base_of, Told, Restores, LiveNeighbourhood, Neighbourhood, NotedMessages, Bases, State, neighbour_at, HelloAnswer, TakesHello, Breaks, Overfull, Overfull_two_hops, Takes, has_found, addr_equiv, same_addr, RawAddr, Span, MessageFields, SpellsMessage, Heading, Forward, Arrival, Fate, Frame, on_each, octets_at, IsHeading, ConsidersForwarding, ProcessesTc, Tc_taken, Tc_passed, TakesMessage, Hello_read, Hello_broken, Tc_read, Tc_broken, Other_passed, Other_left, TakesMessages, No_messages, First_message, AreSpelled, forwarding, Delivery, Traffic, Spreads, No_arcs, Loses, Carries, with_loss, with_delivery, with_sent, leaving, set_at, OriginatorIs, number_of, hopped, NetState, TakesPacket, HearsBy, Refused, Taken, HellosDue, Hellos_early, Hellos_due, TcsDue, Tcs_early, Tcs_silent, Tcs_due, part_items, TellsItem, Tells_flooding, Tells_routing, Tells_hello, Tells_tc, Tells_frame, Tells_loss, TellsFrame, PositionsHaveAddresses, OpensEvent, By_delivery, By_tick, By_last_tick, OpensTick, OpensHearing, Item, Flooding, Routing, Sent, Lost, TracePosition, IsFirstPosition, relay_items, LineLeads, To_event, To_item, LeadsBy, item_at as stands, contains_cases, contains_none as none_in, contains_map_cases as unmapped}
 use Rattle.mesh_texts.specs.machine.flood.declared.verdict.Forward.TheVariants as forward
-use Rattle.mesh_texts.specs.machine.declared.arrival.Arrival.{Arrival}
-use Rattle.mesh_texts.specs.machine.declared.fate.Fate.{Fate}
-use Rattle.mesh_texts.specs.machine.declared.frame.Frame.{Frame}
-use Rattle.mesh_texts.specs.machine.Frames.{on_each, octets_at}
-use Rattle.mesh_texts.specs.machine.Messages.{IsHeading, ConsidersForwarding, ProcessesTc, Tc_taken, Tc_passed, TakesMessage, Hello_read, Hello_broken, Tc_read, Tc_broken, Other_passed, Other_left, TakesMessages, No_messages, First_message, AreSpelled, forwarding}
 use Rattle.mesh_texts.proofs.machine.Hops.{limit_left}
 use Rattle.mesh_texts.proofs.machine.Takes.{packet_spelled}
-use Rattle.mesh_texts.specs.machine.Traffic.{Delivery, Traffic, Spreads, No_arcs, Loses, Carries, with_loss, with_delivery, with_sent, leaving}
-use Rattle.mesh_texts.proofs.machine.Places.{set_at}
-use Rattle.mesh_texts.specs.machine.wire.Hello.{OriginatorIs}
-use Rattle.mesh_texts.specs.machine.wire.Parts.{number_of}
-use Rattle.mesh_texts.specs.machine.wire.Rehop.{hopped}
-use Rattle.mesh_texts.specs.machine.Net.{NetState}
-use Rattle.mesh_trace.specs.Positions.Due.{TakesPacket, HearsBy, Refused, Taken, HellosDue, Hellos_early, Hellos_due, TcsDue, Tcs_early, Tcs_silent, Tcs_due, part_items}
-use Rattle.mesh_trace.specs.Positions.Items.{TellsItem, Tells_flooding, Tells_routing, Tells_hello, Tells_tc, Tells_frame, Tells_loss, TellsFrame}
-use Rattle.mesh_trace.specs.Positions.Laws.{PositionsHaveAddresses}
-use Rattle.mesh_trace.specs.Positions.Events.{OpensEvent, By_delivery, By_tick, By_last_tick, OpensTick, OpensHearing}
-use Rattle.mesh_trace.specs.Positions.Standing.{Item, Flooding, Routing, Hello as Hello_item, Tc as Tc_item, Sent, Lost, TracePosition, IsFirstPosition, relay_items}
-use Rattle.mesh_trace.specs.Positions.Leading.{LineLeads, To_event, To_item, LeadsBy}
+use Rattle.mesh_trace.specs.Positions.Standing.{Hello as Hello_item, Tc as Tc_item}
 use Rattle.mesh_trace.proofs.PositionsLemmas.TcFrames.{one_part}
 use Rattle.mesh_trace.proofs.PositionsLemmas.Named.{NamesSender, IsNamed, hello_named, tc_named, hopped_named}
 use Rattle.mesh_trace.proofs.PositionsLemmas.SoundPositions.{positions_are_sound}
 use Rattle.mesh_trace.proofs.PositionsLemmas.TcsFixed.{same_or_other}
-use Rattle.mesh_atoms.proofs.Lists.{item_at as stands, contains_cases, contains_none as none_in, contains_map_cases as unmapped}
 
 -- ---- neighbours
 

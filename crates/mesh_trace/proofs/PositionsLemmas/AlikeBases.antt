@@ -1,20 +1,7 @@
 -- Bases that are alike, and what expiry leaves of them.
-use Rattle.std.proofs.lemmas.Grind.{common_steps}
-use Rattle.std.proofs.Common.{◌≡◌, ◌↔◌, ℕ, ◌≤◌, ◌+◌, ◌&&◌, refl, sym, ◌∙◌, ap, subst, arith, List, Option, Some, None}
-use Rattle.std.specs.Prelude.{Bool, true, false, cond, IsTrue, Contains}
-use Rattle.mesh_atoms.specs.declared.addr.Addr4.{Addr4}
-use Rattle.mesh_atoms.specs.declared.settings.RouterSettings.{RouterSettings}
-use Rattle.mesh_atoms.specs.declared.tuples.LinkKey.{LinkKey}
-use Rattle.mesh_atoms.specs.declared.tuples.Link.{Link}
+use Rattle.mesh_trace.proofs.Common.{common_steps, ◌≡◌, ◌↔◌, ℕ, ◌≤◌, ◌+◌, ◌&&◌, refl, sym, ◌∙◌, ap, subst, arith, List, Option, Some, None, Bool, true, false, cond, IsTrue, Contains, Addr4, RouterSettings, LinkKey, Link, Neighbour, TwoHop, Base, Expires, Same, if_live, base_of, addr_eq, router_eq, address_eq, network_eq, flood_eq, HasLinkOf, HasSymmetricOf, KeepsNeighbour, Restores, IsSymmetricAddress, SettlesLost, Back, Gone, Stays, LiveNeighbourhood, LiveTopology, LiveNoted, Live, trim, is_symmetric_at, Neighbourhood, TopologyBase, NotedMessages, Bases, link_at, neighbour_at, lost_at, least_only, same_neighbour, AlikeNear, AlikeTopology, AlikeNoted, AlikeBases}
 use Rattle.mesh_atoms.specs.declared.tuples.Lost.{Lost}
-use Rattle.mesh_atoms.specs.declared.tuples.Neighbour.{Neighbour}
-use Rattle.mesh_atoms.specs.declared.tuples.TwoHop.{TwoHop}
-use Rattle.mesh_atoms.specs.Base.{Base, Expires, Same, if_live, base_of, addr_eq, router_eq, address_eq, network_eq, flood_eq}
-use Rattle.mesh_atoms.specs.Live.{HasLinkOf, HasSymmetricOf, KeepsNeighbour, Restores, IsSymmetricAddress, SettlesLost, Back, Gone, Stays, LiveNeighbourhood, LiveTopology, LiveNoted, Live, trim, is_symmetric_at}
 use Rattle.mesh_atoms.specs.Quality.{admit_on}
-use Rattle.mesh_atoms.specs.State.{Neighbourhood, TopologyBase, NotedMessages, Bases, link_at, neighbour_at, lost_at}
-use Rattle.mesh_atoms.proofs.Equal.{least_only, same_neighbour}
-use Rattle.mesh_trace.specs.Positions.Alike.{AlikeNear, AlikeTopology, AlikeNoted, AlikeBases}
 
 -- ---- alike is alike both ways, and each is alike itself
 

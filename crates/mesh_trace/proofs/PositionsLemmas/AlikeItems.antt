@@ -1,32 +1,8 @@
 -- One line tells one thing of an item, and tells the same from networks that are alike.
-use Rattle.std.proofs.Common.{arith}
-use Rattle.std.proofs.lemmas.Grind.{common_steps}
-use Rattle.std.proofs.Common.{◌≡◌, ℕ, ◌+◌, ◌<◌, ◌^◌, refl, sym, ◌∙◌, ap, subst, List, [], ◌∷◌, ◌++◌, length, map, drop, Some, Bool, codes, decimal, Ok}
-use Rattle.std.specs.Prelude.{slice_get}
-use Rattle.std.proofs.lemmas.List.{append_cancel_left, append_cancel_right}
+use Rattle.mesh_trace.proofs.Common.{arith, common_steps, ◌≡◌, ℕ, ◌+◌, ◌<◌, ◌^◌, refl, sym, ◌∙◌, ap, subst, List, [], ◌∷◌, ◌++◌, length, map, drop, Some, Bool, codes, decimal, Ok, slice_get, append_cancel_left, append_cancel_right, Addr4, NeighbourGraph, Interface, RadioArc, Scenario, TcRow, AreRelaysOf, IsFloodingGraph, IsRoutingGraph, State, Frame, on_each, IsHelloFrame, Traffic, Spreads, No_arcs, Loses, Carries, with_loss, with_delivery, AreOctets, same_at, face_name, flooding_text, routing_relays_line, sent_line, NetState, HasAddresses, TellsItem, Tells_flooding, Tells_routing, Tells_hello, Tells_tc, TellsFrame, AreTcFrames, with_flooding, with_routing, IsLineOf, Item, Flooding, Routing, Sent, Lost, with_state}
 use Rattle.hex.specs.Hex.{encode_lower, decode_of}
 use Rattle.hex.proofs.HexLemmas.{decode_of-encode_lower}
-use Rattle.mesh_atoms.specs.declared.addr.Addr4.{Addr4}
-use Rattle.mesh_atoms.specs.declared.graphs.NeighbourGraph.{NeighbourGraph}
-use Rattle.mesh_atoms.specs.declared.settings.Interface.{Interface}
-use Rattle.mesh_atoms.specs.declared.settings.RadioArc.{RadioArc}
-use Rattle.mesh_atoms.specs.declared.settings.Scenario.{Scenario}
-use Rattle.mesh_atoms.specs.declared.tc.TcRow.{TcRow}
-use Rattle.mesh_atoms.specs.RelayGraphs.{AreRelaysOf, IsFloodingGraph, IsRoutingGraph}
-use Rattle.mesh_atoms.specs.State.{State}
-use Rattle.mesh_texts.specs.machine.declared.frame.Frame.{Frame}
-use Rattle.mesh_texts.specs.machine.Frames.{on_each}
-use Rattle.mesh_texts.specs.machine.Sending.{IsHelloFrame}
-use Rattle.mesh_texts.specs.machine.Traffic.{Traffic, Spreads, No_arcs, Loses, Carries, with_loss, with_delivery}
-use Rattle.mesh_texts.proofs.machine.packet.Encodable.{AreOctets}
-use Rattle.mesh_texts.proofs.machine.Places.{same_at}
-use Rattle.mesh_texts.specs.Lines.Marks.{face_name}
-use Rattle.mesh_texts.specs.Trace.{flooding_text, routing_relays_line, sent_line}
-use Rattle.mesh_texts.specs.machine.Net.{NetState}
-use Rattle.mesh_trace.specs.Positions.Alike.{HasAddresses}
-use Rattle.mesh_trace.specs.Positions.Items.{TellsItem, Tells_flooding, Tells_routing, Tells_hello, Tells_tc, TellsFrame, AreTcFrames, with_flooding, with_routing}
-use Rattle.mesh_trace.specs.Reading.Lines.{IsLineOf}
-use Rattle.mesh_trace.specs.Positions.Standing.{Item, Flooding, Routing, Hello, Tc, Sent, Lost, with_state}
+use Rattle.mesh_trace.specs.Positions.Standing.{Hello, Tc}
 use Rattle.mesh_trace.proofs.PositionsLemmas.Leading.{tells_loss, tells_frame}
 use Rattle.mesh_trace.proofs.PositionsLemmas.RelayTexts.{AreAddresses, same_flooding, same_routing}
 use Rattle.mesh_trace.proofs.PositionsLemmas.TcFrames.{one_part, first_is, further_is}

@@ -1,29 +1,5 @@
 -- Networks that are alike, and that what a line tells at the one it tells at the other.
-use Rattle.std.proofs.Common.{◌≡◌, ◌≢◌, ◌⊎◌, ℕ, zero, suc, inl, inr, refl, sym, ◌∙◌, ap, subst, arith, List, [], ◌∷◌, ◌++◌, length, Some, Bool}
-use Rattle.std.specs.Prelude.{slice_get, slice_set}
-use Rattle.mesh_atoms.specs.declared.addr.Addr4.{Addr4}
-use Rattle.mesh_atoms.specs.declared.settings.RouterSettings.{RouterSettings}
-use Rattle.mesh_atoms.specs.declared.settings.Scenario.{Scenario}
-use Rattle.mesh_atoms.specs.declared.tc.TcRow.{TcRow}
-use Rattle.mesh_atoms.specs.declared.tuples.Relays.{Relays}
-use Rattle.mesh_atoms.specs.Hello.{IsHelloNow, IsRoundedUp}
-use Rattle.mesh_atoms.specs.RelayGraphs.{IsFloodingGraph}
-use Rattle.mesh_atoms.specs.State.{State, IsOriginator}
-use Rattle.mesh_atoms.specs.Validity.{IsValidity}
-use Rattle.mesh_texts.specs.machine.declared.frame.Frame.{Frame}
-use Rattle.mesh_texts.specs.machine.Frames.{on_each}
-use Rattle.mesh_texts.specs.machine.Sending.{IsHelloFrame}
-use Rattle.mesh_atoms.specs.declared.network.Emission.{Emission}
-use Rattle.mesh_texts.specs.machine.Traffic.{Traffic, Sends}
-use Rattle.mesh_texts.proofs.machine.Places.{set_at}
-use Rattle.mesh_texts.specs.Lines.Marks.{face_name}
-use Rattle.mesh_texts.specs.Trace.{flooding_text, routing_relays_line, sent_line, lost_line}
-use Rattle.mesh_texts.specs.machine.Net.{NetState}
-use Rattle.mesh_texts.specs.machine.wire.Writes.{WritesTc}
-use Rattle.mesh_trace.specs.Positions.Alike.{AlikeStates, Alike}
-use Rattle.mesh_trace.specs.Positions.Items.{TellsItem, Tells_flooding, Tells_routing, Tells_hello, Tells_tc, Tells_frame, Tells_loss, TellsFrame, AreTcFrames, with_flooding, with_routing}
-use Rattle.mesh_trace.specs.Reading.Lines.{IsLineOf}
-use Rattle.mesh_trace.specs.Positions.Standing.{Item, TracePosition, with_state, with_traffic}
+use Rattle.mesh_trace.proofs.Common.{◌≡◌, ◌≢◌, ◌⊎◌, ℕ, zero, suc, inl, inr, refl, sym, ◌∙◌, ap, subst, arith, List, [], ◌∷◌, ◌++◌, length, Some, Bool, slice_get, slice_set, Addr4, RouterSettings, Scenario, TcRow, Relays, IsHelloNow, IsRoundedUp, IsFloodingGraph, State, IsOriginator, IsValidity, Frame, on_each, IsHelloFrame, Emission, Traffic, Sends, set_at, face_name, flooding_text, routing_relays_line, sent_line, lost_line, NetState, WritesTc, AlikeStates, Alike, TellsItem, Tells_flooding, Tells_routing, Tells_hello, Tells_tc, Tells_frame, Tells_loss, TellsFrame, AreTcFrames, with_flooding, with_routing, IsLineOf, Item, TracePosition, with_state, with_traffic}
 use Rattle.mesh_trace.proofs.PositionsLemmas.AlikeBases.{bases_itself, bases_on}
 use Rattle.mesh_trace.proofs.PositionsLemmas.AlikeStates.{HoldsAlso, hello_by, routing_by, flooding_by}
 use Rattle.mesh_trace.proofs.PositionsLemmas.TcFrames.{one_part, parts_one}

@@ -1,40 +1,12 @@
 -- Routers that are alike hold the same tuples, say the same, and have the same graphs and rows.
-use Rattle.std.proofs.lemmas.Grind.{common_steps}
-use Rattle.std.proofs.Common.{◌≡◌, ◌↔◌, ℕ, suc, inl, inr, refl, sym, ◌∙◌, ap, subst, arith, List, [], ◌∷◌, Option, Some, None, Contains, slice_get}
-use Rattle.std.specs.Prelude.{Bool, true, ◌⊎◌}
-use Rattle.std.specs.Cmp.{IsEquivalence}
-use Rattle.std.specs.List.{AllPairs}
-use Rattle.mesh_atoms.specs.declared.addr.Addr4.{Addr4}
-use Rattle.mesh_atoms.specs.declared.codes.metric.Metric.{Metric}
-use Rattle.mesh_atoms.specs.declared.graphs.NeighbourGraph.{NeighbourGraph}
-use Rattle.mesh_atoms.specs.declared.hello.Hello.{Hello}
-use Rattle.mesh_atoms.specs.declared.hello.HelloRow.{HelloRow}
+use Rattle.mesh_trace.proofs.Common.{common_steps, ◌≡◌, ◌↔◌, ℕ, suc, inl, inr, refl, sym, ◌∙◌, ap, subst, arith, List, [], ◌∷◌, Option, Some, None, Contains, slice_get, Bool, true, ◌⊎◌, IsEquivalence, AllPairs, Addr4, Metric, NeighbourGraph, Hello, HelloRow, RouterSettings, TcRow, LinkKey, Link, Neighbour, Relays, TwoHop, TwoHopKey, GivesAsSelector, IsRowBy, AreTcRows, Base, Has, HasDistinctKeys, Same, base_of, Part, This_if, Other_if, Link_lost, Link_symmetric, Link_heard, Other_lost, Other_symmetric, Link_in, Link_out, Near_in, Near_out, HasLinkTo, SaysLink, Says, IsHelloRow, IsHelloNow, local_part, link_part, other_part, IsBefore, IsRoutingGraph, IsFloodingGraph, SoundNeighbourhood, State, HasLink, HasTwoHop, HasSymmetric, HasAddressOn, IsOriginator, IsValue, has_found, has_found_on, addr_equiv, same_addr, link_equiv, same_link, two_hop_equiv, same_two_hop, same_row, AlikeNear, AlikeStates, contains_cases}
 use Rattle.mesh_atoms.specs.declared.settings.Attached4.{Attached4}
-use Rattle.mesh_atoms.specs.declared.settings.RouterSettings.{RouterSettings}
-use Rattle.mesh_atoms.specs.declared.tc.TcRow.{TcRow}
-use Rattle.mesh_atoms.specs.declared.tuples.LinkKey.{LinkKey}
 use Rattle.mesh_atoms.specs.declared.tuples.LinkState.{LinkState}
-use Rattle.mesh_atoms.specs.declared.tuples.Link.{Link}
 use Rattle.mesh_atoms.specs.declared.tuples.Lost.{Lost}
-use Rattle.mesh_atoms.specs.declared.tuples.Neighbour.{Neighbour}
-use Rattle.mesh_atoms.specs.declared.tuples.Relays.{Relays}
-use Rattle.mesh_atoms.specs.declared.tuples.TwoHop.{TwoHop}
-use Rattle.mesh_atoms.specs.declared.tuples.TwoHopKey.{TwoHopKey}
-use Rattle.mesh_atoms.specs.Advertised.{GivesAsSelector, IsRowBy, AreTcRows}
-use Rattle.mesh_atoms.specs.Base.{Base, Has, HasDistinctKeys, Same, base_of}
-use Rattle.mesh_atoms.specs.Hello.{Part, This_if, Other_if, Link_lost, Link_symmetric, Link_heard, Other_lost, Other_symmetric, Link_in, Link_out, Near_in, Near_out, Flooding, Routing, HasLinkTo, SaysLink, Says, IsHelloRow, IsHelloNow, local_part, link_part, other_part}
-use Rattle.mesh_atoms.specs.Nodes.{IsBefore}
-use Rattle.mesh_atoms.specs.RelayGraphs.{IsRoutingGraph, IsFloodingGraph}
-use Rattle.mesh_atoms.specs.Sound.{SoundNeighbourhood}
-use Rattle.mesh_atoms.specs.State.{State, HasLink, HasTwoHop, HasSymmetric, HasAddressOn, IsOriginator}
-use Rattle.mesh_atoms.specs.Words.{IsValue}
-use Rattle.mesh_atoms.proofs.Lookups.{has_found, has_found_on, addr_equiv, same_addr, link_equiv, same_link, two_hop_equiv, same_two_hop}
-use Rattle.mesh_texts.proofs.machine.topo.AdvertisedLemmas.Advertising.{same_row}
+use Rattle.mesh_atoms.specs.Hello.{Flooding, Routing}
 use Rattle.mesh_routes.specs.Staying.{SameWays}
 use Rattle.mesh_routes.proofs.StayingLaw.{graphs_stay}
-use Rattle.mesh_trace.specs.Positions.Alike.{AlikeNear, AlikeStates}
 use Rattle.mesh_trace.proofs.PositionsLemmas.AlikeBases.{bases_back}
-use Rattle.mesh_atoms.proofs.Lists.{contains_cases}
 
 pub states_back : (s t : State) → AlikeStates s t → AlikeStates t s
 states_back s t h = grind (arith, common_steps, bases_back)

@@ -1,25 +1,6 @@
 -- The HELLOs and TCs of a tick.
-use Rattle.std.proofs.Common.{◌≡◌, ℕ, suc, ◌+◌, ◌%◌, List, [], ◌∷◌, ◌++◌, length, map, drop, Some, Bool, refl, sym, ap, ◌∙◌, subst, append_assoc, arith}
-use Rattle.std.specs.Prelude.{slice_get}
-use Rattle.std.specs.List.{flat_map, enumerate_from}
-use Rattle.std.proofs.lemmas.List.{append-nil}
-use Rattle.mesh_atoms.specs.declared.settings.Interface.{Interface}
-use Rattle.mesh_atoms.specs.declared.tc.Tc.{Tc as TcValue}
-use Rattle.mesh_atoms.specs.declared.tc.TcRow.{TcRow}
-use Rattle.mesh_atoms.specs.State.{State}
-use Rattle.mesh_atoms.specs.Validity.{IsValidity}
-use Rattle.mesh_texts.specs.machine.declared.frame.Frame.{Frame}
-use Rattle.mesh_texts.specs.machine.Frames.{on_each}
-use Rattle.mesh_texts.specs.machine.Sending.{IsHelloFrame, IsTcOfRows, SendsParts, No_part, First_part}
-use Rattle.mesh_texts.proofs.machine.Originators.{some_interface}
-use Rattle.mesh_atoms.specs.declared.network.Emission.{Emission}
-use Rattle.mesh_texts.specs.machine.Traffic.{Traffic, SendsAll, frame_of}
-use Rattle.mesh_texts.specs.machine.wire.Writes.{WritesTc}
-use Rattle.mesh_texts.specs.Trace.{sent_lines}
-use Rattle.mesh_texts.specs.machine.Net.{NetState}
-use Rattle.mesh_trace.specs.Positions.Due.{part_items}
-use Rattle.mesh_trace.specs.Positions.Items.{TellsItem, Tells_hello, Tells_tc, TellsFrame, AreTcFrames}
-use Rattle.mesh_trace.specs.Positions.Standing.{Item, Hello, Tc, Sent, Lost, with_traffic}
+use Rattle.mesh_trace.proofs.Common.{◌≡◌, ℕ, suc, ◌+◌, ◌%◌, List, [], ◌∷◌, ◌++◌, length, map, drop, Some, Bool, refl, sym, ap, ◌∙◌, subst, append_assoc, arith, slice_get, flat_map, enumerate_from, append-nil, Interface, Tc as TcValue, TcRow, State, IsValidity, Frame, on_each, IsHelloFrame, IsTcOfRows, SendsParts, No_part, First_part, some_interface, Emission, Traffic, SendsAll, frame_of, WritesTc, sent_lines, NetState, part_items, TellsItem, Tells_hello, Tells_tc, TellsFrame, AreTcFrames, Item, Sent, Lost, with_traffic}
+use Rattle.mesh_trace.specs.Positions.Standing.{Hello, Tc}
 use Rattle.mesh_trace.proofs.PositionsLemmas.Leading.{at}
 use Rattle.mesh_trace.proofs.PositionsLemmas.SendingWalks.{frame_walk, frames_walk}
 use Rattle.mesh_trace.proofs.PositionsLemmas.TcFrames.{on_first, parts_one}

@@ -1,34 +1,7 @@
 -- The lines of an event lead from the network before it to the network after it.
-use Rattle.std.proofs.Common.{◌≡◌, ℕ, zero, suc, ◌+◌, List, [], ◌∷◌, ◌++◌, length, map, Some, refl, sym, ap, ◌∙◌, subst, arith}
-use Rattle.std.specs.Prelude.{slice_get, slice_set, nat_eq}
-use Rattle.std.specs.List.{flat_map, enumerate_from}
-use Rattle.std.proofs.lemmas.List.{append-nil, length-map}
-use Rattle.mesh_atoms.specs.declared.addr.Addr4.{Addr4}
-use Rattle.mesh_atoms.specs.declared.codes.metric.Metric.{Metric}
-use Rattle.mesh_atoms.specs.declared.graphs.Route.{Route}
-use Rattle.mesh_atoms.specs.declared.settings.RadioArc.{RadioArc}
-use Rattle.mesh_atoms.specs.declared.tc.TcRow.{TcRow}
-use Rattle.mesh_atoms.specs.declared.tuples.Relays.{Relays}
-use Rattle.mesh_atoms.specs.Advertised.{GivesAsSelector, AreTcRows}
-use Rattle.mesh_atoms.specs.RelayGraphs.{AreRelays}
-use Rattle.mesh_atoms.specs.State.{Bases, State}
-use Rattle.mesh_texts.proofs.machine.topo.AdvertisedLemmas.Advertising.{same_row}
-use Rattle.mesh_texts.specs.machine.declared.arrival.Arrival.{Arrival}
-use Rattle.mesh_texts.specs.machine.declared.fate.Fate.{Fate}
-use Rattle.mesh_texts.specs.machine.declared.frame.Frame.{Frame}
-use Rattle.mesh_texts.specs.machine.Machine.{HearsPacket, TicksAt}
-use Rattle.mesh_texts.specs.machine.Renewal.{Renews}
-use Rattle.mesh_texts.specs.machine.Sending.{IsHelloFrame, SendsHellos, Hellos_early as Early_hellos, Hellos_due as Due_hellos, SendsTcs, Tcs_early as Early_tcs, Tcs_silent as Silent_tcs, Tcs_due as Due_tcs}
-use Rattle.mesh_atoms.specs.declared.network.Emission.{Emission}
-use Rattle.mesh_texts.specs.machine.Traffic.{Traffic, Delivery, SendsAll, frame_of, with_heard}
-use Rattle.mesh_texts.proofs.machine.Places.{set_here}
-use Rattle.mesh_texts.specs.Lines.Marks.{face_name}
-use Rattle.mesh_texts.specs.Trace.{tick_line, heard_line, relays_lines, sent_lines}
-use Rattle.mesh_texts.specs.machine.Net.{NetState, HearsNext, IsSender}
-use Rattle.mesh_trace.specs.Positions.Due.{Follows, TakesPacket, Taken, HellosDue, Hellos_early, Hellos_due, TcsDue, Tcs_early, Tcs_silent, Tcs_due, none_told, part_items}
-use Rattle.mesh_trace.specs.Positions.Events.{OpensEvent, OpensTick, By_delivery}
-use Rattle.mesh_trace.specs.Positions.Standing.{Item, Hello, Sent, TracePosition, with_state, with_traffic, relay_items}
-use Rattle.mesh_trace.specs.Positions.Leading.{To_event}
+use Rattle.mesh_trace.proofs.Common.{◌≡◌, ℕ, zero, suc, ◌+◌, List, [], ◌∷◌, ◌++◌, length, map, Some, refl, sym, ap, ◌∙◌, subst, arith, slice_get, slice_set, nat_eq, flat_map, enumerate_from, append-nil, length-map, Addr4, Metric, Route, RadioArc, TcRow, Relays, GivesAsSelector, AreTcRows, AreRelays, Bases, State, same_row, Arrival, Fate, Frame, HearsPacket, TicksAt, Renews, IsHelloFrame, SendsHellos, SendsTcs, Emission, Traffic, Delivery, SendsAll, frame_of, with_heard, set_here, face_name, tick_line, heard_line, relays_lines, sent_lines, NetState, HearsNext, IsSender, Follows, TakesPacket, Taken, HellosDue, Hellos_early, Hellos_due, TcsDue, Tcs_early, Tcs_silent, Tcs_due, none_told, part_items, OpensEvent, OpensTick, By_delivery, Item, Sent, TracePosition, with_state, with_traffic, relay_items, To_event}
+use Rattle.mesh_texts.specs.machine.Sending.{Hellos_early as Early_hellos, Hellos_due as Due_hellos, Tcs_early as Early_tcs, Tcs_silent as Silent_tcs, Tcs_due as Due_tcs}
+use Rattle.mesh_trace.specs.Positions.Standing.{Hello}
 use Rattle.mesh_trace.proofs.PositionsLemmas.DueWalks.{cut_of, sends_cut, lines_cut, hellos_walk, parts_walk}
 use Rattle.mesh_trace.proofs.PositionsLemmas.Leading.{at}
 use Rattle.mesh_trace.proofs.PositionsLemmas.RelayWalks.{relays_walk}

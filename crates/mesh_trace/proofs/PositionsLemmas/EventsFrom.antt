@@ -1,31 +1,9 @@
 -- The event that comes next at a network comes next at each that is alike, and does the same to its router.
-use Rattle.std.proofs.lemmas.Grind.{common_steps}
-use Rattle.std.proofs.Common.{◌≡◌, ℕ, ◌+◌, ◌%◌, ◌<◌, ◌≤◌, min, inl, inr, refl, sym, ◌∙◌, ap, subst, arith, List, length, Some, All}
-use Rattle.std.specs.Prelude.{slice_get, nat_eq}
-use Rattle.std.proofs.lemmas.Option.{slice_get_within, get_or_from_slice_get}
-use Rattle.mesh_atoms.specs.declared.settings.RouterSettings.{RouterSettings}
-use Rattle.mesh_atoms.specs.declared.settings.Scenario.{Scenario}
-use Rattle.mesh_atoms.specs.Live.{Live}
-use Rattle.mesh_atoms.specs.State.{Bases, State, IsOriginator}
-use Rattle.mesh_texts.specs.machine.declared.arrival.Arrival.{Arrival}
-use Rattle.mesh_texts.specs.machine.declared.frame.Frame.{Frame}
-use Rattle.mesh_texts.specs.machine.Machine.{due}
-use Rattle.mesh_texts.specs.machine.Messages.{TakesMessages}
-use Rattle.mesh_texts.specs.machine.Renewal.{IsNextAnsn, IsEmptied}
-use Rattle.mesh_texts.specs.machine.Traffic.{Traffic, Delivery, IsHeardFirst, with_heard}
-use Rattle.mesh_texts.specs.Lines.Marks.{face_name}
-use Rattle.mesh_texts.specs.Trace.{heard_line, tick_line}
-use Rattle.mesh_texts.specs.machine.Net.{NetState, IsFirstDue, HearsNext, TicksNext, HasOnlyLastTicks, IsSender}
-use Rattle.mesh_trace.specs.Positions.Alike.{AlikeStates, Alike}
-use Rattle.mesh_trace.specs.Positions.Due.{Follows, TakesPacket, HearsBy, Refused, Taken, HellosDue, Hellos_early, Hellos_due, TcsDue, Tcs_early, Tcs_silent, Tcs_due, TicksBy, part_items}
-use Rattle.mesh_trace.specs.Reading.Lines.{IsLineOf}
-use Rattle.mesh_trace.specs.Positions.Events.{OpensHearing, OpensTick, OpensEvent, By_delivery, By_tick, By_last_tick}
-use Rattle.mesh_trace.specs.Positions.Standing.{Item, TracePosition, with_state, with_traffic}
+use Rattle.mesh_trace.proofs.Common.{common_steps, ◌≡◌, ℕ, ◌+◌, ◌%◌, ◌<◌, ◌≤◌, min, inl, inr, refl, sym, ◌∙◌, ap, subst, arith, List, length, Some, All, slice_get, nat_eq, slice_get_within, get_or_from_slice_get, RouterSettings, Scenario, Live, Bases, State, IsOriginator, Arrival, Frame, due, TakesMessages, IsNextAnsn, IsEmptied, Traffic, Delivery, IsHeardFirst, with_heard, face_name, heard_line, tick_line, NetState, IsFirstDue, HearsNext, TicksNext, HasOnlyLastTicks, IsSender, AlikeStates, Alike, Follows, TakesPacket, HearsBy, Refused, Taken, HellosDue, Hellos_early, Hellos_due, TcsDue, Tcs_early, Tcs_silent, Tcs_due, TicksBy, part_items, IsLineOf, OpensHearing, OpensTick, OpensEvent, By_delivery, By_tick, By_last_tick, Item, TracePosition, with_state, with_traffic, item_at as stands}
 use Rattle.mesh_trace.proofs.PositionsLemmas.AlikeBases.{live_from}
 use Rattle.mesh_trace.proofs.PositionsLemmas.AlikeNets.{AlikeNets, states_itself, nets_set}
 use Rattle.mesh_trace.proofs.PositionsLemmas.AlikeStates.{states_back}
 use Rattle.mesh_trace.proofs.PositionsLemmas.Over.{all_at}
-use Rattle.mesh_atoms.proofs.Lists.{item_at as stands}
 
 -- ---- which event comes next
 

@@ -1,33 +1,6 @@
 -- One line tells one event, which leaves one position but for the order of tuples.
-use Rattle.std.proofs.Common.{◌≡◌, ℕ, ◌+◌, ◌%◌, ◌<◌, ◌≤◌, inl, inr, refl, sym, ◌∙◌, ap, subst, arith, List, [], ◌∷◌, ◌++◌, length, map, Some, All}
-use Rattle.std.specs.Prelude.{slice_get, nat_eq}
-use Rattle.std.specs.List.{enumerate_from}
-use Rattle.std.proofs.lemmas.List.Elements.{All-head, All-tail}
-use Rattle.std.proofs.lemmas.Bool.{cases_lt}
-use Rattle.mesh_atoms.specs.declared.addr.Addr4.{Addr4}
-use Rattle.mesh_atoms.specs.declared.settings.Interface.{Interface}
-use Rattle.mesh_atoms.specs.declared.settings.RadioArc.{RadioArc}
-use Rattle.mesh_atoms.specs.declared.settings.RouterSettings.{RouterSettings}
-use Rattle.mesh_atoms.specs.declared.tc.TcRow.{TcRow}
-use Rattle.mesh_atoms.specs.Advertised.{AreParts}
-use Rattle.mesh_atoms.specs.State.{Bases, State}
-use Rattle.mesh_texts.specs.machine.packet.declared.packet.Span.{Span}
-use Rattle.mesh_texts.specs.machine.packet.Fields.{PacketFields}
-use Rattle.mesh_texts.proofs.machine.packet.OneReading.{one_packet, not_both}
-use Rattle.mesh_texts.specs.machine.declared.arrival.Arrival.{Arrival}
-use Rattle.mesh_texts.specs.machine.declared.frame.Frame.{Frame}
-use Rattle.mesh_texts.specs.machine.Machine.{due}
-use Rattle.mesh_texts.specs.machine.Messages.{TakesMessages}
-use Rattle.mesh_texts.specs.machine.Renewal.{IsNextAnsn, IsEmptied}
-use Rattle.mesh_texts.specs.machine.Sending.{HasToAdvertise, IsNextMoment}
-use Rattle.mesh_texts.proofs.machine.Soundness.{live_bases_sound}
-use Rattle.mesh_texts.specs.machine.Traffic.{Delivery, with_heard}
-use Rattle.mesh_texts.proofs.machine.Places.{same_at}
-use Rattle.mesh_texts.specs.machine.Net.{NetState, IsFirstDue, HearsNext, TicksNext, HasOnlyLastTicks, IsSender}
-use Rattle.mesh_trace.specs.Positions.Alike.{AlikeBases, AlikeStates, Alike}
-use Rattle.mesh_trace.specs.Positions.Due.{Follows, TakesPacket, HearsBy, Refused, Taken, HellosDue, Hellos_early, Hellos_due, TcsDue, Tcs_early, Tcs_silent, Tcs_due, TicksBy, part_items}
-use Rattle.mesh_trace.specs.Positions.Events.{OpensHearing, OpensTick, OpensEvent, By_delivery, By_tick, By_last_tick}
-use Rattle.mesh_trace.specs.Positions.Standing.{Item, Hello, Sent, TracePosition, relay_items, with_state, with_traffic}
+use Rattle.mesh_trace.proofs.Common.{◌≡◌, ℕ, ◌+◌, ◌%◌, ◌<◌, ◌≤◌, inl, inr, refl, sym, ◌∙◌, ap, subst, arith, List, [], ◌∷◌, ◌++◌, length, map, Some, All, slice_get, nat_eq, enumerate_from, All-head, All-tail, cases_lt, Addr4, Interface, RadioArc, RouterSettings, TcRow, AreParts, Bases, State, Span, PacketFields, one_packet, not_both, Arrival, Frame, due, TakesMessages, IsNextAnsn, IsEmptied, HasToAdvertise, IsNextMoment, live_bases_sound, Delivery, with_heard, same_at, NetState, IsFirstDue, HearsNext, TicksNext, HasOnlyLastTicks, IsSender, AlikeBases, AlikeStates, Alike, Follows, TakesPacket, HearsBy, Refused, Taken, HellosDue, Hellos_early, Hellos_due, TcsDue, Tcs_early, Tcs_silent, Tcs_due, TicksBy, part_items, OpensHearing, OpensTick, OpensEvent, By_delivery, By_tick, By_last_tick, Item, Sent, TracePosition, relay_items, with_state, with_traffic, one_originator}
+use Rattle.mesh_trace.specs.Positions.Standing.{Hello}
 use Rattle.mesh_trace.proofs.PositionsLemmas.AlikeBases.{bases_itself, bases_back, live_only}
 use Rattle.mesh_trace.proofs.PositionsLemmas.AlikeNets.{AlikeNets, states_itself, nets_set}
 use Rattle.mesh_trace.proofs.PositionsLemmas.AlikeStates.{holds_by, rows_only}
@@ -35,7 +8,6 @@ use Rattle.mesh_trace.proofs.PositionsLemmas.MessagesFixed.{messages_are_fixed}
 use Rattle.mesh_trace.proofs.PositionsLemmas.Over.{all_at, all_behind}
 use Rattle.mesh_trace.proofs.PositionsLemmas.Parts.{moment_once, parts_once}
 use Rattle.mesh_trace.proofs.PositionsLemmas.SoundPositions.{SoundState, AreSound, takes_sound, ticks_sound}
-use Rattle.mesh_atoms.proofs.Values.{one_originator}
 
 -- ---- which event comes next
 

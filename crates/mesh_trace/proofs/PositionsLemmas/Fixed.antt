@@ -1,22 +1,5 @@
 -- All else of a run than what its lines tell is fixed.
-use Rattle.std.proofs.lemmas.Grind.{common_steps}
-use Rattle.std.proofs.Common.{inr, inl, ◌≡◌, ℕ, ◌<◌, refl, sym, ◌∙◌, ap, subst, arith, List, [], ◌∷◌, ◌++◌, length, Some}
-use Rattle.std.proofs.lemmas.Bool.{cases_lt}
-use Rattle.std.specs.Prelude.{slice_get}
-use Rattle.std.proofs.lemmas.Option.{slice_get_within}
-use Rattle.mesh_atoms.specs.declared.settings.RouterSettings.{RouterSettings}
-use Rattle.mesh_atoms.specs.declared.settings.Scenario.{Scenario}
-use Rattle.mesh_atoms.specs.State.{Bases, State}
-use Rattle.mesh_texts.specs.machine.Machine.{IsOpening}
-use Rattle.mesh_texts.proofs.machine.Opening.{opening_sound}
-use Rattle.mesh_texts.proofs.machine.Soundness.{bases_of}
-use Rattle.mesh_texts.proofs.machine.Places.{same_at}
-use Rattle.mesh_texts.specs.machine.Net.{NetState}
-use Rattle.mesh_trace.specs.Positions.Alike.{AlikeBases, AlikeStates, Alike, HasAddresses, IsSoundPosition}
-use Rattle.mesh_trace.specs.Positions.Items.{TellsItem}
-use Rattle.mesh_trace.specs.Positions.Laws.{NothingFollows, NoneIsLonger, HasSomeLine, AllElseIsFixed, LeadsAlike, LeadsFromAlike, OneDecidesFit, OneDecidesEnd, UnfitIsNotWhole, OneUnfit}
-use Rattle.mesh_trace.specs.Positions.Standing.{Item, TracePosition, IsFirstPosition, IsDone}
-use Rattle.mesh_trace.specs.Positions.Leading.{Fits, LineLeads, To_event, To_item, LeadsBy, Reaches, At_line, Behind_all}
+use Rattle.mesh_trace.proofs.Common.{common_steps, inr, inl, ◌≡◌, ℕ, ◌<◌, refl, sym, ◌∙◌, ap, subst, arith, List, [], ◌∷◌, ◌++◌, length, Some, cases_lt, slice_get, slice_get_within, RouterSettings, Scenario, Bases, State, IsOpening, opening_sound, bases_of, same_at, NetState, AlikeBases, AlikeStates, Alike, HasAddresses, IsSoundPosition, TellsItem, NothingFollows, NoneIsLonger, HasSomeLine, AllElseIsFixed, LeadsAlike, LeadsFromAlike, OneDecidesFit, OneDecidesEnd, UnfitIsNotWhole, OneUnfit, Item, TracePosition, IsFirstPosition, IsDone, Fits, LineLeads, To_event, To_item, LeadsBy, Reaches, At_line, Behind_all, item_at as stands}
 use Rattle.mesh_trace.proofs.PositionsLemmas.Addresses.{positions_have_addresses}
 use Rattle.mesh_trace.proofs.PositionsLemmas.AlikeBases.{bases_itself}
 use Rattle.mesh_trace.proofs.PositionsLemmas.AlikeItems.{tells_once}
@@ -27,7 +10,6 @@ use Rattle.mesh_trace.proofs.PositionsLemmas.EventsOnce.{opens_once}
 use Rattle.mesh_trace.proofs.PositionsLemmas.Over.{over_opens}
 use Rattle.mesh_trace.proofs.PositionsLemmas.SoundPositions.{positions_are_sound}
 use Rattle.mesh_trace.proofs.PositionsLemmas.Walks.{leads_on}
-use Rattle.mesh_atoms.proofs.Lists.{item_at as stands}
 
 alike_on : (p q r : TracePosition) → Alike p q → Alike q r → Alike p r
 alike_on p q r h k = record {

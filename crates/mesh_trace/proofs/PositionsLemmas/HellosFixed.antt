@@ -1,49 +1,18 @@
 -- What is made of a HELLO is fixed but for the order of tuples.
-use Rattle.std.proofs.lemmas.Grind.{common_steps}
-use Rattle.std.proofs.Common.{◌≡◌, ◌≢◌, ◌⊎◌, ℕ, ◌+◌, ◌<◌, ◌≤◌, inl, inr, refl, sym, ◌∙◌, ap, subst, arith, List, [], ◌∷◌, length, map, Option, Some, None, Contains, slice_get}
-use Rattle.std.specs.Prelude.{Bool, true, false, cond}
-use Rattle.std.specs.List.{AllPairs, list_any}
-use Rattle.std.proofs.lemmas.Bool.{and_parts, cases_lt, or_left, or_right}
-use Rattle.std.proofs.lemmas.List.{get_or_past}
-use Rattle.mesh_atoms.specs.declared.addr.Addr4.{Addr4}
+use Rattle.mesh_trace.proofs.Common.{common_steps, ◌≡◌, ◌≢◌, ◌⊎◌, ℕ, ◌+◌, ◌<◌, ◌≤◌, inl, inr, refl, sym, ◌∙◌, ap, subst, arith, List, [], ◌∷◌, length, map, Option, Some, None, Contains, slice_get, Bool, true, false, cond, AllPairs, list_any, and_parts, cases_lt, or_left, or_right, get_or_past, Addr4, Metric, Hello, HelloRow, LinkStatus, Interface, RouterSettings, LinkKey, Link, Neighbour, TwoHop, TwoHopKey, by_status, renewed, LinkKeptOrMade, Stood, Made, IsTheirs, GoesOn, announced, BecomesOther, Joins, Remains, row_makes, StoodOn, Same_link, New_link, TellsTwoHop, By_row, By_none, AfterHello, Base, base_of, find, addr_eq, link_eq, IsSending, IsListed, IsMyStatus, IsHandedIn, Told, Tells, LooksAt, Restores, IsSymmetricAddress, SettlesLost, is_symmetric_at, is_symmetric_entry, IsBefore, SoundNeighbourhood, Neighbourhood, link_at, two_hop_at, neighbour_at, lost_at, IsNameless, IsFault, IsHeld, IsFullOfAddresses, AreTwoHopRows, IsFullOfTwoHops, FitsTwoHops, HelloAnswer, TakesHello, Breaks, Overfull, Overfull_two_hops, Takes, Lists, IsKept, addr_equiv, same_addr, two_hop_equiv, one_row, AlikeNear, addr_itself as itself, item_at as stands, contains_cases, contains_none as none_in, least_only}
 use Rattle.mesh_atoms.specs.declared.admit.Admit.{Admit}
-use Rattle.mesh_atoms.specs.declared.codes.metric.Metric.{Metric}
-use Rattle.mesh_atoms.specs.declared.hello.Hello.{Hello}
-use Rattle.mesh_atoms.specs.declared.hello.HelloRow.{HelloRow}
-use Rattle.mesh_atoms.specs.declared.hello.LinkStatus.{LinkStatus}
 use Rattle.mesh_atoms.specs.declared.hello.LinkStatus.TheVariants.{Lost as Down, Symmetric, Heard}
 use Rattle.mesh_atoms.specs.declared.hello.Shown.{Shown}
 use Rattle.mesh_atoms.specs.declared.hello.Willing.{Willing}
-use Rattle.mesh_atoms.specs.declared.settings.Interface.{Interface}
-use Rattle.mesh_atoms.specs.declared.settings.RouterSettings.{RouterSettings}
 use Rattle.mesh_atoms.specs.declared.settings.SenderMetric.{SenderMetric}
-use Rattle.mesh_atoms.specs.declared.tuples.LinkKey.{LinkKey}
-use Rattle.mesh_atoms.specs.declared.tuples.Link.{Link}
 use Rattle.mesh_atoms.specs.declared.tuples.Lost.{Lost}
-use Rattle.mesh_atoms.specs.declared.tuples.Neighbour.{Neighbour}
-use Rattle.mesh_atoms.specs.declared.tuples.TwoHop.{TwoHop}
-use Rattle.mesh_atoms.specs.declared.tuples.TwoHopKey.{TwoHopKey}
-use Rattle.mesh_atoms.specs.AfterHello.{by_status, renewed, LinkKeptOrMade, Stood, Made, IsTheirs, GoesOn, announced, BecomesOther, Joins, Remains, row_makes, StoodOn, Same_link, New_link, TellsTwoHop, By_row, By_none, AfterHello}
-use Rattle.mesh_atoms.specs.Base.{Base, base_of, find, addr_eq, link_eq}
-use Rattle.mesh_atoms.specs.HelloTold.{IsSending, IsListed, IsMyStatus, IsHandedIn, Told, Tells, LooksAt}
-use Rattle.mesh_atoms.specs.Live.{Restores, IsSymmetricAddress, SettlesLost, is_symmetric_at, is_symmetric_entry}
-use Rattle.mesh_atoms.specs.Nodes.{IsBefore}
 use Rattle.mesh_atoms.specs.Settings.{are_distinct}
-use Rattle.mesh_atoms.specs.Sound.{SoundNeighbourhood}
-use Rattle.mesh_atoms.specs.State.{Neighbourhood, link_at, two_hop_at, neighbour_at, lost_at}
-use Rattle.mesh_atoms.specs.TakesHello.{IsNameless, IsFault, IsHeld, IsFullOfAddresses, AreTwoHopRows, IsFullOfTwoHops, FitsTwoHops, HelloAnswer, TakesHello, Breaks, Overfull, Overfull_two_hops, Takes}
-use Rattle.mesh_atoms.specs.Words.{Lists, IsKept}
-use Rattle.mesh_atoms.proofs.Lookups.{addr_equiv, same_addr, two_hop_equiv}
 use Rattle.mesh_texts.proofs.machine.hello.Fits.{distinct_fits}
-use Rattle.mesh_texts.proofs.machine.wire.RowLines.{one_row}
-use Rattle.mesh_trace.specs.Positions.Alike.{AlikeNear}
 use Rattle.mesh_trace.proofs.PositionsLemmas.AlikeBases.{SameLinks, SameNeighbours, near_back, flag_only, restores_only, settles_only, symmetric_address}
 use Rattle.mesh_trace.proofs.PositionsLemmas.AlikeStates.{ordered_once}
 use Rattle.mesh_trace.proofs.PositionsLemmas.TcsFixed.{same_size, same_or_other}
 use Rattle.mesh_atoms.proofs.Options.{not_both}
-use Rattle.mesh_atoms.proofs.Values.{same_addr as addr_from, addr_itself as itself}
-use Rattle.mesh_atoms.proofs.Lists.{item_at as stands, contains_cases, contains_none as none_in}
-use Rattle.mesh_atoms.proofs.Equal.{least_only}
+use Rattle.mesh_atoms.proofs.Values.{same_addr as addr_from}
 
 -- ---- what a HELLO tells
 

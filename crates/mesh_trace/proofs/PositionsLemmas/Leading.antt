@@ -1,14 +1,5 @@
 -- Which line leads on from a position, by what is next there.
-use Rattle.std.proofs.Common.{◌≡◌, ℕ, List, [], ◌∷◌, ◌++◌, Some, refl, sym, subst}
-use Rattle.std.specs.Prelude.{slice_get}
-use Rattle.mesh_atoms.specs.State.{State}
-use Rattle.mesh_texts.specs.Trace.{lost_line}
-use Rattle.mesh_texts.specs.machine.Net.{NetState}
-use Rattle.mesh_texts.specs.machine.declared.frame.Frame.{Frame}
-use Rattle.mesh_trace.specs.Positions.Items.{TellsItem, Tells_frame, Tells_loss, TellsFrame}
-use Rattle.mesh_trace.specs.Reading.Lines.{IsLineOf}
-use Rattle.mesh_trace.specs.Positions.Standing.{Item, Lost, Sent, TracePosition, IsDone}
-use Rattle.mesh_trace.specs.Positions.Leading.{LineLeads, To_event, To_item}
+use Rattle.mesh_trace.proofs.Common.{◌≡◌, ℕ, List, [], ◌∷◌, ◌++◌, Some, refl, sym, subst, slice_get, State, lost_line, NetState, Frame, TellsItem, Tells_frame, Tells_loss, TellsFrame, IsLineOf, Item, Lost, Sent, TracePosition, IsDone, LineLeads, To_event, To_item}
 
 -- a position of an event of router x at which these items are left
 abbrev pub at : NetState → ℕ → List Item → TracePosition

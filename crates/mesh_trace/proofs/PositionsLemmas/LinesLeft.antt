@@ -1,36 +1,7 @@
 -- The lines of an event behind its first one: the relays and frames that they tell, and the lines that they leave.
-use Rattle.std.proofs.lemmas.Grind.{common_steps}
-use Rattle.std.proofs.Common.{◌≡◌, ℕ, zero, suc, ◌+◌, ◌%◌, ◌<◌, ◌≤◌, List, [], ◌∷◌, ◌++◌, length, length-append, map}
-use Rattle.std.proofs.Common.{Some, Bool, codes, refl, sym, ap, ◌∙◌, subst, append_assoc, arith, All}
-use Rattle.std.specs.Prelude.{slice_get}
-use Rattle.std.specs.List.{flat_map, enumerate_from}
-use Rattle.std.proofs.lemmas.List.{append-nil, append_cancel_right, map-append}
-use Rattle.std.proofs.lemmas.List.Elements.{All-head, All-tail}
-use Rattle.mesh_atoms.specs.declared.addr.Addr4.{Addr4}
-use Rattle.mesh_atoms.specs.declared.graphs.NeighbourGraph.{NeighbourGraph}
-use Rattle.mesh_atoms.specs.declared.graphs.Route.{Route}
-use Rattle.mesh_atoms.specs.declared.network.Emission.{Emission}
-use Rattle.mesh_atoms.specs.declared.settings.Interface.{Interface}
+use Rattle.mesh_trace.proofs.Common.{common_steps, ◌≡◌, ℕ, zero, suc, ◌+◌, ◌%◌, ◌<◌, ◌≤◌, List, [], ◌∷◌, ◌++◌, length, length-append, map, Some, Bool, codes, refl, sym, ap, ◌∙◌, subst, append_assoc, arith, All, slice_get, flat_map, enumerate_from, append-nil, append_cancel_right, map-append, All-head, All-tail, Addr4, NeighbourGraph, Route, Emission, Interface, TcRow, Relays, AreRelays, AreRelaysOf, IsFloodingGraph, State, IsValidity, Far, Near, IsLeastCode, Frame, IsHelloFrame, SendsParts, No_part, First_part, Traffic, SendsAll, frame_of, set_here, same_at, each_more, sent_lost, face_name, flooding_text, flooding_relays_line, routing_relays_line, relays_lines, sent_line, lost_line, sent_lines, NetState, none_told, part_items, TellsItem, TellsFrame, AreTcFrames, LeadsBy, Item, Flooding, Routing, Sent, Lost, TracePosition, IsDone, with_state, with_traffic, relay_items, lines_of, IsLineOf}
 use Rattle.mesh_atoms.specs.declared.settings.NearHold.{NearHold}
-use Rattle.mesh_atoms.specs.declared.tc.TcRow.{TcRow}
-use Rattle.mesh_atoms.specs.declared.tuples.Relays.{Relays}
-use Rattle.mesh_atoms.specs.RelayGraphs.{AreRelays, AreRelaysOf, IsFloodingGraph}
-use Rattle.mesh_atoms.specs.State.{State}
-use Rattle.mesh_atoms.specs.Validity.{IsValidity, Far, Near, IsLeastCode}
-use Rattle.mesh_texts.specs.machine.declared.frame.Frame.{Frame}
-use Rattle.mesh_texts.specs.machine.Sending.{IsHelloFrame, SendsParts, No_part, First_part}
-use Rattle.mesh_texts.specs.machine.Traffic.{Traffic, SendsAll, frame_of}
-use Rattle.mesh_texts.proofs.machine.Places.{set_here, same_at, each_more}
-use Rattle.mesh_texts.proofs.machine.Sent.{sent_lost}
-use Rattle.mesh_texts.specs.Lines.Marks.{face_name}
-use Rattle.mesh_texts.specs.Trace.{flooding_text, flooding_relays_line, routing_relays_line, relays_lines, sent_line, lost_line, sent_lines}
-use Rattle.mesh_texts.specs.machine.Net.{NetState}
-use Rattle.mesh_trace.specs.Positions.Due.{none_told, part_items}
-use Rattle.mesh_trace.specs.Positions.Items.{TellsItem, TellsFrame, AreTcFrames}
-use Rattle.mesh_trace.specs.Positions.Leading.{LeadsBy}
-use Rattle.mesh_trace.specs.Positions.Standing.{Item, Flooding, Routing, Hello, Tc, Sent, Lost}
-use Rattle.mesh_trace.specs.Positions.Standing.{TracePosition, IsDone, with_state, with_traffic, relay_items}
-use Rattle.mesh_trace.specs.Reading.Lines.{lines_of, IsLineOf}
+use Rattle.mesh_trace.specs.Positions.Standing.{Hello, Tc}
 use Rattle.mesh_trace.proofs.PositionsLemmas.AlikeItems.{tells_flooding, tells_routing, tells_hello, tells_tc}
 use Rattle.mesh_trace.proofs.PositionsLemmas.DueWalks.{lines_cut}
 use Rattle.mesh_trace.proofs.PositionsLemmas.Leading.{at, undone, leads_item, tells_loss, tells_frame}

@@ -1,33 +1,6 @@
 -- What the messages of a frame leave is fixed but for the order of tuples, and so is what they forward.
-use Rattle.std.proofs.Common.{◌≡◌, ℕ, refl, sym, ◌∙◌, ap, subst, arith, List, [], ◌∷◌, ◌++◌, Option, Some, None, Bool}
-use Rattle.mesh_atoms.specs.declared.addr.Addr4.{Addr4}
-use Rattle.mesh_atoms.specs.declared.addr.NetAddr.{NetAddr}
-use Rattle.mesh_atoms.specs.declared.hello.Hello.{Hello}
-use Rattle.mesh_atoms.specs.declared.settings.RouterSettings.{RouterSettings}
-use Rattle.mesh_atoms.specs.declared.tc.Tc.{Tc}
-use Rattle.mesh_atoms.specs.AfterTc.{TcAnswer, TakesTc}
-use Rattle.mesh_atoms.specs.State.{NotedMessages, Bases, IsOriginator}
-use Rattle.mesh_atoms.specs.TakesHello.{TakesHello}
-use Rattle.mesh_texts.specs.machine.addr.declared.records.RawAddr.{RawAddr}
-use Rattle.mesh_texts.specs.machine.packet.declared.packet.Span.{Span}
-use Rattle.mesh_texts.specs.machine.packet.Fields.{MessageFields}
-use Rattle.mesh_texts.specs.machine.flood.declared.verdict.Heading.{Heading}
-use Rattle.mesh_texts.specs.machine.flood.declared.verdict.Forward.{Forward}
-use Rattle.mesh_texts.specs.machine.flood.Verdict.{process_of}
-use Rattle.mesh_texts.specs.machine.declared.arrival.Arrival.{Arrival}
-use Rattle.mesh_texts.specs.machine.declared.fate.Fate.{Fate}
-use Rattle.mesh_texts.specs.machine.declared.frame.Frame.{Frame}
-use Rattle.mesh_texts.specs.machine.Frames.{octets_at}
-use Rattle.mesh_texts.specs.machine.Laws.{SoundBases}
-use Rattle.mesh_texts.specs.machine.Messages.{IsHeading, is_processed, ConsidersForwarding, ProcessesTc, Tc_taken, Tc_passed, TakesMessage, Hello_read, Hello_broken, Tc_read, Tc_broken, Other_passed, Other_left, TakesMessages, No_messages, First_message}
-use Rattle.mesh_texts.proofs.machine.Soundness.{message_sound}
-use Rattle.mesh_texts.specs.machine.wire.Hello.{OriginatorIs}
-use Rattle.mesh_texts.specs.machine.wire.Rules.{Keeps, FirstBroken}
-use Rattle.mesh_texts.specs.machine.wire.Tc.{TcIs}
-use Rattle.mesh_texts.proofs.machine.wire.OneHello.{one_hello}
-use Rattle.mesh_texts.proofs.machine.wire.OneTc.{one_tc}
-use Rattle.mesh_trace.specs.Positions.Alike.{AlikeBases}
-use Rattle.mesh_trace.specs.Positions.Laws.{MessagesAreFixed}
+use Rattle.mesh_trace.proofs.Common.{◌≡◌, ℕ, refl, sym, ◌∙◌, ap, subst, arith, List, [], ◌∷◌, ◌++◌, Option, Some, None, Bool, Addr4, NetAddr, Hello, RouterSettings, Tc, TcAnswer, TakesTc, NotedMessages, Bases, IsOriginator, TakesHello, RawAddr, Span, MessageFields, Heading, Forward, process_of, Arrival, Fate, Frame, octets_at, SoundBases, IsHeading, is_processed, ConsidersForwarding, ProcessesTc, Tc_taken, Tc_passed, TakesMessage, Hello_read, Hello_broken, Tc_read, Tc_broken, Other_passed, Other_left, TakesMessages, No_messages, First_message, message_sound, OriginatorIs, Keeps, TcIs, one_hello, one_tc, AlikeBases, MessagesAreFixed}
+use Rattle.mesh_texts.specs.machine.wire.Rules.{FirstBroken}
 use Rattle.mesh_trace.proofs.PositionsLemmas.AlikeBases.{near_back, topology_back}
 use Rattle.mesh_trace.proofs.PositionsLemmas.HellosFixed.{takes_hello_once}
 use Rattle.mesh_trace.proofs.PositionsLemmas.TcsFixed.{ForwardOnce, process_once, considers_once, takes_tc_once}

@@ -1,24 +1,7 @@
 -- HELLOs that are in the air name their sender by an address of 32 bits.
-use Rattle.std.proofs.lemmas.Grind.{common_steps}
-use Rattle.std.proofs.Common.{◌≡◌, ℕ, zero, suc, ◌<◌, ◌^◌, inl, inr, refl, sym, ◌∙◌, ap, subst, arith, List, [], ◌∷◌, ◌++◌, length, Option, Some, None, Contains, Bool, true, false}
-use Rattle.std.specs.Prelude.{slice_index, replicate}
-use Rattle.mesh_atoms.specs.declared.addr.Addr4.{Addr4}
-use Rattle.mesh_atoms.specs.declared.hello.Hello.{Hello}
-use Rattle.mesh_atoms.specs.declared.tc.Tc.{Tc}
-use Rattle.mesh_atoms.specs.Reading.{has}
-use Rattle.mesh_texts.specs.machine.addr.declared.records.RawAddr.{RawAddr}
-use Rattle.mesh_texts.specs.machine.packet.declared.packet.Span.{Span}
-use Rattle.mesh_texts.specs.machine.packet.Fields.{MessageFields, PacketFields}
-use Rattle.mesh_texts.specs.machine.packet.Grammar.{SpellsOctet, SpellsOriginator, SpellsMessage, Spells}
+use Rattle.mesh_trace.proofs.Common.{common_steps, ◌≡◌, ℕ, zero, suc, ◌<◌, ◌^◌, inl, inr, refl, sym, ◌∙◌, ap, subst, arith, List, [], ◌∷◌, ◌++◌, length, Option, Some, None, Contains, Bool, true, false, slice_index, replicate, Addr4, Hello, Tc, has, RawAddr, Span, MessageFields, PacketFields, SpellsOctet, SpellsOriginator, SpellsMessage, Spells, AreOctets, octets_back, front_octets, back_octets, one_packet, OriginatorIs, number_of, one_hop_on, hopped, flags_of, alone, IsSoleMessage, WritesHello, WritesTc, contains_cases, contains_none as none_in}
 use Rattle.mesh_texts.proofs.machine.packet.Alone.{behind_zero}
-use Rattle.mesh_texts.proofs.machine.packet.Encodable.{AreOctets, octets_back, front_octets, back_octets}
-use Rattle.mesh_texts.proofs.machine.packet.OneReading.{one_packet}
-use Rattle.mesh_texts.specs.machine.wire.Hello.{OriginatorIs}
-use Rattle.mesh_texts.specs.machine.wire.Parts.{number_of}
-use Rattle.mesh_texts.specs.machine.wire.Rehop.{one_hop_on, hopped, flags_of}
-use Rattle.mesh_texts.specs.machine.wire.Writes.{alone, IsSoleMessage, WritesHello, WritesTc}
 use Rattle.mesh_texts.proofs.machine.wire.Hops.{hop_spells}
-use Rattle.mesh_atoms.proofs.Lists.{contains_cases, contains_none as none_in}
 
 -- ---- octets of parts
 

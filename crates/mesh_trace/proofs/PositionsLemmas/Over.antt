@@ -1,16 +1,5 @@
 -- Where a run is over no event comes next.
-use Rattle.std.proofs.lemmas.Grind.{common_steps}
-use Rattle.std.proofs.Common.{◌≡◌, ℕ, ◌<◌, List, [], ◌∷◌, ◌++◌, Some, subst, arith, All}
-use Rattle.std.specs.Prelude.{slice_get}
-use Rattle.std.proofs.lemmas.List.Elements.{All-head, All-tail}
-use Rattle.std.proofs.lemmas.Option.{slice_get_within, get_or_from_slice_get}
-use Rattle.mesh_atoms.specs.State.{State}
-use Rattle.mesh_texts.specs.machine.Machine.{due}
-use Rattle.mesh_texts.specs.machine.Traffic.{Delivery}
-use Rattle.mesh_texts.specs.machine.Net.{NetState}
-use Rattle.mesh_texts.specs.machine.NetRun.{IsOver}
-use Rattle.mesh_trace.specs.Positions.Events.{OpensEvent, By_delivery, By_tick, By_last_tick}
-use Rattle.mesh_trace.specs.Positions.Standing.{TracePosition}
+use Rattle.mesh_trace.proofs.Common.{common_steps, ◌≡◌, ℕ, ◌<◌, List, [], ◌∷◌, ◌++◌, Some, subst, arith, All, slice_get, All-head, All-tail, slice_get_within, get_or_from_slice_get, State, due, Delivery, NetState, IsOver, OpensEvent, By_delivery, By_tick, By_last_tick, TracePosition}
 
 -- what holds of all holds behind some
 pub all_behind : {A : Type 0} (P : A → Type 0) (xs ys : List A) → All P (xs ++ ys) → All P ys

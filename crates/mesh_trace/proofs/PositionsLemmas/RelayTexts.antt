@@ -1,13 +1,6 @@
 -- What a relay line tells can be read back: the relays are fixed by it.
-use Rattle.std.proofs.lemmas.Grind.{common_steps}
-use Rattle.std.proofs.Common.{◌≡◌, ℕ, suc, ◌<◌, ◌^◌, ◌/◌, ◌%◌, true, List, [], ◌∷◌, ◌++◌, refl, sym, ap, ◌∙◌, subst, arith, append_assoc, codes, decimal, Contains}
-use Rattle.std.proofs.lemmas.List.{append_cancel_left, append_cancel_right}
-use Rattle.mesh_atoms.specs.declared.addr.Addr4.{Addr4}
-use Rattle.mesh_texts.specs.Lines.Marks.{dotted, spaced, relays_text}
-use Rattle.mesh_texts.proofs.Cuts.{lacks, first_cut, has_mark}
-use Rattle.mesh_texts.proofs.Marked.{dotted_lacks}
+use Rattle.mesh_trace.proofs.Common.{common_steps, ◌≡◌, ℕ, suc, ◌<◌, ◌^◌, ◌/◌, ◌%◌, true, List, [], ◌∷◌, ◌++◌, refl, sym, ap, ◌∙◌, subst, arith, append_assoc, codes, decimal, Contains, append_cancel_left, append_cancel_right, Addr4, dotted, spaced, relays_text, lacks, first_cut, has_mark, dotted_lacks, flooding_text, routing_relays_line}
 use Rattle.mesh_texts.proofs.RouteLines.{in_order, same_dotted}
-use Rattle.mesh_texts.specs.Trace.{flooding_text, routing_relays_line}
 
 -- Lists of addresses
 

@@ -1,21 +1,5 @@
 -- The relay lines of an event.
-use Rattle.std.proofs.lemmas.Grind.{common_steps}
-use Rattle.std.proofs.Common.{set-set, ◌≡◌, ℕ, ◌+◌, List, [], ◌∷◌, ◌++◌, length, length-append, map, Some, refl, sym, ap, ◌∙◌, subst, append_assoc, arith}
-use Rattle.std.specs.Prelude.{slice_get}
-use Rattle.std.specs.List.{flat_map, enumerate_from}
-use Rattle.std.proofs.lemmas.List.{append-nil}
-use Rattle.std.proofs.lemmas.Option.{get_or_from_slice_get}
-use Rattle.mesh_atoms.specs.declared.addr.Addr4.{Addr4}
-use Rattle.mesh_atoms.specs.declared.settings.Interface.{Interface}
-use Rattle.mesh_atoms.specs.RelayGraphs.{AreRelays, IsFloodingGraph, IsRoutingGraph}
-use Rattle.mesh_atoms.specs.State.{State}
-use Rattle.mesh_texts.proofs.machine.Places.{set_here}
-use Rattle.mesh_texts.specs.Trace.{flooding_text, flooding_relays_line, routing_relays_line, relays_lines}
-use Rattle.mesh_texts.specs.machine.Net.{NetState}
-use Rattle.mesh_trace.specs.Positions.Due.{none_told}
-use Rattle.mesh_trace.specs.Positions.Items.{Tells_flooding, Tells_routing}
-use Rattle.mesh_trace.specs.Positions.Standing.{Item, Flooding, Routing, with_state, relay_items}
-use Rattle.mesh_trace.specs.Positions.Leading.{LineLeads}
+use Rattle.mesh_trace.proofs.Common.{common_steps, set-set, ◌≡◌, ℕ, ◌+◌, List, [], ◌∷◌, ◌++◌, length, length-append, map, Some, refl, sym, ap, ◌∙◌, subst, append_assoc, arith, slice_get, flat_map, enumerate_from, append-nil, get_or_from_slice_get, Addr4, Interface, AreRelays, IsFloodingGraph, IsRoutingGraph, State, set_here, flooding_text, flooding_relays_line, routing_relays_line, relays_lines, NetState, none_told, Tells_flooding, Tells_routing, Item, Flooding, Routing, with_state, relay_items, LineLeads}
 use Rattle.mesh_trace.proofs.PositionsLemmas.Leading.{at, to_item}
 use Rattle.mesh_trace.proofs.PositionsLemmas.TextLines.{flooding_one, routing_one}
 use Rattle.mesh_trace.proofs.PositionsLemmas.Walks.{Walks, walks_nowhere, walks_one, walks_on}

@@ -1,41 +1,12 @@
 -- Each whole trace is the trace of a run: the lines of each event are the text of an event of the network, which they lead to.
-use Rattle.std.proofs.Common.{◌≡◌, ℕ, zero, suc, ◌+◌, ◌<◌, ◌≤◌, List, [], ◌∷◌, ◌++◌, length}
-use Rattle.std.proofs.Common.{map, Option, Some, None, refl, sym, ◌∙◌, subst, arith}
-use Rattle.std.specs.Prelude.{slice_get, nat_eq, IfSome}
-use Rattle.std.proofs.lemmas.List.{append-nil}
-use Rattle.mesh_atoms.specs.declared.addr.Addr4.{Addr4}
-use Rattle.mesh_atoms.specs.declared.graphs.Route.{Route}
-use Rattle.mesh_atoms.specs.declared.network.Emission.{Emission}
-use Rattle.mesh_atoms.specs.declared.network.NetEvent.{NetEvent}
-use Rattle.mesh_atoms.specs.declared.tuples.Relays.{Relays}
-use Rattle.mesh_atoms.specs.RelayGraphs.{AreRelays}
+use Rattle.mesh_trace.proofs.Common.{◌≡◌, ℕ, zero, suc, ◌+◌, ◌<◌, ◌≤◌, List, [], ◌∷◌, ◌++◌, length, map, Option, Some, None, refl, sym, ◌∙◌, subst, arith, slice_get, nat_eq, IfSome, append-nil, Addr4, Route, Emission, NetEvent, Relays, AreRelays, Bases, State, Arrival, Frame, Step, Heard_frame, Ticked, TakesMessages, Renews, IsPacket, IsHelloFrame, SendsHellos, SendsTcs, Traffic, SendsAll, frame_of, with_heard, some_originator, set_here, happened_line, relays_lines, Of_taken, Of_refused, NetState, NetStep, Moves, happening, IsOver, IsTraced, Traces, Alike, AlikeStates, Follows, HearsBy, Refused, Taken, part_items, HellosDue, Hellos_early, Hellos_due, TcsDue, Tcs_early, Tcs_silent, Tcs_due, WholeTracesAreRuns, WholeExactlyForRuns, To_event, To_item, LeadsBy, IsWholeTrace, Item, Sent, TracePosition, IsDone, with_state, with_traffic, relay_items, lines_of, IsLineOf}
 use Rattle.mesh_atoms.specs.Routes.{AreRoutes}
-use Rattle.mesh_atoms.specs.State.{Bases, State}
 use Rattle.mesh_routes.proofs.Existing.{routes_exist}
-use Rattle.mesh_texts.specs.machine.declared.arrival.Arrival.{Arrival}
 use Rattle.mesh_texts.specs.machine.declared.fate.Heard.TheVariants as heard
-use Rattle.mesh_texts.specs.machine.declared.frame.Frame.{Frame}
-use Rattle.mesh_texts.specs.machine.Machine.{Step, Heard_frame, Ticked}
-use Rattle.mesh_texts.specs.machine.Messages.{TakesMessages}
-use Rattle.mesh_texts.specs.machine.Renewal.{Renews}
-use Rattle.mesh_texts.specs.machine.Sendable.{IsPacket}
-use Rattle.mesh_texts.specs.machine.Sending.{IsHelloFrame, SendsHellos, Hellos_early as Early_hellos, Hellos_due as Due_hellos}
-use Rattle.mesh_texts.specs.machine.Sending.{SendsTcs, Tcs_early as Early_tcs, Tcs_silent as Silent_tcs, Tcs_due as Due_tcs}
-use Rattle.mesh_texts.specs.machine.Traffic.{Traffic, SendsAll, frame_of, with_heard}
-use Rattle.mesh_texts.proofs.machine.Originators.{some_originator}
-use Rattle.mesh_texts.proofs.machine.Places.{set_here}
-use Rattle.mesh_texts.specs.Trace.{happened_line, relays_lines, Of_taken, Of_refused}
-use Rattle.mesh_texts.specs.machine.Net.{NetState, NetStep, By_delivery, By_tick, By_last_tick, Moves, happening}
-use Rattle.mesh_texts.specs.machine.NetRun.{IsOver}
-use Rattle.mesh_texts.specs.Runs.{IsTraced, Traces}
-use Rattle.mesh_trace.specs.Positions.Alike.{Alike, AlikeStates}
-use Rattle.mesh_trace.specs.Positions.Due.{Follows, HearsBy, Refused, Taken, part_items}
-use Rattle.mesh_trace.specs.Positions.Due.{HellosDue, Hellos_early, Hellos_due, TcsDue, Tcs_early, Tcs_silent, Tcs_due}
+use Rattle.mesh_texts.specs.machine.Sending.{Hellos_early as Early_hellos, Hellos_due as Due_hellos}
+use Rattle.mesh_texts.specs.machine.Sending.{Tcs_early as Early_tcs, Tcs_silent as Silent_tcs, Tcs_due as Due_tcs}
+use Rattle.mesh_texts.specs.machine.Net.{By_delivery, By_tick, By_last_tick}
 use Rattle.mesh_trace.specs.Positions.Events as opens
-use Rattle.mesh_trace.specs.Positions.Laws.{WholeTracesAreRuns, WholeExactlyForRuns}
-use Rattle.mesh_trace.specs.Positions.Leading.{To_event, To_item, LeadsBy, IsWholeTrace}
-use Rattle.mesh_trace.specs.Positions.Standing.{Item, Sent, TracePosition, IsDone, with_state, with_traffic, relay_items}
-use Rattle.mesh_trace.specs.Reading.Lines.{lines_of, IsLineOf}
 use Rattle.mesh_trace.proofs.PositionsLemmas.AlikeBases.{bases_itself}
 use Rattle.mesh_trace.proofs.PositionsLemmas.AlikeNets.{nets_set, as_positions}
 use Rattle.mesh_trace.proofs.PositionsLemmas.EventWalks.{rows_with}

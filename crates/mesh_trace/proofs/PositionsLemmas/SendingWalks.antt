@@ -1,27 +1,8 @@
 -- Frames that are told, with their losses.
-use Rattle.std.proofs.Common.{arith}
-use Rattle.std.proofs.lemmas.Grind.{common_steps}
-use Rattle.std.proofs.Common.{◌≡◌, ℕ, ◌<◌, List, [], ◌∷◌, ◌++◌, length, map, Some, refl, sym, subst, append_assoc, All}
-use Rattle.std.specs.Prelude.{slice_get}
-use Rattle.std.specs.List.{flat_map}
-use Rattle.std.proofs.lemmas.List.{append-nil}
-use Rattle.std.proofs.lemmas.List.Elements.{All-head, All-tail}
-use Rattle.mesh_atoms.specs.declared.settings.Scenario.{Scenario}
-use Rattle.mesh_atoms.specs.State.{State}
-use Rattle.mesh_texts.specs.machine.declared.frame.Frame.{Frame}
-use Rattle.mesh_atoms.specs.declared.network.Emission.{Emission}
-use Rattle.mesh_texts.specs.machine.Traffic.{Traffic, Sends, SendsAll, frame_of}
-use Rattle.mesh_texts.proofs.machine.Sent.{sent_lost}
-use Rattle.mesh_texts.specs.Lines.Marks.{face_name}
-use Rattle.mesh_texts.specs.Trace.{sent_line, lost_line, sent_lines}
-use Rattle.mesh_texts.specs.machine.Net.{NetState}
-use Rattle.mesh_trace.specs.Positions.Items.{TellsItem, Tells_frame, Tells_loss, TellsFrame}
-use Rattle.mesh_trace.specs.Positions.Standing.{Item, Lost, Sent, with_traffic}
-use Rattle.mesh_trace.specs.Positions.Leading.{LineLeads}
+use Rattle.mesh_trace.proofs.Common.{arith, common_steps, ◌≡◌, ℕ, ◌<◌, List, [], ◌∷◌, ◌++◌, length, map, Some, refl, sym, subst, append_assoc, All, slice_get, flat_map, append-nil, All-head, All-tail, Scenario, State, Frame, Emission, Traffic, Sends, SendsAll, frame_of, sent_lost, face_name, sent_line, lost_line, sent_lines, NetState, TellsItem, Tells_frame, Tells_loss, TellsFrame, Item, Lost, Sent, with_traffic, LineLeads, item_at as stands}
 use Rattle.mesh_trace.proofs.PositionsLemmas.Leading.{at, to_item}
 use Rattle.mesh_trace.proofs.PositionsLemmas.TextLines.{OneLine, sent_one, loss_one}
 use Rattle.mesh_trace.proofs.PositionsLemmas.Walks.{Walks, walks_nowhere, walks_one, walks_on}
-use Rattle.mesh_atoms.proofs.Lists.{item_at as stands}
 
 -- ---- losses
 

@@ -1,23 +1,5 @@
 -- Wherever lines lead, the bases of each router are sound.
-use Rattle.std.proofs.Common.{◌≡◌, ℕ, ◌<◌, List, [], ◌∷◌, length, Some, inl, inr, sym, subst, arith}
-use Rattle.std.specs.Prelude.{slice_get, slice_set}
-use Rattle.std.proofs.lemmas.Option.{slice_get_within}
-use Rattle.mesh_atoms.specs.State.{Bases, State}
-use Rattle.mesh_atoms.specs.declared.settings.Scenario.{Scenario}
-use Rattle.mesh_texts.specs.machine.declared.arrival.Arrival.{Arrival}
-use Rattle.mesh_texts.specs.machine.declared.frame.Frame.{Frame}
-use Rattle.mesh_texts.specs.machine.Laws.{SoundBases}
-use Rattle.mesh_texts.proofs.machine.Opening.{opening_sound}
-use Rattle.mesh_texts.proofs.machine.Soundness.{bases_of, live_bases_sound, messages_sound}
-use Rattle.mesh_texts.proofs.machine.Places.{set_at}
-use Rattle.mesh_texts.specs.machine.Net.{NetState}
-use Rattle.mesh_trace.specs.Positions.Due.{Follows, TakesPacket, TicksBy, HearsBy, Refused, Taken}
-use Rattle.mesh_trace.specs.Positions.Items.{TellsItem, Tells_flooding, Tells_routing, Tells_hello, Tells_tc, Tells_frame, Tells_loss, TellsFrame}
-use Rattle.mesh_trace.specs.Positions.Laws.{PositionsAreSound}
-use Rattle.mesh_trace.specs.Positions.Events.{OpensEvent, By_delivery, By_tick, By_last_tick}
-use Rattle.mesh_trace.specs.Positions.Standing.{Item, TracePosition, IsFirstPosition}
-use Rattle.mesh_trace.specs.Positions.Leading.{LineLeads, To_event, To_item, LeadsBy}
-use Rattle.mesh_atoms.proofs.Lists.{item_at as stands}
+use Rattle.mesh_trace.proofs.Common.{◌≡◌, ℕ, ◌<◌, List, [], ◌∷◌, length, Some, inl, inr, sym, subst, arith, slice_get, slice_set, slice_get_within, Bases, State, Scenario, Arrival, Frame, SoundBases, opening_sound, bases_of, live_bases_sound, messages_sound, set_at, NetState, Follows, TakesPacket, TicksBy, HearsBy, Refused, Taken, TellsItem, Tells_flooding, Tells_routing, Tells_hello, Tells_tc, Tells_frame, Tells_loss, TellsFrame, PositionsAreSound, OpensEvent, By_delivery, By_tick, By_last_tick, Item, TracePosition, IsFirstPosition, LineLeads, To_event, To_item, LeadsBy, item_at as stands}
 
 -- the bases of a router are sound
 abbrev pub SoundState : State → Type 0

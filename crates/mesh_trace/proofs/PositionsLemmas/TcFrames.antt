@@ -1,15 +1,5 @@
 -- The frames of one TC: the same octets on each interface.
-use Rattle.std.proofs.lemmas.Grind.{common_steps}
-use Rattle.std.proofs.Common.{◌≡◌, ℕ, zero, suc, ◌<◌, List, [], ◌∷◌, ◌++◌, length, drop, Bool, refl, sym, ap, ◌∙◌, subst, arith}
-use Rattle.std.proofs.lemmas.List.{append-nil}
-use Rattle.mesh_atoms.specs.declared.tc.Tc.{Tc}
-use Rattle.mesh_atoms.specs.declared.tc.TcRow.{TcRow}
-use Rattle.mesh_atoms.specs.State.{State}
-use Rattle.mesh_texts.specs.machine.declared.frame.Frame.{Frame}
-use Rattle.mesh_texts.specs.machine.wire.Writes.{WritesTc}
-use Rattle.mesh_texts.specs.machine.Frames.{on_each}
-use Rattle.mesh_texts.specs.machine.Sending.{IsTcOfRows, SendsParts, No_part, First_part}
-use Rattle.mesh_texts.proofs.machine.Originators.{some_interface}
+use Rattle.mesh_trace.proofs.Common.{common_steps, ◌≡◌, ℕ, zero, suc, ◌<◌, List, [], ◌∷◌, ◌++◌, length, drop, Bool, refl, sym, ap, ◌∙◌, subst, arith, append-nil, Tc, TcRow, State, Frame, WritesTc, on_each, IsTcOfRows, SendsParts, No_part, First_part, some_interface}
 
 -- the first of the frames on each interface, where there is one
 pub on_first : (n : ℕ) (bytes : List ℕ) → 0 < n → on_each n bytes ≡ record { iface = 0; bytes = bytes } ∷ drop 1 (on_each n bytes)

@@ -1,52 +1,25 @@
 -- What is made of a flooded message and of a TC is fixed but for the order of tuples.
-use Rattle.std.proofs.lemmas.Grind.{common_steps}
-use Rattle.std.proofs.Common.{◌≡◌, ◌≢◌, ◌⊎◌, ℕ, ◌+◌, inl, inr, refl, sym, ◌∙◌, ap, subst, arith, List, length, Option, Some, None, Contains}
-use Rattle.std.specs.Prelude.{Bool, true, false, cond, nat_le, nat_lt, not, count_by, ◌&&◌, if◌then◌else◌}
-use Rattle.std.specs.Option.{is_some}
-use Rattle.std.specs.Cmp.{IsEquivalence}
-use Rattle.std.specs.List.{AllPairs}
-use Rattle.std.proofs.lemmas.Bool.{cases_lt}
-use Rattle.mesh_atoms.specs.declared.addr.Addr4.{Addr4}
-use Rattle.mesh_atoms.specs.declared.addr.NetAddr.{NetAddr}
-use Rattle.mesh_atoms.specs.declared.codes.metric.Metric.{Metric}
-use Rattle.mesh_atoms.specs.declared.settings.RouterSettings.{RouterSettings}
+use Rattle.mesh_trace.proofs.Common.{common_steps, ◌≡◌, ◌≢◌, ◌⊎◌, ℕ, ◌+◌, inl, inr, refl, sym, ◌∙◌, ap, subst, arith, List, length, Option, Some, None, Contains, Bool, true, false, cond, nat_le, nat_lt, not, count_by, ◌&&◌, if◌then◌else◌, is_some, IsEquivalence, AllPairs, cases_lt, Addr4, NetAddr, Metric, RouterSettings, Tc, TcRow, LinkKey, Link, GivesRouter, GivesAddress, GivesNetwork, if_not_dropped, Becomes, Given, Left, AfterTc, IsOld, first_overfull, TcAnswer, Too_old, Full_of, TakesTc, Is_old, Base, HasDistinctKeys, Same, find, base_of, host, addr_eq, flood_eq, IsBefore, SoundNeighbourhood, SoundTopology, SoundNoted, Neighbourhood, TopologyBase, NotedMessages, Bases, link_at, addr_equiv, router_equiv, address_equiv, network_equiv, Heading, Forward, key_of, process_of, forward_of, if_noted, if_linked, has_no_hops, is_received, is_forwarded, Arrival, Frame, ConsidersForwarding, forwarding, one_row, AlikeNear, AlikeTopology, AlikeNoted}
 use Rattle.mesh_atoms.specs.declared.settings.Times.{Times}
-use Rattle.mesh_atoms.specs.declared.tc.Tc.{Tc}
-use Rattle.mesh_atoms.specs.declared.tc.TcRow.{TcRow}
 use Rattle.mesh_atoms.specs.declared.tuples.Advertiser.{Advertiser}
 use Rattle.mesh_atoms.specs.declared.tuples.AddressKey.{AddressKey}
 use Rattle.mesh_atoms.specs.declared.tuples.AddressTuple.{AddressTuple}
 use Rattle.mesh_atoms.specs.declared.tuples.Base.{Base as Kind}
 use Rattle.mesh_atoms.specs.declared.tuples.Base.TheVariants.{Advertisers, Routers, Addresses, Networks, Received, Forwarded}
 use Rattle.mesh_atoms.specs.declared.tuples.FloodKey.{FloodKey}
-use Rattle.mesh_atoms.specs.declared.tuples.LinkKey.{LinkKey}
-use Rattle.mesh_atoms.specs.declared.tuples.Link.{Link}
 use Rattle.mesh_atoms.specs.declared.tuples.NetworkKey.{NetworkKey}
 use Rattle.mesh_atoms.specs.declared.tuples.NetworkTuple.{NetworkTuple}
 use Rattle.mesh_atoms.specs.declared.tuples.Noted.{Noted}
 use Rattle.mesh_atoms.specs.declared.tuples.RouterKey.{RouterKey}
 use Rattle.mesh_atoms.specs.declared.tuples.RouterTuple.{RouterTuple}
-use Rattle.mesh_atoms.specs.AfterTc.{GivesRouter, GivesAddress, GivesNetwork, if_not_dropped, Becomes, Given, Left, AfterTc, IsOld, first_overfull, TcAnswer, Too_old, Full_of, TakesTc, Is_old, Overfull, Takes}
-use Rattle.mesh_atoms.specs.Base.{Base, HasDistinctKeys, Same, find, base_of, host, addr_eq, flood_eq}
-use Rattle.mesh_atoms.specs.Nodes.{IsBefore}
-use Rattle.mesh_atoms.specs.Sound.{SoundNeighbourhood, SoundTopology, SoundNoted}
-use Rattle.mesh_atoms.specs.State.{Neighbourhood, TopologyBase, NotedMessages, Bases, link_at}
-use Rattle.mesh_atoms.proofs.Lookups.{addr_equiv, router_equiv, address_equiv, network_equiv}
-use Rattle.mesh_texts.specs.machine.flood.declared.verdict.Heading.{Heading}
+use Rattle.mesh_atoms.specs.AfterTc.{Overfull, Takes}
 use Rattle.mesh_texts.specs.machine.flood.declared.verdict.Process.{Process}
 use Rattle.mesh_texts.specs.machine.flood.declared.verdict.Process.TheVariants as process
-use Rattle.mesh_texts.specs.machine.flood.declared.verdict.Forward.{Forward}
 use Rattle.mesh_texts.specs.machine.flood.declared.verdict.Forward.TheVariants as forward
 use Rattle.mesh_texts.specs.machine.flood.Noting.{Notes, AfterNote}
-use Rattle.mesh_texts.specs.machine.flood.Verdict.{key_of, process_of, forward_of, if_noted, if_linked, has_no_hops, is_received, is_forwarded}
 use Rattle.mesh_texts.specs.machine.links.Links.{IsSymmetricWith, SelectorOf, Linked, Unlinked}
-use Rattle.mesh_texts.specs.machine.declared.arrival.Arrival.{Arrival}
-use Rattle.mesh_texts.specs.machine.declared.frame.Frame.{Frame}
-use Rattle.mesh_texts.specs.machine.Messages.{ConsidersForwarding, forwarding}
 use Rattle.mesh_texts.proofs.machine.Tables.{flood_equiv}
 use Rattle.mesh_texts.proofs.machine.nhdp.Limits.{no_more}
-use Rattle.mesh_texts.proofs.machine.wire.RowLines.{one_row}
-use Rattle.mesh_trace.specs.Positions.Alike.{AlikeNear, AlikeTopology, AlikeNoted}
 
 -- tables that say the same have the same number of tuples
 pub same_size : {K V : Type 0} {eq : K → K → Bool} → IsEquivalence eq → (a b : Base K V) → HasDistinctKeys eq a → HasDistinctKeys eq b → Same eq a b → length b ≡ length a

@@ -1,19 +1,7 @@
 -- Texts of whole lines, and the lines that they have.
-use Rattle.std.proofs.lemmas.Grind.{common_steps}
-use Rattle.std.proofs.Common.{◌≡◌, ℕ, true, eqb, List, [], ◌∷◌, ◌++◌, refl, sym, ap, ◌∙◌, arith, append_assoc, codes, decimal}
-use Rattle.std.specs.Prelude.{slice_index_or}
-use Rattle.std.proofs.lemmas.Bool.{ne_eqb}
-use Rattle.mesh_atoms.specs.declared.addr.Addr4.{Addr4}
-use Rattle.mesh_atoms.specs.declared.settings.Interface.{Interface}
-use Rattle.mesh_atoms.specs.declared.settings.RadioArc.{RadioArc}
-use Rattle.mesh_atoms.specs.declared.settings.RouterSettings.{RouterSettings}
+use Rattle.mesh_trace.proofs.Common.{common_steps, ◌≡◌, ℕ, true, eqb, List, [], ◌∷◌, ◌++◌, refl, sym, ap, ◌∙◌, arith, append_assoc, codes, decimal, slice_index_or, ne_eqb, Addr4, Interface, RadioArc, RouterSettings, dotted, relays_text, face_name, faces_of, tick_line, heard_line, flooding_relays_line, routing_relays_line, sent_line, loss_line, lacks, lacks_both, lacks_rest, not_here, relays_lack, own_name_lacks, router_name_lacks, hex_lacks, name_lacks, lines_of}
 use Rattle.mesh_texts.specs.machine.Names.{router_name}
-use Rattle.mesh_texts.specs.Lines.Marks.{dotted, relays_text, face_name, faces_of}
-use Rattle.mesh_texts.specs.Trace.{tick_line, heard_line, flooding_relays_line, routing_relays_line, sent_line, loss_line}
-use Rattle.mesh_texts.proofs.Cuts.{lacks, lacks_both, lacks_rest, not_here}
-use Rattle.mesh_texts.proofs.Marked.{relays_lack, own_name_lacks, router_name_lacks, hex_lacks, name_lacks}
 use Rattle.mesh_texts.proofs.LineTexts.{address, number, face}
-use Rattle.mesh_trace.specs.Reading.Lines.{lines_of}
 
 -- a text that is one line
 pub record OneLine (text : List ℕ) : Type 0 where

@@ -1,8 +1,5 @@
 -- Texts whose lines lead from a position to a position.
-use Rattle.std.proofs.Common.{◌≡◌, ℕ, List, [], ◌∷◌, ◌++◌, refl, sym, ap, ◌∙◌, subst, append_assoc}
-use Rattle.mesh_trace.specs.Reading.Lines.{lines_of, IsLineOf}
-use Rattle.mesh_trace.specs.Positions.Standing.{TracePosition}
-use Rattle.mesh_trace.specs.Positions.Leading.{LineLeads, LeadsBy}
+use Rattle.mesh_trace.proofs.Common.{◌≡◌, ℕ, List, [], ◌∷◌, ◌++◌, refl, sym, ap, ◌∙◌, subst, append_assoc, lines_of, IsLineOf, TracePosition, LineLeads, LeadsBy}
 use Rattle.mesh_trace.proofs.PositionsLemmas.TextLines.{OneLine, lines_more}
 
 pub leads_on : (p q r : TracePosition) (xs ys : List (List ℕ)) → LeadsBy p xs q → LeadsBy q ys r → LeadsBy p (xs ++ ys) r

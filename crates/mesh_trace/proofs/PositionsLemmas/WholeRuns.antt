@@ -1,34 +1,9 @@
 -- The trace of each run from its opening to its end is whole.
-use Rattle.std.proofs.Common.{◌≡◌, ℕ, ◌+◌, List, [], ◌∷◌, ◌++◌, map, Some, None, Option, refl, sym, ap, ◌∙◌, subst}
-use Rattle.std.specs.Prelude.{slice_get, slice_set, IfSome}
-use Rattle.std.specs.List.{flat_map}
-use Rattle.std.proofs.lemmas.List.{append-nil}
-use Rattle.mesh_atoms.specs.declared.addr.Addr4.{Addr4}
-use Rattle.mesh_atoms.specs.declared.settings.RouterSettings.{RouterSettings}
-use Rattle.mesh_atoms.specs.declared.settings.Scenario.{Scenario}
-use Rattle.mesh_atoms.specs.State.{State}
-use Rattle.mesh_texts.specs.machine.packet.Grammar.{FirstFault, Spells}
-use Rattle.mesh_texts.proofs.machine.packet.OneReading.{not_both}
-use Rattle.mesh_texts.specs.machine.declared.arrival.Arrival.{Arrival}
+use Rattle.mesh_trace.proofs.Common.{◌≡◌, ℕ, ◌+◌, List, [], ◌∷◌, ◌++◌, map, Some, None, Option, refl, sym, ap, ◌∙◌, subst, slice_get, slice_set, IfSome, flat_map, append-nil, Addr4, RouterSettings, Scenario, State, FirstFault, Spells, not_both, Arrival, Frame, Event, Hear, Tick, Step, Heard_frame, Ticked, Hears, HearsPacket, TicksAt, IsPacket, Emission, Traffic, SendsAll, frame_of, with_heard, set_here, same_at, face_name, NetEvent, happened_line, event_line, heard_line, relays_lines, sent_lines, event_text, IsEventText, Of_taken, Of_refused, NetState, NetStep, Moves, Delivers, happening, event_of, frames_of, IsTraced, Traces, Refused, RunsAreWhole, lines_of, TracePosition, with_state, with_traffic, To_event, LeadsBy}
 use Rattle.mesh_texts.specs.machine.declared.fate.Heard.{Heard}
 use Rattle.mesh_texts.specs.machine.declared.fate.Heard.TheVariants as heard
-use Rattle.mesh_texts.specs.machine.declared.frame.Frame.{Frame}
-use Rattle.mesh_texts.specs.machine.Machine.{Event, Hear, Tick, Step, Heard_frame, Ticked, Hears, HearsPacket, TicksAt}
-use Rattle.mesh_texts.specs.machine.Sendable.{IsPacket}
-use Rattle.mesh_atoms.specs.declared.network.Emission.{Emission}
-use Rattle.mesh_texts.specs.machine.Traffic.{Traffic, SendsAll, frame_of, with_heard}
-use Rattle.mesh_texts.proofs.machine.Places.{set_here, same_at}
-use Rattle.mesh_texts.specs.Lines.Marks.{face_name}
-use Rattle.mesh_atoms.specs.declared.network.NetEvent.{NetEvent}
-use Rattle.mesh_texts.specs.Trace.{happened_line, event_line, heard_line, relays_lines, sent_lines, event_text, IsEventText, Of_taken, Of_refused}
-use Rattle.mesh_texts.specs.machine.Net.{NetState, NetStep, By_delivery, By_tick, By_last_tick, Moves, Delivers, happening, event_of, frames_of}
-use Rattle.mesh_texts.specs.Runs.{IsTraced, Traces}
-use Rattle.mesh_trace.specs.Positions.Due.{Refused}
-use Rattle.mesh_trace.specs.Positions.Laws.{RunsAreWhole}
-use Rattle.mesh_trace.specs.Reading.Lines.{lines_of}
+use Rattle.mesh_texts.specs.machine.Net.{By_delivery, By_tick, By_last_tick}
 use Rattle.mesh_trace.specs.Positions.Events as opens
-use Rattle.mesh_trace.specs.Positions.Standing.{TracePosition, with_state, with_traffic}
-use Rattle.mesh_trace.specs.Positions.Leading.{To_event, LeadsBy}
 use Rattle.mesh_trace.proofs.PositionsLemmas.EventWalks.{tick_walk, hear_walk}
 use Rattle.mesh_trace.proofs.PositionsLemmas.Leading.{at}
 use Rattle.mesh_trace.proofs.PositionsLemmas.TextLines.{heard_one}

@@ -1,9 +1,5 @@
 -- The first line of a text, and those after it.
-use Rattle.std.proofs.Common.{◌≡◌, ℕ, zero, suc, ◌<◌, inl, inr, true, eqb, List, [], ◌∷◌, length, take, drop, refl, sym, ap, ◌∙◌, arith}
-use Rattle.std.specs.Prelude.{slice_index}
-use Rattle.std.proofs.lemmas.Bool.{cases_Bool}
-use Rattle.std.proofs.lemmas.List.{drop_all}
-use Rattle.mesh_trace.specs.Reading.Lines.{lines_of, begun}
+use Rattle.mesh_trace.proofs.Common.{◌≡◌, ℕ, zero, suc, ◌<◌, inl, inr, true, eqb, List, [], ◌∷◌, length, take, drop, refl, sym, ap, ◌∙◌, arith, slice_index, cases_Bool, drop_all, lines_of, begun}
 
 -- up to the first line feed, at place k
 pub lines_at : (text : List ℕ) (k : ℕ) → k < length text → eqb (slice_index text k) 10 ≡ true →

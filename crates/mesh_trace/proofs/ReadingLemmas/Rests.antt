@@ -1,12 +1,7 @@
 -- What follows the front of a line.
-use Rattle.std.proofs.Common.{◌≡◌, ℕ, ◌+◌, ◌-◌, List, ◌∷◌, ◌++◌, length, take, drop, refl, sym, ap, subst, ◌∙◌, arith}
-use Rattle.std.proofs.lemmas.List.{drop-drop, length-drop, take_all}
-use Rattle.mesh_trace.specs.Reading.Lines.{lines_of}
-use Rattle.std.specs.Prelude.{Option, Some, None, IfSome, IsNone}
+use Rattle.mesh_trace.proofs.Common.{◌≡◌, ℕ, ◌+◌, ◌-◌, List, ◌∷◌, ◌++◌, length, take, drop, refl, sym, ap, subst, ◌∙◌, arith, drop-drop, length-drop, take_all, lines_of, Option, Some, None, IfSome, IsNone, heads_equal, lines_from, IsRest}
 use Rattle.std.specs.Borrow.{Bor}
-use Rattle.mesh_atoms.proofs.Lists.{heads_equal}
 use Rattle.mesh_trace.specs.declared.reading.Reader.{Reader}
-use Rattle.mesh_trace.specs.Reading.Readers.{lines_from, IsRest}
 
 pub rest_is : (trace : List ℕ) (reader : Reader) (front line : List ℕ) (more : List (List ℕ)) (result : Option (Bor (List ℕ))) → front ≡ reader.text →
     lines_from trace reader.at ≡ line ∷ more → IfSome result (λ rest. line ≡ front ++ rest.now) →

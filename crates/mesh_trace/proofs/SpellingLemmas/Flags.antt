@@ -1,11 +1,6 @@
 -- The flags of a LINK_METRIC.
-use Rattle.std.proofs.Common.{◌≡◌, ℕ, ◌+◌, ◌-◌, ◌<◌, ◌≤◌, inl, inr, ltb, Bool, true, false, List, [], ◌∷◌, length, refl, sym, ap, subst, ◌∙◌, arith}
-use Rattle.std.specs.Prelude.{slice_index_or}
-use Rattle.std.proofs.lemmas.Bool.{ltb-true, ltb-false, false≢true}
-use Rattle.mesh_atoms.specs.Reading.{has}
-use Rattle.mesh_tlv.specs.Least.{flag}
+use Rattle.mesh_trace.proofs.Common.{◌≡◌, ℕ, ◌+◌, ◌-◌, ◌<◌, ◌≤◌, inl, inr, ltb, Bool, true, false, List, [], ◌∷◌, length, refl, sym, ap, subst, ◌∙◌, arith, slice_index_or, ltb-true, ltb-false, false≢true, has, flag, IsReadOfOther}
 use Rattle.mesh_packet.proofs.FlagSums.{tells_128, tells_64, tells_32, tells_16}
-use Rattle.mesh_wire.specs.Writes.{IsReadOfOther}
 use Rattle.mesh_wire.proofs.Statuses.{apart}
 use Rattle.mesh_wire.specs.Metrics.{MetricKind, Link_in, Link_out, Near_in, Near_out, flag_of}
 

@@ -1,22 +1,6 @@
 -- What a reading of a HELLO looks at, by its rows.
-use Rattle.std.proofs.Common.{arith}
-use Rattle.std.proofs.lemmas.Grind.{common_steps}
-use Rattle.std.proofs.Common.{◌≡◌, ℕ, eqb, inl, inr, List, [], ◌∷◌, refl, sym, subst}
-use Rattle.std.specs.Prelude.{Option, Some, None, IsSome, ◌≢◌}
-use Rattle.std.specs.Option.{option_map}
-use Rattle.std.proofs.lemmas.Bool.{eqb-true, eqb-false}
-use Rattle.mesh_atoms.specs.declared.addr.NetAddr.{NetAddr}
-use Rattle.mesh_atoms.specs.declared.hello.Hello.{Hello}
-use Rattle.mesh_atoms.specs.declared.hello.LocalIf.{LocalIf}
-use Rattle.mesh_packet.specs.Fields.{MessageFields}
-use Rattle.mesh_tlv.specs.Fields.{TlvFields}
-use Rattle.mesh_wire.specs.Hello.{HelloIs, local_value}
+use Rattle.mesh_trace.proofs.Common.{arith, common_steps, ◌≡◌, ℕ, eqb, inl, inr, List, [], ◌∷◌, refl, sym, subst, Option, Some, None, IsSome, ◌≢◌, option_map, eqb-true, eqb-false, NetAddr, Hello, LocalIf, MessageFields, TlvFields, HelloIs, local_value, local_if, HasPart, HasType, OctetIs, HoldsAddress, Keeps, IsReadOfHelloAddress, WritesHello, IsLocal, LooksHello, TellsOnly, SaysHello}
 use Rattle.mesh_wire.specs.HelloRules.{BreaksHello, AddressWidth}
-use Rattle.mesh_wire.specs.Kinds.{local_if}
-use Rattle.mesh_wire.specs.Rows.{HasPart, HasType, OctetIs, HoldsAddress}
-use Rattle.mesh_wire.specs.Rules.{Keeps}
-use Rattle.mesh_wire.specs.Writes.{IsReadOfHelloAddress, WritesHello}
-use Rattle.mesh_trace.specs.Spelling.Looks.{IsLocal, LooksHello, TellsOnly, SaysHello}
 use Rattle.mesh_trace.proofs.SpellingLemmas.OneMessage.{IsSole}
 
 -- a message that keeps the rules has addresses of IPv4

@@ -1,12 +1,5 @@
 -- Items of a list one after the other, and by their fields.
-use Rattle.std.proofs.lemmas.Grind.{common_steps}
-use Rattle.std.proofs.Common.{◌≡◌, ℕ, ◌+◌, ◌<◌, ◌≤◌, ltb, List, ◌∷◌, length, map, sym, subst, ap, ◌∙◌, arith, slice_index_or}
-use Rattle.std.specs.Prelude.{All, Contains, Some, drop, slice_get}
-use Rattle.std.proofs.lemmas.List.{at_drop_more, drop-map}
-use Rattle.std.proofs.lemmas.List.Elements.{All-contains}
-use Rattle.std.proofs.lemmas.Option.{slice_get_within, slice_get-get_or}
-use Rattle.std.proofs.lemmas.Bool.{ltb-true, ltb-false}
-use Rattle.mesh_atoms.proofs.Lists.{contains_at, contains_map as mapped, contains_map_cases as unmapped}
+use Rattle.mesh_trace.proofs.Common.{common_steps, ◌≡◌, ℕ, ◌+◌, ◌<◌, ◌≤◌, ltb, List, ◌∷◌, length, map, sym, subst, ap, ◌∙◌, arith, slice_index_or, All, Contains, Some, drop, slice_get, at_drop_more, drop-map, All-contains, slice_get_within, slice_get-get_or, ltb-true, ltb-false, contains_at, contains_map as mapped, contains_map_cases as unmapped}
 use Rattle.mesh_atoms.proofs.Options.{some_equal}
 
 -- the item at a place, as an index gives it

@@ -1,15 +1,6 @@
 -- A packet that was read, and the one message that octets may be sent for.
-use Rattle.std.proofs.lemmas.Grind.{common_steps}
-use Rattle.std.proofs.Common.{◌≡◌, ℕ, ◌+◌, ◌<◌, Bool, List, [], ◌∷◌, length, refl, ap, subst, ◌∙◌, arith, append_assoc}
-use Rattle.std.specs.Prelude.{slice_range, slice_index, slice_index_or, IsTrue, ◌↔◌}
-use Rattle.mesh_atoms.proofs.Reading.{text_is, stands_next, behind}
-use Rattle.mesh_atoms.proofs.Lists.{heads_equal}
-use Rattle.mesh_packet.specs.declared.packet.Span.{Span}
-use Rattle.mesh_packet.specs.Fields.{MessageFields, PacketFields}
-use Rattle.mesh_packet.specs.Grammar.{SpellsMessage, Spells}
-use Rattle.mesh_packet.proofs.OneReading.{one_packet}
+use Rattle.mesh_trace.proofs.Common.{common_steps, ◌≡◌, ℕ, ◌+◌, ◌<◌, Bool, List, [], ◌∷◌, length, refl, ap, subst, ◌∙◌, arith, append_assoc, slice_range, slice_index, slice_index_or, IsTrue, ◌↔◌, text_is, stands_next, behind, heads_equal, Span, MessageFields, PacketFields, SpellsMessage, Spells, one_packet, HasBriefBlocks, IsSoleMessage, alone}
 use Rattle.mesh_packet.proofs.Packets.{first_stands}
-use Rattle.mesh_wire.specs.Writes.{HasBriefBlocks, IsSoleMessage, alone}
 
 -- the message's octets are those at its span
 pub stands_alone : (m : MessageFields) (s : Span) (bytes : List ℕ) (is : Spells (alone m) (s ∷ []) bytes) → slice_range bytes s.start (s.start + s.len) ≡ is.messages_is.0

@@ -1,13 +1,6 @@
 -- One address block with its TLV block after the other, each address block in the fewest octets.
-use Rattle.std.proofs.Common.{◌≡◌, ℕ, ◌+◌, ◌<◌, ◌≤◌, List, [], ◌∷◌, ◌++◌, length, Option, Some, None, refl, sym, ap, subst, ◌∙◌, arith}
-use Rattle.std.specs.Prelude.{slice_range, IfSome, IsNone, drop, ◌↔◌}
-use Rattle.std.proofs.lemmas.List.{length-append, append_assoc}
-use Rattle.mesh_atoms.proofs.Reading.{next_is, text_is}
-use Rattle.mesh_tlv.specs.Items.{SpellsItems}
-use Rattle.mesh_packet.specs.Fields.{BlockFields, MessageFields}
-use Rattle.mesh_packet.specs.Grammar.{SpellsPair, SpellsMessage}
+use Rattle.mesh_trace.proofs.Common.{◌≡◌, ℕ, ◌+◌, ◌<◌, ◌≤◌, List, [], ◌∷◌, ◌++◌, length, Option, Some, None, refl, sym, ap, subst, ◌∙◌, arith, slice_range, IfSome, IsNone, drop, ◌↔◌, length-append, append_assoc, next_is, text_is, SpellsItems, BlockFields, MessageFields, SpellsPair, SpellsMessage, SpellsBriefly, HasBriefBlocks}
 use Rattle.mesh_wire.specs.Sizes.{size_before}
-use Rattle.mesh_wire.specs.Writes.{SpellsBriefly, HasBriefBlocks}
 use Rattle.mesh_wire.proofs.Behind.{head_before}
 
 pub given : {A : Type 0} (found : Option A) (x : A) (P : A → Type 0) → found ≡ Some x → IfSome found P → P x

@@ -1,19 +1,7 @@
 -- When rows of a HELLO are the same, and when HELLOs are.
-use Rattle.std.proofs.Common.{arith}
-use Rattle.std.proofs.lemmas.Grind.{common_steps}
-use Rattle.std.proofs.Common.{◌≡◌, Bool, true, false, eqb, ◌&&◌, refl, ap, sym, ◌∙◌, Decides}
-use Rattle.std.specs.Prelude.{Option}
-use Rattle.std.specs.Option.{option_eq}
-use Rattle.std.specs.Cmp.{booleans_Decides}
+use Rattle.mesh_trace.proofs.Common.{arith, common_steps, ◌≡◌, Bool, true, false, eqb, ◌&&◌, refl, ap, sym, ◌∙◌, Decides, Option, option_eq, booleans_Decides, false≢true, Decides-and, Decides-like, NetAddr, Metric, HelloRow, LinkStatus, LocalIf}
 use Rattle.std.proofs.Math.Bool.{beq}
-use Rattle.std.proofs.lemmas.Bool.{false≢true}
-use Rattle.std.proofs.lemmas.Bool.Decides.{Decides-and, Decides-like}
-use Rattle.mesh_atoms.specs.declared.addr.NetAddr.{NetAddr}
-use Rattle.mesh_atoms.specs.declared.codes.metric.Metric.{Metric}
-use Rattle.mesh_atoms.specs.declared.hello.HelloRow.{HelloRow}
-use Rattle.mesh_atoms.specs.declared.hello.LinkStatus.{LinkStatus}
 use Rattle.mesh_atoms.specs.declared.hello.LinkStatus.TheVariants as link
-use Rattle.mesh_atoms.specs.declared.hello.LocalIf.{LocalIf}
 use Rattle.mesh_atoms.specs.declared.hello.LocalIf.TheVariants as local
 use Rattle.mesh_atoms.specs.declared.hello.Metrics.{Metrics}
 use Rattle.mesh_atoms.specs.declared.hello.Mpr.{Mpr}

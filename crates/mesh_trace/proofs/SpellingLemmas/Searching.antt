@@ -1,15 +1,9 @@
 -- The search for the row of an address.
-use Rattle.std.proofs.Common.{◌≡◌, ◌≢◌, ℕ, ◌+◌, inl, inr, sym, ◌∙◌, subst, arith, List, Ok, Err, slice_index_or, Contains}
-use Rattle.std.specs.List.{AllPairs}
+use Rattle.mesh_trace.proofs.Common.{◌≡◌, ◌≢◌, ℕ, ◌+◌, inl, inr, sym, ◌∙◌, subst, arith, List, Ok, Err, slice_index_or, Contains, AllPairs, cases_lt, searchable_from_sorted, NetAddr, HelloRow, IsBefore, net_cmp}
 use Rattle.std.specs.List.Sorted.{IsSortedBy, IsBinarySearchResult}
 use Rattle.std.specs.Ordering.{is_lt}
 use Rattle.std.specs.declared.cmp.Ordering.TheVariants.{Less, Equal, Greater}
-use Rattle.std.proofs.lemmas.Bool.{cases_lt}
 use Rattle.std.proofs.lemmas.Cmp.{tied_itself}
-use Rattle.std.proofs.lemmas.List.Sorted.{searchable_from_sorted}
-use Rattle.mesh_atoms.specs.declared.addr.NetAddr.{NetAddr}
-use Rattle.mesh_atoms.specs.declared.hello.HelloRow.{HelloRow}
-use Rattle.mesh_atoms.specs.Nodes.{IsBefore, net_cmp}
 use Rattle.mesh_atoms.proofs.NetOrder.{net_total, net_exact}
 use Rattle.mesh_routes.proofs.HopsLemmas.Searching.{not_less}
 

@@ -1,10 +1,8 @@
 -- Which place is behind what was read, and what isn't spelled in the fewest octets.
-use Rattle.std.proofs.Common.{◌≡◌, ℕ, zero, suc, ◌<◌, ◌≤◌, sym, ap, subst, refl, arith}
-use Rattle.std.specs.Prelude.{Result, Ok, Err}
+use Rattle.mesh_trace.proofs.Common.{◌≡◌, ℕ, zero, suc, ◌<◌, ◌≤◌, sym, ap, subst, refl, arith, Result, Ok, Err, Fails}
 use Rattle.mesh_atoms.specs.declared.refusal.Refusal.{Refusal}
 use Rattle.mesh_atoms.specs.declared.refusal.DecodeFault.{DecodeFault}
 use Rattle.mesh_atoms.specs.declared.refusal.DecodeFault.TheVariants.{Refused}
-use Rattle.mesh_atoms.specs.Reading.{Fails}
 
 -- the second of a pair that was given
 pub given_place : {X E : Type 0} (tlvs found : X) (place next : ℕ) → ◌≡◌ {A = Result (X × ℕ) E} (Ok (tlvs, place)) (Ok (found, next)) → next ≡ place

@@ -1,17 +1,6 @@
 -- What a reading of a TC looks at, and what octets may be sent for one.
-use Rattle.std.proofs.Common.{arith}
-use Rattle.std.proofs.lemmas.Grind.{common_steps}
-use Rattle.std.proofs.Common.{◌≡◌, ℕ, List}
-use Rattle.std.specs.Prelude.{None}
-use Rattle.mesh_atoms.specs.declared.addr.NetAddr.{NetAddr}
-use Rattle.mesh_atoms.specs.declared.tc.Tc.{Tc}
-use Rattle.mesh_packet.specs.Fields.{MessageFields}
-use Rattle.mesh_tlv.specs.Fields.{TlvFields}
-use Rattle.mesh_wire.specs.Rows.{HasPart}
-use Rattle.mesh_wire.specs.Rules.{Keeps}
+use Rattle.mesh_trace.proofs.Common.{arith, common_steps, ◌≡◌, ℕ, List, None, NetAddr, Tc, MessageFields, TlvFields, HasPart, Keeps, IsReadOfTcAddress, WritesTc, LooksTc, TellsOnly, SaysTc}
 use Rattle.mesh_wire.specs.TcRules.{BreaksTc, AddressWidth}
-use Rattle.mesh_wire.specs.Writes.{IsReadOfTcAddress, WritesTc}
-use Rattle.mesh_trace.specs.Spelling.Looks.{LooksTc, TellsOnly, SaysTc}
 use Rattle.mesh_trace.proofs.SpellingLemmas.Hellos.{four_octets}
 use Rattle.mesh_trace.proofs.SpellingLemmas.OneMessage.{IsSole}
 

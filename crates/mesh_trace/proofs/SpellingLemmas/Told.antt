@@ -1,13 +1,5 @@
 -- What is said of addresses, block by block and part by part.
-use Rattle.std.proofs.lemmas.Grind.{common_steps}
-use Rattle.std.proofs.Common.{◌≤◌, List, [], ◌∷◌, sym, subst, arith}
-use Rattle.std.specs.Prelude.{All, Contains}
-use Rattle.std.proofs.lemmas.List.Elements.{All-nil, All-cons}
-use Rattle.mesh_addr.specs.declared.records.RawAddr.{RawAddr}
-use Rattle.mesh_addr.specs.Grammar.{AreRaw}
-use Rattle.mesh_packet.specs.Fields.{BlockFields, MessageFields}
-use Rattle.mesh_tlv.specs.Fields.{AddrTlvFields}
-use Rattle.mesh_trace.specs.Spelling.Looks.{Saying, IsSaying, SaysOnly, TellsOnly}
+use Rattle.mesh_trace.proofs.Common.{common_steps, ◌≤◌, List, [], ◌∷◌, sym, subst, arith, All, Contains, All-nil, All-cons, RawAddr, AreRaw, BlockFields, MessageFields, AddrTlvFields, Saying, IsSaying, SaysOnly, TellsOnly}
 
 -- addresses of four octets have prefixes of at most 32 bits
 pub raw_narrow : (addrs : List RawAddr) → AreRaw 4 addrs → All (λ (a : RawAddr). a.prefix ≤ 32) addrs

@@ -1,4 +1,4 @@
-use Rattle.std.proofs.Common.{length}
+use Rattle.mesh_addr.proofs.Common.{length}
 use Rattle.mesh_addr.proofs.choices.+have_prefix.Given as goal
 
 abbrev pub decreases-have_prefix : goal.decreases-have_prefix

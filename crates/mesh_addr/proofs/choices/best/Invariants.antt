@@ -1,4 +1,4 @@
-use Rattle.mesh_addr.specs.Spelling.{IsBestOf, HasHeadBelow}
+use Rattle.mesh_addr.proofs.Common.{IsBestOf, HasHeadBelow}
 use Rattle.mesh_addr.proofs.choices.best.Given as goal
 
 abbrev pub invariant-loop-head : goal.invariant-loop-head

@@ -1,4 +1,4 @@
-use Rattle.std.proofs.Common.{arith}
+use Rattle.mesh_addr.proofs.Common.{arith}
 use Rattle.mesh_addr.proofs.Choosing.{best_of_head}
 use Rattle.mesh_addr.proofs.choices.best_with_head.Goals as goal
 

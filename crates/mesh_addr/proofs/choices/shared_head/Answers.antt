@@ -1,4 +1,4 @@
-use Rattle.std.proofs.Common.{◌≡◌, ℕ, take}
+use Rattle.mesh_addr.proofs.Common.{◌≡◌, ℕ, take}
 use Rattle.mesh_addr.proofs.Limits.{is_same, limit_found, take_less}
 use Rattle.mesh_addr.proofs.choices.shared_head.Goals as goal
 

@@ -1,4 +1,4 @@
-use Rattle.std.proofs.Common.{◌≡◌, ℕ, ◌≤◌, take}
+use Rattle.mesh_addr.proofs.Common.{◌≡◌, ℕ, ◌≤◌, take}
 use Rattle.mesh_addr.proofs.choices.shared_head.Given as goal
 
 abbrev pub invariant-loop-len : goal.invariant-loop-len

@@ -1,5 +1,4 @@
-use Rattle.std.proofs.Common.{◌≡◌, ◌≤◌, ℕ, arith}
-use Rattle.mesh_addr.specs.Spelling.{last_octets}
+use Rattle.mesh_addr.proofs.Common.{◌≡◌, ◌≤◌, ℕ, arith, last_octets}
 use Rattle.mesh_addr.proofs.Limits.{is_same, limit_found, tails_less}
 use Rattle.mesh_addr.proofs.choices.shared_tail.Goals as goal
 

@@ -1,5 +1,4 @@
-use Rattle.std.proofs.Common.{◌≡◌, ℕ, ◌≤◌}
-use Rattle.mesh_addr.specs.Spelling.{last_octets}
+use Rattle.mesh_addr.proofs.Common.{◌≡◌, ℕ, ◌≤◌, last_octets}
 use Rattle.mesh_addr.proofs.choices.shared_tail.Given as goal
 
 abbrev pub invariant-loop-len : goal.invariant-loop-len

@@ -1,7 +1,4 @@
-use Rattle.std.proofs.Common.{◌≤◌, ℕ, take, sym, ◌∙◌, arith}
-use Rattle.std.specs.Prelude.{replicate}
-use Rattle.std.proofs.lemmas.List.{take-replicate}
-use Rattle.mesh_addr.specs.Spelling.{last_octets, EndsInZeros}
+use Rattle.mesh_addr.proofs.Common.{◌≤◌, ℕ, take, sym, ◌∙◌, arith, replicate, take-replicate, last_octets, EndsInZeros}
 use Rattle.mesh_addr.proofs.Limits.{is_same, is_other, one_less, limit_found, zeros_less}
 use Rattle.mesh_addr.proofs.choices.zero_tail.Goals as goal
 

@@ -1,4 +1,4 @@
-use Rattle.std.proofs.Common.{arith}
+use Rattle.mesh_addr.proofs.Common.{arith}
 use Rattle.mesh_addr.proofs.Loops.{part_short, part_passed, parts_done, next_part}
 use Rattle.mesh_addr.proofs.fields.after_parts.Goals as goal
 

@@ -1,5 +1,4 @@
-use Rattle.std.proofs.Common.{◌≡◌, ◌+◌, ◌*◌, ◌-◌, ◌≤◌}
-use Rattle.mesh_addr.specs.Reading.{parts_end}
+use Rattle.mesh_addr.proofs.Common.{◌≡◌, ◌+◌, ◌*◌, ◌-◌, ◌≤◌, parts_end}
 use Rattle.mesh_addr.proofs.fields.after_parts.Given as goal
 
 abbrev pub invariant-loop : goal.invariant-loop

@@ -1,7 +1,4 @@
-use Rattle.std.proofs.Common.{arith, rules}
-use Rattle.mesh_addr.specs.Reading.{tail_at}
-use Rattle.std.proofs.lemmas.List.{take-replicate}
-use Rattle.std.specs.Prelude.{ℕ}
+use Rattle.mesh_addr.proofs.Common.{arith, rules, tail_at, take-replicate, ℕ}
 use Rattle.mesh_addr.proofs.fields.tail.Goals as goal
 
 pub returns-then-flags-ne0-2-clause-exact : goal.returns-then-flags-ne0-2-clause-exact

@@ -1,8 +1,4 @@
-use Rattle.std.proofs.Common.{◌≡◌, ℕ, ◌+◌, List, ◌++◌, ◌∷◌, [], sym, ap, refl, ◌∙◌, arith, length, length-take}
-use Rattle.std.specs.Prelude.{slice_range, drop}
-use Rattle.std.proofs.lemmas.Result.{err_from_is_err_and}
-use Rattle.mesh_addr.specs.Shown.{shape_of}
-use Rattle.mesh_addr.specs.Reading.{addr_of, mid_of}
+use Rattle.mesh_addr.proofs.Common.{◌≡◌, ℕ, ◌+◌, List, ◌++◌, ◌∷◌, [], sym, ap, refl, ◌∙◌, arith, length, length-take, slice_range, drop, err_from_is_err_and, shape_of, addr_of, mid_of}
 use Rattle.mesh_addr.proofs.Loops.{goes_on, ends, is_done, next_part}
 use Rattle.mesh_addr.proofs.reader.addresses.Goals as goal
 

@@ -1,6 +1,4 @@
-use Rattle.std.proofs.Common.{◌≡◌, ◌+◌, ◌*◌, ◌-◌, ◌≤◌}
-use Rattle.mesh_addr.specs.Shown.{shape_of}
-use Rattle.mesh_addr.specs.Reading.{addrs_at}
+use Rattle.mesh_addr.proofs.Common.{◌≡◌, ◌+◌, ◌*◌, ◌-◌, ◌≤◌, shape_of, addrs_at}
 use Rattle.mesh_addr.proofs.Loops.{with_front}
 use Rattle.mesh_addr.proofs.reader.addresses.Given as goal
 

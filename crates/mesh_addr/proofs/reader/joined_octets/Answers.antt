@@ -1,5 +1,4 @@
-use Rattle.std.proofs.Common.{[], ◌++◌, refl, ap, ◌∙◌, append_assoc, arith, length-append}
-use Rattle.mesh_addr.specs.Grammar.{padded}
+use Rattle.mesh_addr.proofs.Common.{[], ◌++◌, refl, ap, ◌∙◌, append_assoc, arith, length-append, padded}
 use Rattle.mesh_addr.proofs.reader.joined_octets.Goals as goal
 
 pub returns : goal.returns

@@ -1,7 +1,4 @@
-use Rattle.std.proofs.Common.{◌<◌, ◌≤◌, arith}
-use Rattle.std.specs.Prelude.{slice_range}
-use Rattle.std.proofs.lemmas.Result.{IfOk-weaker}
-use Rattle.mesh_addr.specs.Grammar.{IsWritable, SpellsBlock}
+use Rattle.mesh_addr.proofs.Common.{◌<◌, ◌≤◌, arith, slice_range, IfOk-weaker, IsWritable, SpellsBlock}
 use Rattle.mesh_addr.proofs.Writable.{spelled_writable}
 use Rattle.mesh_addr.proofs.Calls.{IsRead, spelled_or_refused, only, first}
 use Rattle.mesh_addr.proofs.reader.read_addresses.Goals as goal

@@ -1,4 +1,4 @@
-use Rattle.std.proofs.Common.{length}
+use Rattle.mesh_addr.proofs.Common.{length}
 use Rattle.mesh_addr.proofs.writer.+write_each_prefix.Given as goal
 
 abbrev pub decreases-write_each_prefix : goal.decreases-write_each_prefix

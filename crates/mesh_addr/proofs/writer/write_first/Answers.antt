@@ -1,8 +1,4 @@
-use Rattle.std.proofs.Common.{◌≡◌, ◌++◌, ap, ◌∙◌}
-use Rattle.std.proofs.lemmas.Result.{on_ok_weaker}
-use Rattle.mesh_addr.specs.declared.choices.PrefixForm.{PrefixForm}
-use Rattle.mesh_addr.specs.Least.{WroteLeast}
-use Rattle.mesh_addr.specs.Spelling.{text_of, form_of}
+use Rattle.mesh_addr.proofs.Common.{◌≡◌, ◌++◌, ap, ◌∙◌, on_ok_weaker, PrefixForm, WroteLeast, text_of, form_of}
 use Rattle.mesh_addr.proofs.Fewest.{least_of_first}
 use Rattle.mesh_addr.proofs.writer.write_first.Goals as goal
 

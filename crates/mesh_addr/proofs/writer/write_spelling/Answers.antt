@@ -1,5 +1,4 @@
-use Rattle.std.proofs.lemmas.Result.{on_err_weaker}
-use Rattle.mesh_addr.specs.Least.{Grew}
+use Rattle.mesh_addr.proofs.Common.{on_err_weaker, Grew}
 use Rattle.mesh_addr.proofs.Outcomes.{grew_on}
 use Rattle.mesh_addr.proofs.writer.write_spelling.Goals as goal
 

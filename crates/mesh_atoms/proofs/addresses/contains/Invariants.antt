@@ -1,4 +1,4 @@
-use Rattle.std.proofs.Common.{◌≡◌, ℕ, ◌<◌, get_or}
+use Rattle.mesh_atoms.proofs.Common.{◌≡◌, ℕ, ◌<◌, get_or}
 use Rattle.mesh_atoms.proofs.addresses.contains.Given as goal
 
 abbrev pub invariant-loop-other : goal.invariant-loop-other

@@ -1,6 +1,4 @@
-use Rattle.std.proofs.Common.{◌≡◌, drop}
-use Rattle.std.specs.List.{list_all}
-use Rattle.mesh_atoms.specs.Settings.{is_name_octet}
+use Rattle.mesh_atoms.proofs.Common.{◌≡◌, drop, list_all, is_name_octet}
 use Rattle.mesh_atoms.proofs.literals.are_name_octets.Given as goal
 
 abbrev pub invariant-loop-octet : goal.invariant-loop-octet

@@ -1,4 +1,4 @@
-use Rattle.std.proofs.Common.{◌≡◌, ◌≤◌, drop}
+use Rattle.mesh_atoms.proofs.Common.{◌≡◌, ◌≤◌, drop}
 use Rattle.mesh_atoms.specs.Literals.{digits_of}
 use Rattle.mesh_atoms.proofs.literals.digits_of.Given as goal
 

@@ -1,4 +1,4 @@
-use Rattle.std.proofs.Common.{◌≡◌, take}
+use Rattle.mesh_atoms.proofs.Common.{◌≡◌, take}
 use Rattle.mesh_atoms.proofs.quality.copy_senders.Given as goal
 
 abbrev pub invariant-loop-sender : goal.invariant-loop-sender

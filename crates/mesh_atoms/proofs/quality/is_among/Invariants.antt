@@ -1,6 +1,4 @@
-use Rattle.std.proofs.Common.{◌≡◌, drop}
-use Rattle.std.specs.List.{list_any}
-use Rattle.mesh_atoms.specs.Base.{addr_eq}
+use Rattle.mesh_atoms.proofs.Common.{◌≡◌, drop, list_any, addr_eq}
 use Rattle.mesh_atoms.proofs.quality.is_among.Given as goal
 
 abbrev pub invariant-loop-other : goal.invariant-loop-other

@@ -1,6 +1,4 @@
-use Rattle.std.proofs.Common.{◌≡◌, ◌≤◌, drop, min, map}
-use Rattle.std.specs.List.{fold, filter, list_any}
-use Rattle.mesh_atoms.specs.Base.{addr_eq}
+use Rattle.mesh_atoms.proofs.Common.{◌≡◌, ◌≤◌, drop, min, map, fold, filter, list_any, addr_eq}
 use Rattle.mesh_atoms.specs.Quality.{quality_of, quality_at}
 use Rattle.mesh_atoms.proofs.quality.quality_at.Given as goal
 

@@ -1,5 +1,4 @@
-use Rattle.std.proofs.Common.{◌≡◌, ◌≤◌, drop, cond, nat_le}
-use Rattle.std.specs.List.{fold}
+use Rattle.mesh_atoms.proofs.Common.{◌≡◌, ◌≤◌, drop, cond, nat_le, fold}
 use Rattle.mesh_atoms.proofs.quality.sender_quality.Given as goal
 
 abbrev pub invariant-loop-step : goal.invariant-loop-step

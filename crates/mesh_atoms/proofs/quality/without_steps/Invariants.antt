@@ -1,4 +1,4 @@
-use Rattle.std.proofs.Common.{◌≡◌, take, map, All, []}
+use Rattle.mesh_atoms.proofs.Common.{◌≡◌, take, map, All, []}
 use Rattle.mesh_atoms.proofs.quality.without_steps.Given as goal
 
 abbrev pub invariant-loop-sender : goal.invariant-loop-sender

@@ -1,4 +1,4 @@
-use Rattle.std.proofs.Common.{◌≡◌, take}
+use Rattle.mesh_atoms.proofs.Common.{◌≡◌, take}
 use Rattle.mesh_atoms.proofs.settings.copy_interfaces.Given as goal
 
 abbrev pub invariant-loop-interface : goal.invariant-loop-interface

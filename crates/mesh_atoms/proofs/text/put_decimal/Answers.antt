@@ -1,5 +1,4 @@
-use Rattle.std.proofs.Common.{◌≡◌, ℕ, suc, ◌+◌, ◌-◌, refl, ◌∙◌, arith}
-use Rattle.std.proofs.Math.ListN.{length-set}
+use Rattle.mesh_atoms.proofs.Common.{◌≡◌, ℕ, suc, ◌+◌, ◌-◌, refl, ◌∙◌, arith, length-set}
 use Rattle.mesh_atoms.proofs.Digits.{digits_before-none, digits_before-more, room_before, drop-stored, take-stored}
 use Rattle.mesh_atoms.proofs.text.put_decimal.Goals as goal
 

@@ -1,4 +1,4 @@
-use Rattle.std.proofs.Common.{◌≡◌, ◌+◌, ◌<◌, ◌≤◌, ◌^◌, length, drop, decimal}
+use Rattle.mesh_atoms.proofs.Common.{◌≡◌, ◌+◌, ◌<◌, ◌≤◌, ◌^◌, length, drop, decimal}
 use Rattle.mesh_atoms.proofs.Digits.{digits_before}
 use Rattle.mesh_atoms.proofs.text.put_decimal.Given as goal
 

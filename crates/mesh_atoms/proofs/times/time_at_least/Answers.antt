@@ -1,5 +1,4 @@
-use Rattle.std.proofs.Common.{◌<◌, refl, sym, arith}
-use Rattle.mesh_atoms.specs.Codes.Codes.{IsSentCode, time_value}
+use Rattle.mesh_atoms.proofs.Common.{◌<◌, refl, sym, arith, IsSentCode, time_value}
 use Rattle.mesh_atoms.proofs.CodesLemmas.CodeLaws.{time-le}
 use Rattle.mesh_atoms.proofs.times.time_at_least.Goals as goal
 

@@ -1,5 +1,4 @@
-use Rattle.std.proofs.Common.{◌<◌, refl, arith}
-use Rattle.mesh_atoms.specs.Codes.Codes.{IsSentCode, time_value}
+use Rattle.mesh_atoms.proofs.Common.{◌<◌, refl, arith, IsSentCode, time_value}
 use Rattle.mesh_atoms.proofs.validity.least_code.Goals as goal
 
 pub returns-in-None : goal.returns-in-None

@@ -1,7 +1,4 @@
-use Rattle.std.proofs.Common.{List, [], ◌∷◌, ◌++◌, sym, ap, ◌∙◌}
-use Rattle.mesh_atoms.specs.declared.addr.Addr4.{Addr4}
-use Rattle.mesh_topo.specs.declared.advertised.rows.Selector.{Selector}
-use Rattle.mesh_routes.proofs.Passes.{adds_one}
+use Rattle.mesh_bases.proofs.Common.{List, [], ◌∷◌, ◌++◌, sym, ap, ◌∙◌, Addr4, Selector, adds_one}
 use Rattle.mesh_bases.proofs.Selectors.{one_selector}
 use Rattle.mesh_bases.proofs.advertise.put_selector.Goals as goal
 

@@ -1,11 +1,4 @@
-use Rattle.std.proofs.Common.{ℕ, sym, arith, [], List, subst}
-use Rattle.mesh_atoms.specs.declared.addr.Addr4.{Addr4}
-use Rattle.mesh_atoms.specs.declared.tuples.Neighbour.{Neighbour}
-use Rattle.mesh_topo.specs.declared.advertised.rows.Selector.{Selector}
-use Rattle.mesh_routes.specs.Passes.{Adds, Given}
-use Rattle.mesh_routes.proofs.Passes.{adds_start, adds_more, adds_all}
-use Rattle.mesh_bases.specs.Selecting.{IsSelectorBy}
-use Rattle.mesh_atoms.proofs.Lists.{none_within}
+use Rattle.mesh_bases.proofs.Common.{ℕ, sym, arith, [], List, subst, Addr4, Neighbour, Selector, Adds, Given, adds_start, adds_more, adds_all, IsSelectorBy, none_within}
 use Rattle.mesh_bases.proofs.advertise.selectors_of.Goals as goal
 use Rattle.mesh_bases.proofs.advertise.selectors_of.Goals.{in-Some+in_ok-put_selector, in_default}
 

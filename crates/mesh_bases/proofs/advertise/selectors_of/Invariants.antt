@@ -1,6 +1,4 @@
-use Rattle.std.proofs.Common.{[]}
-use Rattle.mesh_routes.specs.Passes.{Adds, Given}
-use Rattle.mesh_bases.specs.Selecting.{IsSelectorBy}
+use Rattle.mesh_bases.proofs.Common.{[], Adds, Given, IsSelectorBy}
 use Rattle.mesh_bases.proofs.advertise.selectors_of.Given as goal
 
 abbrev pub invariant-loop-place : goal.invariant-loop-place

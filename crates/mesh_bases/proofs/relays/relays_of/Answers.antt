@@ -1,11 +1,4 @@
-use Rattle.std.proofs.Common.{◌≡◌, ◌+◌, ℕ, List, length, sym, subst, ap, refl, arith, inl, inr, ◌∙◌}
-use Rattle.std.specs.Prelude.{slice_get, Some}
-use Rattle.std.proofs.lemmas.List.{length_push}
-use Rattle.mesh_atoms.specs.declared.addr.Addr4.{Addr4}
-use Rattle.mesh_atoms.specs.declared.graphs.NeighbourGraph.{NeighbourGraph}
-use Rattle.mesh_atoms.specs.declared.settings.RouterSettings.{RouterSettings}
-use Rattle.mesh_atoms.specs.declared.tuples.Relays.{Relays}
-use Rattle.mesh_atoms.specs.RelayGraphs.{AreRelaysOf, IsFloodingGraph, IsRoutingGraph}
+use Rattle.mesh_bases.proofs.Common.{◌≡◌, ◌+◌, ℕ, List, length, sym, subst, ap, refl, arith, inl, inr, ◌∙◌, slice_get, Some, length_push, Addr4, NeighbourGraph, RouterSettings, Relays, AreRelaysOf, IsFloodingGraph, IsRoutingGraph}
 use Rattle.mesh_bases.proofs.Pushed.{at_pushed}
 use Rattle.mesh_bases.proofs.relays.relays_of.Goals as goal
 

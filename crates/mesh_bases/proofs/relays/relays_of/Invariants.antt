@@ -1,10 +1,4 @@
-use Rattle.std.proofs.Common.{◌≡◌, ℕ, List, length, Some}
-use Rattle.std.specs.Prelude.{slice_get}
-use Rattle.mesh_atoms.specs.declared.addr.Addr4.{Addr4}
-use Rattle.mesh_atoms.specs.declared.graphs.NeighbourGraph.{NeighbourGraph}
-use Rattle.mesh_atoms.specs.RelayGraphs.{AreRelaysOf, IsFloodingGraph}
-use Rattle.mesh_atoms.specs.Sound.{SoundNeighbourhood}
-use Rattle.mesh_atoms.specs.State.{State}
+use Rattle.mesh_bases.proofs.Common.{◌≡◌, ℕ, List, length, Some, slice_get, Addr4, NeighbourGraph, AreRelaysOf, IsFloodingGraph, SoundNeighbourhood, State}
 use Rattle.mesh_bases.proofs.relays.relays_of.Given as goal
 
 abbrev pub invariant-loop-iface : goal.invariant-loop-iface

@@ -1,6 +1,6 @@
 use Rattle.mesh_bases.proofs.Chosen.{chosen}
 use Rattle.mesh_bases.proofs.relays.relays_on.Goals as goal
-use Rattle.mesh_atoms.proofs.Options.{if_ok_weaker}
+use Rattle.mesh_bases.proofs.Common.{if_ok_weaker}
 
 pub returns-clause-routing : goal.returns-clause-routing
 returns-clause-routing g c = λ none.

@@ -1,8 +1,4 @@
-use Rattle.std.proofs.Common.{ap, subst, sym, List, ◌∙◌, ℕ}
-use Rattle.mesh_atoms.specs.declared.tc.TcRow.{TcRow}
-use Rattle.mesh_atoms.specs.Advertised.{AreTcRows}
-use Rattle.mesh_atoms.specs.State.{Bases}
-use Rattle.mesh_machine.specs.Machine.{no_relays}
+use Rattle.mesh_bases.proofs.Common.{ap, subst, sym, List, ◌∙◌, ℕ, TcRow, AreTcRows, Bases, no_relays}
 use Rattle.mesh_bases.proofs.start.opening.Goals as goal
 
 pub returns : goal.returns

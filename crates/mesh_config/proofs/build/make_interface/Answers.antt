@@ -1,5 +1,4 @@
-use Rattle.mesh_config.specs.Checks.Compared.{stated_lists}
-use Rattle.mesh_config.specs.Senders.{stated_steps}
+use Rattle.mesh_config.proofs.Common.{stated_lists, stated_steps}
 use Rattle.mesh_config.proofs.Apart.{senders_apart}
 use Rattle.mesh_config.proofs.Qualities.{senders_same}
 use Rattle.mesh_config.proofs.build.make_interface.Goals as goal

@@ -1,10 +1,4 @@
-use Rattle.std.proofs.Common.{◌≡◌, ◌+◌, length, arith}
-use Rattle.mesh_atoms.proofs.Lists.{length_pushed}
-use Rattle.mesh_config.specs.Checks.Compared.{stated_lists}
-use Rattle.mesh_config.specs.Fields.{interface_fields, thresholds_of, threshold_pair}
-use Rattle.mesh_config.specs.Senders.{with_steps, stated_steps, HasSenders, HasQualities}
-use Rattle.mesh_config.specs.declared.stated.stated.StatedInterface.{StatedInterface}
-use Rattle.mesh_config.specs.Stated.Router.{stated_interface_fields}
+use Rattle.mesh_config.proofs.Common.{◌≡◌, ◌+◌, length, arith, length_pushed, stated_lists, interface_fields, thresholds_of, threshold_pair, with_steps, stated_steps, HasSenders, HasQualities, StatedInterface, stated_interface_fields}
 use Rattle.mesh_config.proofs.Builds.{each_more, maps_more}
 use Rattle.mesh_config.proofs.build.make_interfaces.Goals as goal
 

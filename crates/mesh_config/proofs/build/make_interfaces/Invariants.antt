@@ -1,9 +1,4 @@
-use Rattle.std.proofs.Common.{◌≡◌, take, map, length}
-use Rattle.mesh_config.specs.Checks.Compared.{stated_lists}
-use Rattle.mesh_config.specs.Fields.{interface_fields, thresholds_of, threshold_pair}
-use Rattle.mesh_config.specs.declared.stated.stated.StatedInterface.{StatedInterface}
-use Rattle.mesh_config.specs.Stated.Router.{stated_interface_fields}
-use Rattle.mesh_config.specs.Senders.{HaveSenders, with_steps, stated_steps, HaveQualities}
+use Rattle.mesh_config.proofs.Common.{◌≡◌, take, map, length, stated_lists, interface_fields, thresholds_of, threshold_pair, StatedInterface, stated_interface_fields, HaveSenders, with_steps, stated_steps, HaveQualities}
 use Rattle.mesh_config.proofs.build.make_interfaces.Given as goal
 
 abbrev pub invariant-loop-iface : goal.invariant-loop-iface

@@ -1,10 +1,5 @@
-use Rattle.std.proofs.Common.{◌≡◌, ◌+◌, length, arith, sym, subst}
-use Rattle.mesh_atoms.specs.declared.settings.RouterSettings.{RouterSettings}
-use Rattle.mesh_atoms.proofs.Lists.{length_pushed}
-use Rattle.mesh_config.specs.Checks.Compared.{stated_lists}
-use Rattle.mesh_config.specs.Fields.{settings_parts, stated_parts, IsClear}
+use Rattle.mesh_config.proofs.Common.{◌≡◌, ◌+◌, length, arith, sym, subst, RouterSettings, length_pushed, stated_lists, settings_parts, stated_parts, IsClear, with_steps, stated_steps, HaveSenders, HaveQualities}
 use Rattle.mesh_config.proofs.Builds.{each_more, maps_more, clear_at}
-use Rattle.mesh_config.specs.Senders.{with_steps, stated_steps, HaveSenders, HaveQualities}
 use Rattle.mesh_config.proofs.build.make_routers.Goals as goal
 
 pub make_router-requires-clause-clear : goal.make_router-requires-clause-clear

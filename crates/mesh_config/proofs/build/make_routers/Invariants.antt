@@ -1,7 +1,4 @@
-use Rattle.std.proofs.Common.{◌≡◌, take, map, length}
-use Rattle.mesh_config.specs.Checks.Compared.{stated_lists}
-use Rattle.mesh_config.specs.Fields.{settings_parts, stated_parts}
-use Rattle.mesh_config.specs.Senders.{HaveAllSenders, with_steps, stated_steps, HaveAllQualities}
+use Rattle.mesh_config.proofs.Common.{◌≡◌, take, map, length, stated_lists, settings_parts, stated_parts, HaveAllSenders, with_steps, stated_steps, HaveAllQualities}
 use Rattle.mesh_config.proofs.build.make_routers.Given as goal
 
 abbrev pub invariant-loop-at : goal.invariant-loop-at

@@ -1,16 +1,4 @@
-use Rattle.std.proofs.Common.{◌≡◌, List, [], map, length, true, None, Ok, refl, sym, ap, ◌∙◌, subst}
-use Rattle.mesh_atoms.specs.declared.settings.RadioArc.{RadioArc}
-use Rattle.mesh_atoms.specs.Settings.{are_distinct, ends_eq}
-use Rattle.mesh_config.specs.declared.stated.stated.StatedRouter.{StatedRouter}
-use Rattle.mesh_config.specs.declared.stated.stated.StatedArc.{StatedArc}
-use Rattle.mesh_config.specs.Keys.Faults.{first}
-use Rattle.mesh_config.specs.Built.{stated_visits}
-use Rattle.mesh_config.specs.Checks.Checks.{duplicates, joins}
-use Rattle.mesh_config.specs.Checks.Compared.{stated_duplicates, stated_identifiers, arc_places, ends_of, stated_lists}
-use Rattle.mesh_config.specs.Stated.Scenario.{stated_arc_fields}
-use Rattle.mesh_config.specs.Fields.{settings_parts, stated_parts}
-use Rattle.mesh_atoms.specs.declared.admit.QualityStep.{QualityStep}
-use Rattle.mesh_config.specs.Senders.{HaveAllSenders, AddressLists, addr_lists, with_steps, stated_steps, HaveAllQualities}
+use Rattle.mesh_config.proofs.Common.{◌≡◌, List, [], map, length, true, None, Ok, refl, sym, ap, ◌∙◌, subst, RadioArc, are_distinct, ends_eq, StatedRouter, StatedArc, first, stated_visits, duplicates, joins, stated_duplicates, stated_identifiers, arc_places, ends_of, stated_lists, stated_arc_fields, settings_parts, stated_parts, QualityStep, HaveAllSenders, AddressLists, addr_lists, with_steps, stated_steps, HaveAllQualities}
 use Rattle.mesh_config.proofs.ChecksLemmas.Links.{duplicates_same}
 use Rattle.mesh_config.proofs.Builds.{stated_passed}
 use Rattle.mesh_config.proofs.JoinFacts.{joins_distinct}

@@ -1,8 +1,4 @@
-use Rattle.std.proofs.Common.{List, map, sym, ap, ◌∙◌}
-use Rattle.mesh_config.specs.declared.stated.stated.StatedRouter.{StatedRouter}
-use Rattle.mesh_config.specs.Keys.Faults.{first}
-use Rattle.mesh_config.specs.Checks.Checks.{duplicates}
-use Rattle.mesh_config.specs.Checks.Compared.{stated_identifiers}
+use Rattle.mesh_config.proofs.Common.{List, map, sym, ap, ◌∙◌, StatedRouter, first, duplicates, stated_identifiers}
 use Rattle.mesh_config.proofs.RunLaws.{clear_one}
 use Rattle.mesh_config.proofs.reading.checked_router.Goals as goal
 

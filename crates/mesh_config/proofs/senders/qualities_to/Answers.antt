@@ -1,8 +1,4 @@
-use Rattle.std.proofs.Common.{List, sym, ap, ◌∙◌, ◌++◌}
-use Rattle.mesh_atoms.specs.declared.addr.Addr4.{Addr4}
-use Rattle.mesh_atoms.specs.declared.admit.QualityStep.{QualityStep}
-use Rattle.mesh_config.specs.Checks.Compared.{stated_lists}
-use Rattle.mesh_config.specs.Senders.{stated_steps, steps_at, quality_by}
+use Rattle.mesh_config.proofs.Common.{List, sym, ap, ◌∙◌, ◌++◌, Addr4, QualityStep, stated_lists, stated_steps, steps_at, quality_by}
 use Rattle.mesh_config.proofs.Qualities.{qualities_more}
 use Rattle.mesh_config.proofs.senders.qualities_to.Goals as goal
 

@@ -1,7 +1,4 @@
-use Rattle.std.proofs.Common.{◌≡◌, take, map}
-use Rattle.mesh_config.specs.Checks.Compared.{stated_lists}
-use Rattle.mesh_config.specs.Stated.Steps.{quality_pair}
-use Rattle.mesh_config.specs.Senders.{with_steps, qualities_to, stated_steps}
+use Rattle.mesh_config.proofs.Common.{◌≡◌, take, map, stated_lists, quality_pair, with_steps, qualities_to, stated_steps}
 use Rattle.mesh_config.proofs.senders.qualities_to.Given as goal
 
 abbrev pub invariant-loop-number : goal.invariant-loop-number

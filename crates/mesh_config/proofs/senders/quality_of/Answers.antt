@@ -1,7 +1,4 @@
-use Rattle.std.proofs.Common.{List, length, sym, ap, ◌∙◌}
-use Rattle.std.proofs.lemmas.Bool.{ltb-false}
-use Rattle.mesh_atoms.specs.declared.addr.Addr4.{Addr4}
-use Rattle.mesh_atoms.specs.declared.admit.QualityStep.{QualityStep}
+use Rattle.mesh_config.proofs.Common.{List, length, sym, ap, ◌∙◌, ltb-false, Addr4, QualityStep}
 use Rattle.mesh_config.proofs.Qualities.{steps_stated, steps_none}
 use Rattle.mesh_config.proofs.senders.quality_of.Goals as goal
 

@@ -1,6 +1,4 @@
-use Rattle.std.proofs.Common.{◌≡◌, ◌≤◌, take, map, length}
-use Rattle.mesh_config.specs.Checks.Compared.{stated_lists}
-use Rattle.mesh_config.specs.Senders.{senders_to, sender_pair}
+use Rattle.mesh_config.proofs.Common.{◌≡◌, ◌≤◌, take, map, length, stated_lists, senders_to, sender_pair}
 use Rattle.mesh_config.proofs.senders.senders_to.Given as goal
 
 abbrev pub invariant-loop-arc : goal.invariant-loop-arc

@@ -1,5 +1,4 @@
-use Rattle.std.proofs.Common.{◌≡◌, drop}
-use Rattle.mesh_config.specs.RunSettings.{senders_checked}
+use Rattle.mesh_config.proofs.Common.{◌≡◌, drop, senders_checked}
 use Rattle.mesh_config.proofs.setup.are_senders_distinct.Given as goal
 
 abbrev pub invariant-loop-one : goal.invariant-loop-one

@@ -1,8 +1,4 @@
-use Rattle.std.proofs.Common.{◌≡◌, take, map}
-use Rattle.mesh_config.specs.declared.stated.stated.StatedInterface.{StatedInterface}
-use Rattle.mesh_config.specs.Fields.{interface_fields, thresholds_of, threshold_pair, interface_costs}
-use Rattle.mesh_config.specs.Stated.Router.{stated_interface_fields}
-use Rattle.mesh_config.specs.RunSettings.{stated_costs}
+use Rattle.mesh_config.proofs.Common.{◌≡◌, take, map, StatedInterface, interface_fields, thresholds_of, threshold_pair, interface_costs, stated_interface_fields, stated_costs}
 use Rattle.mesh_config.proofs.setup.run_interfaces.Given as goal
 
 abbrev pub invariant-loop-at : goal.invariant-loop-at

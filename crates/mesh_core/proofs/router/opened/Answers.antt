@@ -1,6 +1,4 @@
-use Rattle.std.proofs.Common.{refl}
-use Rattle.mesh_machine.proofs.Opening.{opening_sound}
-use Rattle.mesh_core.specs.Event.Holding.{state_of}
+use Rattle.mesh_core.proofs.Common.{refl, opening_sound, state_of}
 use Rattle.mesh_core.proofs.EventLemmas.Derivations.{has_own}
 use Rattle.mesh_core.proofs.router.opened.Goals as goal
 

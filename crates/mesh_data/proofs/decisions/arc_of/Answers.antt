@@ -1,8 +1,4 @@
-use Rattle.std.proofs.Common.{◌≡◌, true}
-use Rattle.std.proofs.lemmas.List.Elements.{AllWithin-more, at_read}
-use Rattle.mesh_atoms.specs.declared.settings.RadioArc.{RadioArc}
-use Rattle.mesh_paths.proofs.Rows.{item_in, of_each}
-use Rattle.mesh_data.specs.Decisions.{IsArcOf}
+use Rattle.mesh_data.proofs.Common.{◌≡◌, true, AllWithin-more, at_read, RadioArc, item_in, of_each, IsArcOf}
 use Rattle.mesh_data.proofs.decisions.arc_of.Goals as goal
 
 pub returns-then-is_arc_of-clause-some : goal.returns-then-is_arc_of-clause-some

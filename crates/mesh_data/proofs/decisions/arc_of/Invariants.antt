@@ -1,6 +1,4 @@
-use Rattle.std.specs.List.{AllWithin}
-use Rattle.mesh_atoms.specs.declared.settings.RadioArc.{RadioArc}
-use Rattle.mesh_data.specs.Decisions.{IsArcOf}
+use Rattle.mesh_data.proofs.Common.{AllWithin, RadioArc, IsArcOf}
 use Rattle.mesh_data.proofs.decisions.arc_of.Given as goal
 
 abbrev pub invariant-loop-arc : goal.invariant-loop-arc

@@ -1,7 +1,4 @@
-use Rattle.std.proofs.Common.{◌<◌, length, arith, subst, List}
-use Rattle.mesh_atoms.specs.declared.settings.Attached4.{Attached4}
-use Rattle.mesh_data.specs.Decisions.{IsDecisionBy}
-use Rattle.std.specs.Prelude.{map}
+use Rattle.mesh_data.proofs.Common.{◌<◌, length, arith, subst, List, Attached4, IsDecisionBy, map}
 use Rattle.mesh_data.proofs.Deciding.{router_at, state_within, state_at, not_of, decision_at}
 use Rattle.mesh_data.proofs.decisions.decide_at.Goals as goal
 

@@ -1,6 +1,4 @@
-use Rattle.std.proofs.Common.{refl, length}
-use Rattle.std.specs.Prelude.{map}
-use Rattle.mesh_data.specs.Trips.{At_address, Without_route, After_all}
+use Rattle.mesh_data.proofs.Common.{refl, length, map, At_address, Without_route, After_all}
 use Rattle.mesh_data.proofs.Deciding.{at_network}
 use Rattle.mesh_data.proofs.decisions.end_of.Goals as goal
 

@@ -1,6 +1,4 @@
-use Rattle.std.proofs.Common.{slice_get}
-use Rattle.mesh_atoms.specs.declared.settings.RouterSettings.{RouterSettings}
-use Rattle.mesh_atoms.specs.State.{HasAddressOn}
+use Rattle.mesh_data.proofs.Common.{slice_get, RouterSettings, HasAddressOn}
 use Rattle.mesh_data.proofs.Deciding.{at_place}
 use Rattle.mesh_data.proofs.decisions.is_address_at.Goals as goal
 

@@ -1,4 +1,4 @@
-use Rattle.std.proofs.Common.{Contains, slice_get}
+use Rattle.mesh_data.proofs.Common.{Contains, slice_get}
 use Rattle.mesh_atoms.specs.declared.settings.Interface.{Interface}
 use Rattle.mesh_data.proofs.Deciding.{at_place}
 use Rattle.mesh_data.proofs.decisions.is_on.Goals as goal

@@ -1,8 +1,4 @@
-use Rattle.std.proofs.Common.{◌≡◌, ℕ, inl, inr, sym, ◌∙◌, subst, arith, true, false}
-use Rattle.std.proofs.lemmas.Bool.{cases_lt}
-use Rattle.std.proofs.lemmas.Option.{slice_get_within}
-use Rattle.mesh_atoms.specs.State.{HasAddress, HasAddressOn}
-use Rattle.mesh_paths.proofs.Rows.{yes, no}
+use Rattle.mesh_data.proofs.Common.{◌≡◌, ℕ, inl, inr, sym, ◌∙◌, subst, arith, true, false, cases_lt, slice_get_within, HasAddress, HasAddressOn, yes, no}
 use Rattle.mesh_data.proofs.decisions.is_own.Goals as goal
 
 pub returns-then-is_on : goal.returns-then-is_on

@@ -1,5 +1,4 @@
-use Rattle.std.proofs.Common.{ℕ, ◌<◌}
-use Rattle.mesh_atoms.specs.State.{HasAddressOn}
+use Rattle.mesh_data.proofs.Common.{ℕ, ◌<◌, HasAddressOn}
 use Rattle.mesh_data.proofs.decisions.is_own.Given as goal
 
 abbrev pub invariant-loop-j : goal.invariant-loop-j

@@ -1,4 +1,4 @@
-use Rattle.std.proofs.Common.{inr, sym}
+use Rattle.mesh_data.proofs.Common.{inr, sym}
 use Rattle.mesh_data.proofs.decisions.longer.Goals as goal
 
 pub returns-in-Some : goal.returns-in-Some

@@ -1,4 +1,4 @@
-use Rattle.mesh_data.specs.Decisions.{IsLongestOf}
+use Rattle.mesh_data.proofs.Common.{IsLongestOf}
 use Rattle.mesh_data.proofs.decisions.longest_of.Given as goal
 
 abbrev pub invariant-loop-network : goal.invariant-loop-network

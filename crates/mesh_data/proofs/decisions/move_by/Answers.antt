@@ -1,4 +1,4 @@
-use Rattle.std.proofs.Common.{refl, []}
+use Rattle.mesh_data.proofs.Common.{refl, []}
 use Rattle.mesh_data.proofs.Deciding.{hop_by, no_arc}
 use Rattle.mesh_data.proofs.decisions.move_by.Goals as goal
 

@@ -1,5 +1,4 @@
-use Rattle.std.specs.Prelude.{map}
-use Rattle.mesh_data.specs.Trips.{At_address, Without_route}
+use Rattle.mesh_data.proofs.Common.{map, At_address, Without_route}
 use Rattle.mesh_data.proofs.Deciding.{at_network, moved}
 use Rattle.mesh_data.proofs.decisions.move_of.Goals as goal
 

@@ -1,5 +1,4 @@
-use Rattle.std.specs.Prelude.{map}
-use Rattle.mesh_data.specs.Laws.{IsOnly, ReachesRouter, ReachesNetwork, NeverStrays}
+use Rattle.mesh_data.proofs.Common.{map, IsOnly, ReachesRouter, ReachesNetwork, NeverStrays}
 use Rattle.mesh_data.proofs.Hopping.{of_made}
 use Rattle.mesh_data.proofs.sending.send.Goals as goal
 

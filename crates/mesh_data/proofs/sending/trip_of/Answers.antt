@@ -1,7 +1,4 @@
-use Rattle.std.proofs.Common.{◌+◌, ℕ, List, sym, subst}
-use Rattle.std.specs.Prelude.{map}
-use Rattle.mesh_data.specs.declared.trip.Hop.{Hop}
-use Rattle.mesh_data.specs.Decisions.{IsOnTheWay}
+use Rattle.mesh_data.proofs.Common.{◌+◌, ℕ, List, sym, subst, map, Hop, IsOnTheWay}
 use Rattle.mesh_data.proofs.Hopping.{goes}
 use Rattle.mesh_data.proofs.sending.trip_of.Goals as goal
 

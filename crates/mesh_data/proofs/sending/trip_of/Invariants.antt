@@ -1,5 +1,4 @@
-use Rattle.std.specs.Prelude.{map}
-use Rattle.mesh_data.specs.Decisions.{IsOnTheWay}
+use Rattle.mesh_data.proofs.Common.{map, IsOnTheWay}
 use Rattle.mesh_data.proofs.sending.trip_of.Given as goal
 
 abbrev pub invariant-loop : goal.invariant-loop

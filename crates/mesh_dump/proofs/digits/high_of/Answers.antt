@@ -1,8 +1,4 @@
-use Rattle.std.proofs.Common.{◌≡◌, ◌<◌, ◌≤◌, ◌*◌, ℕ, Some, subst, sym, arith}
-use Rattle.std.specs.Prelude.{slice_index}
-use Rattle.std.specs.Option.{option_map}
-use Rattle.hex.specs.Hex.{hex_digit_value}
-use Rattle.mesh_dump.specs.declared.digits.TheConstants.{HIGH}
+use Rattle.mesh_dump.proofs.Common.{◌≡◌, ◌<◌, ◌≤◌, ◌*◌, ℕ, Some, subst, sym, arith, slice_index, option_map, hex_digit_value, HIGH}
 use Rattle.mesh_dump.proofs.Pairs.{high_is, high_most}
 use Rattle.mesh_dump.proofs.digits.high_of.Goals as goal
 

@@ -1,7 +1,4 @@
-use Rattle.std.proofs.Common.{◌≡◌, ◌<◌, ◌≤◌, ℕ, Some, subst, sym, arith}
-use Rattle.std.specs.Prelude.{slice_index}
-use Rattle.hex.specs.Hex.{hex_digit_value}
-use Rattle.mesh_dump.specs.declared.digits.TheConstants.{LOW}
+use Rattle.mesh_dump.proofs.Common.{◌≡◌, ◌<◌, ◌≤◌, ℕ, Some, subst, sym, arith, slice_index, hex_digit_value, LOW}
 use Rattle.mesh_dump.proofs.Pairs.{low_is, low_most}
 use Rattle.mesh_dump.proofs.digits.low_of.Goals as goal
 

@@ -1,5 +1,4 @@
-use Rattle.std.proofs.Common.{◌≡◌, ◌/◌, ◌++◌, ◌≤◌, ℕ, List, length, drop, arith, length-append}
-use Rattle.std.proofs.lemmas.List.{length-take-le, take_at}
+use Rattle.mesh_dump.proofs.Common.{◌≡◌, ◌/◌, ◌++◌, ◌≤◌, ℕ, List, length, drop, arith, length-append, length-take-le, take_at}
 use Rattle.mesh_dump.proofs.Pairs.{text_decodes}
 use Rattle.mesh_dump.proofs.digits.put_first.Goals as goal
 

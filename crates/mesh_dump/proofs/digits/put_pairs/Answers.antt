@@ -1,6 +1,4 @@
-use Rattle.std.proofs.Common.{◌≡◌, length, subst, arith}
-use Rattle.std.proofs.lemmas.Bool.{ltb-true}
-use Rattle.mesh_dump.specs.Pairs.{AreHexPairs}
+use Rattle.mesh_dump.proofs.Common.{◌≡◌, length, subst, arith, ltb-true, AreHexPairs}
 use Rattle.mesh_dump.proofs.Pairs.{pairs_decode}
 use Rattle.mesh_dump.proofs.digits.put_pairs.Goals as goal
 

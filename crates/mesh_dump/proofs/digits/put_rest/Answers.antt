@@ -1,5 +1,4 @@
-use Rattle.std.proofs.Common.{arith, ◌∙◌}
-use Rattle.std.proofs.lemmas.List.{length-set}
+use Rattle.mesh_dump.proofs.Common.{arith, ◌∙◌, length-set}
 use Rattle.mesh_dump.proofs.Pairs.{one_more}
 use Rattle.mesh_dump.proofs.digits.put_rest.Goals as goal
 

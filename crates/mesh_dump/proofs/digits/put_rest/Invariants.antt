@@ -1,5 +1,4 @@
-use Rattle.std.proofs.Common.{◌≡◌, ◌<◌, length}
-use Rattle.mesh_dump.specs.Pairs.{AreHexPairs}
+use Rattle.mesh_dump.proofs.Common.{◌≡◌, ◌<◌, length, AreHexPairs}
 use Rattle.mesh_dump.proofs.digits.put_rest.Given as goal
 
 abbrev pub invariant-loop-i : goal.invariant-loop-i

@@ -1,9 +1,4 @@
-use Rattle.std.proofs.Common.{ℕ, ◌%◌, ◌^◌, Bool, leb, List, map, get_or, replicate, sym, ap, ◌∙◌, arith, w8}
-use Rattle.std.specs.Simd.Lanes.{mask_l}
-use Rattle.std.proofs.lemmas.Bool.{leb-false, eqb-true}
-use Rattle.std.proofs.lemmas.List.{length-map}
-use Rattle.std.proofs.lemmas.Simd.{tops_compared, zip2_splat_left, mask_l-mod}
-use Rattle.mesh_report.proofs.Vectors.{none_set}
+use Rattle.mesh_dump.proofs.Common.{ℕ, ◌%◌, ◌^◌, Bool, leb, List, map, get_or, replicate, sym, ap, ◌∙◌, arith, w8, mask_l, leb-false, eqb-true, length-map, tops_compared, zip2_splat_left, mask_l-mod, none_set}
 use Rattle.mesh_dump.proofs.lanes.are_low.Goals as goal
 
 pub returns : goal.returns

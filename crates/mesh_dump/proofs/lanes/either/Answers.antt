@@ -1,5 +1,4 @@
-use Rattle.std.proofs.Common.{bit_or}
-use Rattle.mesh_report.proofs.Vectors.{lanes_of}
+use Rattle.mesh_dump.proofs.Common.{bit_or, lanes_of}
 use Rattle.mesh_dump.proofs.lanes.either.Goals as goal
 
 pub returns : goal.returns

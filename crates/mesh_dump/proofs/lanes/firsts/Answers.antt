@@ -1,6 +1,4 @@
-use Rattle.std.proofs.Common.{◌*◌, ◌++◌, refl, ◌∙◌, arith}
-use Rattle.std.proofs.lemmas.List.{get_or_append_left}
-use Rattle.mesh_report.proofs.Vectors.{picked}
+use Rattle.mesh_dump.proofs.Common.{◌*◌, ◌++◌, refl, ◌∙◌, arith, get_or_append_left, picked}
 use Rattle.mesh_dump.proofs.Wide.{evens, even_place}
 use Rattle.mesh_dump.proofs.lanes.firsts.Goals as goal
 

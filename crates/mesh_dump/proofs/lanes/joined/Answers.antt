@@ -1,5 +1,4 @@
-use Rattle.std.proofs.Common.{ℕ, ◌+◌, ◌*◌, ◌%◌, ◌^◌, get_or, refl, ap, ◌∙◌}
-use Rattle.mesh_report.proofs.Vectors.{lanes_of, lanes_with}
+use Rattle.mesh_dump.proofs.Common.{ℕ, ◌+◌, ◌*◌, ◌%◌, ◌^◌, get_or, refl, ap, ◌∙◌, lanes_of, lanes_with}
 use Rattle.mesh_dump.proofs.lanes.joined.Goals as goal
 
 pub returns : goal.returns

@@ -1,5 +1,4 @@
-use Rattle.std.proofs.Common.{ℕ, ◌+◌, ◌%◌, refl}
-use Rattle.mesh_report.proofs.Vectors.{lanes_with}
+use Rattle.mesh_dump.proofs.Common.{ℕ, ◌+◌, ◌%◌, refl, lanes_with}
 use Rattle.mesh_dump.proofs.lanes.more.Goals as goal
 
 pub returns : goal.returns

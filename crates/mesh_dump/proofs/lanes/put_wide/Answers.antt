@@ -1,6 +1,4 @@
-use Rattle.std.proofs.Common.{◌≡◌, ◌+◌, ◌*◌, ◌/◌, ◌≤◌, length, subst, ap, ◌∙◌, arith}
-use Rattle.std.proofs.lemmas.Simd.{length-put_chunk}
-use Rattle.mesh_dump.specs.Pairs.{AreHexPairs}
+use Rattle.mesh_dump.proofs.Common.{◌≡◌, ◌+◌, ◌*◌, ◌/◌, ◌≤◌, length, subst, ap, ◌∙◌, arith, length-put_chunk, AreHexPairs}
 use Rattle.mesh_dump.proofs.Wide.{both_low, sixteen_more}
 use Rattle.mesh_dump.proofs.lanes.put_wide.Goals as goal
 

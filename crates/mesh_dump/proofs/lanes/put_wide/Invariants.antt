@@ -1,5 +1,4 @@
-use Rattle.std.proofs.Common.{◌≡◌, ◌*◌, length}
-use Rattle.mesh_dump.specs.Pairs.{AreHexPairs}
+use Rattle.mesh_dump.proofs.Common.{◌≡◌, ◌*◌, length, AreHexPairs}
 use Rattle.mesh_dump.proofs.Wide.{AreLow}
 use Rattle.mesh_dump.proofs.lanes.put_wide.Given as goal
 

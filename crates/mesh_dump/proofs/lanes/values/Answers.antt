@@ -1,5 +1,4 @@
-use Rattle.std.proofs.Common.{ℕ}
-use Rattle.std.proofs.lemmas.Simd.{get_or-replicate}
+use Rattle.mesh_dump.proofs.Common.{ℕ, get_or-replicate}
 use Rattle.mesh_dump.proofs.lanes.values.Goals as goal
 
 pub returns : goal.returns

@@ -1,5 +1,4 @@
-use Rattle.std.proofs.Common.{ltb, refl}
-use Rattle.mesh_report.proofs.Vectors.{lanes_chosen}
+use Rattle.mesh_dump.proofs.Common.{ltb, refl, lanes_chosen}
 use Rattle.mesh_dump.proofs.lanes.where_below.Goals as goal
 
 pub returns : goal.returns

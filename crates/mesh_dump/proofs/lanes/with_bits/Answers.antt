@@ -1,5 +1,4 @@
-use Rattle.std.proofs.Common.{bit_or, refl}
-use Rattle.mesh_report.proofs.Vectors.{lanes_with}
+use Rattle.mesh_dump.proofs.Common.{bit_or, refl, lanes_with}
 use Rattle.mesh_dump.proofs.lanes.with_bits.Goals as goal
 
 pub returns : goal.returns

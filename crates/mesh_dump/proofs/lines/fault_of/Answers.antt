@@ -1,9 +1,4 @@
-use Rattle.std.proofs.Common.{◌≡◌, ℕ, ◌⊎◌, inl, inr, List, length, Err, sym, ap, subst, ◌∙◌}
-use Rattle.hex.specs.Hex.{decode_of}
-use Rattle.hex.specs.declared.error.FromHexError.{FromHexError}
-use Rattle.hex.specs.declared.error.FromHexError.TheVariants.{InvalidHexCharacter, OddLength, InvalidStringLength, OutOfMemory}
-use Rattle.mesh_atoms.specs.declared.refusal.Refusal.{Refusal}
-use Rattle.mesh_dump.specs.Lines.{IsNotHex}
+use Rattle.mesh_dump.proofs.Common.{◌≡◌, ℕ, ◌⊎◌, inl, inr, List, length, Err, sym, ap, subst, ◌∙◌, decode_of, FromHexError, InvalidHexCharacter, OddLength, InvalidStringLength, OutOfMemory, Refusal, IsNotHex}
 use Rattle.mesh_dump.proofs.Hex.{other_digit, odd_text, never_length}
 use Rattle.mesh_dump.proofs.lines.fault_of.Goals as goal
 

@@ -1,4 +1,4 @@
-use Rattle.std.proofs.Common.{eqb, eq-eqb, sym}
+use Rattle.mesh_dump.proofs.Common.{eqb, eq-eqb, sym}
 use Rattle.mesh_dump.proofs.FirstLine.{lines-feed, lines-no_feed}
 use Rattle.mesh_dump.proofs.LineFeeds.{first_here}
 use Rattle.mesh_dump.proofs.lines.first_line.Goals as goal

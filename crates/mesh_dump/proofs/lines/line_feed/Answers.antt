@@ -1,4 +1,4 @@
-use Rattle.memchr.specs.Find.{is_byte}
+use Rattle.mesh_dump.proofs.Common.{is_byte}
 use Rattle.mesh_dump.proofs.LineFeeds.{first_passing}
 use Rattle.mesh_dump.proofs.lines.line_feed.Goals as goal
 

@@ -1,5 +1,4 @@
-use Rattle.std.proofs.Common.{inr, refl}
-use Rattle.mesh_dump.specs.Lines.{IsNotHex}
+use Rattle.mesh_dump.proofs.Common.{inr, refl, IsNotHex}
 use Rattle.mesh_dump.proofs.Listed.{puts}
 use Rattle.mesh_dump.proofs.lines.put_line.Goals as goal
 

@@ -1,9 +1,4 @@
-use Rattle.std.proofs.Common.{◌≡◌, ℕ, List, Option, None, Some, refl}
-use Rattle.std.specs.Prelude.{option_map}
-use Rattle.mesh_io.specs.Pieces.{MakesOne}
-use Rattle.mesh_io.proofs.Pieces.{all_behind, stops_behind, stops_in, answers_stop}
-use Rattle.mesh_dump.specs.Dump.{LinesMake, DumpMakes, total_text}
-use Rattle.mesh_dump.specs.declared.listing.LineCounts.{LineCounts}
+use Rattle.mesh_dump.proofs.Common.{◌≡◌, ℕ, List, Option, None, Some, refl, option_map, MakesOne, all_behind, stops_behind, stops_in, answers_stop, LinesMake, DumpMakes, total_text, LineCounts}
 use Rattle.mesh_dump.proofs.Written.{lines_first, total_more}
 use Rattle.mesh_dump.proofs.listing.dump.Goals as goal
 

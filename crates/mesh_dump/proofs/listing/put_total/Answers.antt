@@ -1,7 +1,6 @@
 use Rattle.std.proofs.lemmas.Result.{on_ok_weaker}
-use Rattle.std.proofs.Common.{codes, decimal}
+use Rattle.mesh_dump.proofs.Common.{codes, decimal, total_text}
 use Rattle.mesh_io.proofs.Fronts.{adds, join}
-use Rattle.mesh_dump.specs.Dump.{total_text}
 use Rattle.mesh_dump.proofs.listing.put_total.Goals as goal
 
 pub returns : goal.returns

@@ -1,10 +1,5 @@
-use Rattle.std.proofs.Common.{ap, sym, ◌∙◌}
-use Rattle.std.proofs.lemmas.Bool.{eqb-true}
-use Rattle.mesh_io.proofs.Pieces.{one_put, one_cut, answers_stop}
-use Rattle.mesh_io.specs.Pieces.{MakesOne}
+use Rattle.mesh_dump.proofs.Common.{ap, sym, ◌∙◌, eqb-true, one_put, one_cut, answers_stop, MakesOne, empty_line, IsListing}
 use Rattle.mesh_io.specs.declared.stop.Stop.TheVariants as stop
-use Rattle.mesh_dump.specs.Empty.{empty_line}
-use Rattle.mesh_dump.specs.Lines.{IsListing}
 use Rattle.mesh_dump.proofs.EmptyLines.{empty_listing}
 use Rattle.mesh_dump.proofs.listing.write_line.Goals as goal
 

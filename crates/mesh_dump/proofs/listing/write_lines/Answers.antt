@@ -1,9 +1,4 @@
-use Rattle.std.proofs.Common.{◌≡◌, ℕ, ◌+◌, List, [], ◌∷◌, ◌++◌, None, drop, refl, arith}
-use Rattle.std.specs.Str.Lines.{lines}
-use Rattle.mesh_io.specs.Pieces.{MakesOne}
-use Rattle.mesh_io.proofs.Pieces.{pieces_more, stops_behind, answers_stop}
-use Rattle.mesh_dump.specs.Dump.{LinesMake}
-use Rattle.mesh_dump.specs.Lines.{IsListing}
+use Rattle.mesh_dump.proofs.Common.{◌≡◌, ℕ, ◌+◌, List, [], ◌∷◌, ◌++◌, None, drop, refl, arith, lines, MakesOne, pieces_more, stops_behind, answers_stop, LinesMake, IsListing}
 use Rattle.mesh_dump.proofs.FirstLine.{lines-at}
 use Rattle.mesh_dump.proofs.Written.{one_more_line, first_lines_more, at_most_one}
 use Rattle.mesh_dump.proofs.listing.write_lines.Goals as goal

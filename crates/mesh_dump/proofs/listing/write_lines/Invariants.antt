@@ -1,7 +1,5 @@
-use Rattle.std.proofs.Common.{◌≤◌, ◌-◌, List, ℕ, length, drop}
+use Rattle.mesh_dump.proofs.Common.{◌≤◌, ◌-◌, List, ℕ, length, drop, concat, lines}
 use Rattle.std.specs.Io.KnownBytes.{Appends}
-use Rattle.std.specs.List.{concat}
-use Rattle.std.specs.Str.Lines.{lines}
 use Rattle.mesh_dump.proofs.Written.{Listed}
 use Rattle.mesh_dump.proofs.listing.write_lines.Given as goal
 

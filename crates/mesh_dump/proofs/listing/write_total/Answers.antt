@@ -1,8 +1,5 @@
-use Rattle.std.proofs.Common.{◌≡◌, ℕ, List, ◌++◌, ap, ◌∙◌}
-use Rattle.mesh_io.proofs.Pieces.{one_put, one_cut, answers_stop}
-use Rattle.mesh_io.specs.Pieces.{MakesOne}
+use Rattle.mesh_dump.proofs.Common.{◌≡◌, ℕ, List, ◌++◌, ap, ◌∙◌, one_put, one_cut, answers_stop, MakesOne, total_text}
 use Rattle.mesh_io.specs.declared.stop.Stop.TheVariants as stop
-use Rattle.mesh_dump.specs.Dump.{total_text}
 use Rattle.mesh_dump.proofs.listing.write_total.Goals as goal
 
 pub returns-clause-leaves : goal.returns-clause-leaves

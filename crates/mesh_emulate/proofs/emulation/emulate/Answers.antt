@@ -1,8 +1,5 @@
-use Rattle.std.proofs.Common.{[], Some, refl}
-use Rattle.mesh_emulate.specs.Emulation.{Of_nothing}
-use Rattle.mesh_emulate.specs.Wants.{wants_of}
+use Rattle.mesh_emulate.proofs.Common.{[], Some, refl, Of_nothing, wants_of, appends_none, keeps_same}
 use Rattle.mesh_emulate.proofs.Emulations.{makes, stopped, unbegun_refused, unbegun_written}
-use Rattle.mesh_io.proofs.Fronts.{appends_none, keeps_same}
 use Rattle.mesh_io.specs.declared.stop.Stop.TheVariants as stop
 use Rattle.mesh_emulate.proofs.emulation.emulate.Goals as goal
 

@@ -1,6 +1,4 @@
-use Rattle.std.proofs.Common.{[], refl}
-use Rattle.mesh_emulate.specs.Parts.{Unopened}
-use Rattle.mesh_io.proofs.Fronts.{appends_none}
+use Rattle.mesh_emulate.proofs.Common.{[], refl, Unopened, appends_none}
 use Rattle.mesh_emulate.proofs.emulation.tell.Goals as goal
 
 pub tell_all-requires-clause-opening : goal.tell_all-requires-clause-opening

@@ -1,10 +1,7 @@
-use Rattle.std.proofs.Common.{Err, subst}
-use Rattle.mesh_emulate.specs.Parts.{MakesBoth, MakesWanted, WholeRunMakes, IsProbedText, ErrandMakes, Opened}
+use Rattle.mesh_emulate.proofs.Common.{Err, subst, MakesBoth, MakesWanted, WholeRunMakes, IsProbedText, ErrandMakes, Opened, AreRoutersAt, NetState}
 use Rattle.mesh_emulate.proofs.Ends.{end_routers}
 use Rattle.mesh_emulate.proofs.Parts.{run_over}
 use Rattle.mesh_emulate.proofs.Putting.{puts_as, both_put, both_stop, wanted_starts}
-use Rattle.mesh_probe.specs.Probes.{AreRoutersAt}
-use Rattle.mesh_texts.specs.machine.Net.{NetState}
 use Rattle.mesh_emulate.proofs.emulation.tell_all.Goals as goal
 
 pub probe_net-requires-clause-routers : goal.probe_net-requires-clause-routers

@@ -1,8 +1,6 @@
-use Rattle.std.proofs.Common.{None, refl}
-use Rattle.mesh_emulate.specs.Parts.{EventsMake, EndMakes, In_first}
+use Rattle.mesh_emulate.proofs.Common.{None, refl, EventsMake, EndMakes, In_first, end_is_network}
 use Rattle.mesh_emulate.proofs.Parts.{whole_run}
 use Rattle.mesh_emulate.proofs.Putting.{both_put, both_stop}
-use Rattle.mesh_texts.proofs.RunStates.{end_is_network}
 use Rattle.mesh_emulate.proofs.emulation.tell_net.Goals as goal
 
 pub tell_end-requires-clause-network : goal.tell_end-requires-clause-network

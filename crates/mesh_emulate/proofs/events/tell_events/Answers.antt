@@ -1,5 +1,4 @@
-use Rattle.std.proofs.Common.{[]}
-use Rattle.mesh_io.proofs.Fronts.{appends_none}
+use Rattle.mesh_emulate.proofs.Common.{[], appends_none}
 use Rattle.mesh_emulate.proofs.Parts.{told_untold}
 use Rattle.mesh_emulate.proofs.events.tell_events.Goals as goal
 

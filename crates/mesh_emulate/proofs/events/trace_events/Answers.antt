@@ -1,5 +1,4 @@
-use Rattle.std.proofs.Common.{Ok, Err, arith}
-use Rattle.mesh_texts.specs.Runs.{IsTraced}
+use Rattle.mesh_emulate.proofs.Common.{Ok, Err, arith, IsTraced}
 use Rattle.mesh_emulate.proofs.Putting.{puts_made}
 use Rattle.mesh_emulate.proofs.TraceFacts.{last_event, event_left, event_told}
 use Rattle.mesh_emulate.proofs.events.trace_events.Goals as goal

@@ -1,7 +1,4 @@
-use Rattle.std.proofs.Common.{◌≡◌, ◌≤◌, true, ℕ, List}
-use Rattle.std.specs.Io.KnownBytes.{Appends}
-use Rattle.std.specs.List.{concat}
-use Rattle.mesh_emulate.specs.Parts.{RunWithPieces}
+use Rattle.mesh_emulate.proofs.Common.{◌≡◌, ◌≤◌, true, ℕ, List, Appends, concat, RunWithPieces}
 use Rattle.mesh_emulate.proofs.events.trace_events.Given as goal
 
 -- what was done so far is told

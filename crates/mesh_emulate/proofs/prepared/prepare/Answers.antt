@@ -1,4 +1,4 @@
-use Rattle.mesh_emulate.specs.Wants.{wants_of}
+use Rattle.mesh_emulate.proofs.Common.{wants_of}
 use Rattle.mesh_emulate.proofs.Preparing.{name_refused}
 use Rattle.mesh_emulate.proofs.prepared.prepare.Goals as goal
 

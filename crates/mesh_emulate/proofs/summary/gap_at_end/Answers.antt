@@ -1,5 +1,4 @@
-use Rattle.std.proofs.Common.{map}
-use Rattle.mesh_texts.proofs.Gaps.{gap_is}
+use Rattle.mesh_emulate.proofs.Common.{map, gap_is}
 use Rattle.mesh_emulate.proofs.summary.gap_at_end.Goals as goal
 
 pub returns : goal.returns

@@ -1,6 +1,4 @@
-use Rattle.std.proofs.Common.{List, All, sym, subst}
-use Rattle.mesh_atoms.specs.Sound.{Sound}
-use Rattle.mesh_atoms.specs.State.{State}
+use Rattle.mesh_emulate.proofs.Common.{List, All, sym, subst, Sound, State}
 use Rattle.mesh_emulate.proofs.Ends.{all_sound}
 use Rattle.mesh_emulate.proofs.summary.put_end.Goals as goal
 

@@ -1,9 +1,5 @@
-use Rattle.std.proofs.Common.{List, Ok, Err, subst}
-use Rattle.mesh_atoms.specs.State.{State}
-use Rattle.mesh_emulate.specs.Emulation.{IsEndSummary}
-use Rattle.mesh_emulate.specs.Parts.{MakesWanted, IsTripText}
+use Rattle.mesh_emulate.proofs.Common.{List, Ok, Err, subst, State, IsEndSummary, MakesWanted, IsTripText, MakesOne, PutsPieces}
 use Rattle.mesh_emulate.proofs.Putting.{puts_made, both_put, both_stop, wanted_starts}
-use Rattle.mesh_io.specs.Pieces.{MakesOne, PutsPieces}
 use Rattle.mesh_emulate.proofs.summary.tell_end.Goals as goal
 
 pub returns-in-Ok-clause-leaves : goal.returns-in-Ok-clause-leaves

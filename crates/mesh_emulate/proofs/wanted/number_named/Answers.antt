@@ -1,6 +1,4 @@
-use Rattle.std.proofs.Common.{List, sym, subst}
-use Rattle.mesh_atoms.specs.declared.settings.RouterSettings.{RouterSettings}
-use Rattle.mesh_emulate.specs.Wants.{HasName}
+use Rattle.mesh_emulate.proofs.Common.{List, sym, subst, RouterSettings, HasName}
 use Rattle.mesh_emulate.proofs.Preparing.{is_unknown}
 use Rattle.mesh_emulate.proofs.wanted.number_named.Goals as goal
 

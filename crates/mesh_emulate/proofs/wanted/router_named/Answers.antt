@@ -1,7 +1,4 @@
-use Rattle.std.proofs.Common.{inl, inr, sym, ◌∙◌, subst, arith}
-use Rattle.std.proofs.lemmas.Bool.{cases_lt}
-use Rattle.std.proofs.lemmas.Option.{slice_get_within}
-use Rattle.mesh_emulate.specs.Wants.{HasName}
+use Rattle.mesh_emulate.proofs.Common.{inl, inr, sym, ◌∙◌, subst, arith, cases_lt, slice_get_within, HasName}
 use Rattle.mesh_emulate.proofs.Preparing.{named_here, named_otherwise}
 use Rattle.mesh_emulate.proofs.wanted.router_named.Goals as goal
 

@@ -1,5 +1,4 @@
-use Rattle.std.proofs.Common.{ℕ, ◌<◌}
-use Rattle.mesh_emulate.specs.Wants.{HasName}
+use Rattle.mesh_emulate.proofs.Common.{ℕ, ◌<◌, HasName}
 use Rattle.mesh_emulate.proofs.wanted.router_named.Given as goal
 
 abbrev pub invariant-loop-x : goal.invariant-loop-x

@@ -1,6 +1,4 @@
-use Rattle.std.proofs.Common.{◌≡◌, [], Ok, refl}
-use Rattle.mesh_io.proofs.Fronts.{appends_none}
-use Rattle.mesh_io.proofs.Pieces.{one_put, one_cut}
+use Rattle.mesh_emulate.proofs.Common.{◌≡◌, [], Ok, refl, appends_none, one_put, one_cut}
 use Rattle.mesh_emulate.proofs.writing.write_put.Goals as goal
 
 pub returns-in-Ok-write_all-clause-leaves : goal.returns-in-Ok-write_all-clause-leaves

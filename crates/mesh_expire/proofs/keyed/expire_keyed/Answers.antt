@@ -1,4 +1,4 @@
-use Rattle.std.proofs.Common.{arith}
+use Rattle.mesh_expire.proofs.Common.{arith}
 use Rattle.mesh_expire.proofs.Gone.{live_without, keys_without, all_expired}
 use Rattle.mesh_expire.proofs.keyed.expire_keyed.Goals as goal
 

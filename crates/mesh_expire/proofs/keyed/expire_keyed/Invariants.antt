@@ -1,6 +1,4 @@
-use Rattle.std.proofs.Common.{◌≡◌, ◌≤◌, length}
-use Rattle.mesh_atoms.specs.Base.{find, if_live}
-use Rattle.mesh_expire.specs.Keyed.{AreKeys}
+use Rattle.mesh_expire.proofs.Common.{◌≡◌, ◌≤◌, length, find, if_live, AreKeys}
 use Rattle.mesh_expire.proofs.keyed.expire_keyed.Given as goal
 
 abbrev pub invariant-loop-gone : goal.invariant-loop-gone

@@ -1,4 +1,4 @@
-use Rattle.std.proofs.Common.{Some}
+use Rattle.mesh_expire.proofs.Common.{Some}
 use Rattle.mesh_expire.proofs.Gone.{keys_set}
 use Rattle.mesh_expire.proofs.keyed.put_keyed.Goals as goal
 

@@ -1,7 +1,5 @@
-use Rattle.std.proofs.Common.{◌≡◌, length, arith, ap, ◌∙◌, rules}
-use Rattle.std.specs.List.{filter}
+use Rattle.mesh_expire.proofs.Common.{◌≡◌, length, arith, ap, ◌∙◌, rules, filter, IsDistinct-keys_filter}
 use Rattle.std.proofs.lemmas.Fn.{filter_same}
-use Rattle.std.proofs.lemmas.Map.Made.{IsDistinct-keys_filter}
 use Rattle.mesh_expire.proofs.Places.{is_live, lives, none_filtered}
 use Rattle.mesh_expire.proofs.list_table.drop_expired.Goals as goal
 

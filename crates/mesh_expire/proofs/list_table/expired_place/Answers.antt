@@ -1,5 +1,4 @@
-use Rattle.std.proofs.Common.{length, refl, arith}
-use Rattle.std.proofs.lemmas.Option.{slice_get_read, slice_get_within}
+use Rattle.mesh_expire.proofs.Common.{length, refl, arith, slice_get_read, slice_get_within}
 use Rattle.mesh_expire.proofs.Places.{more_live}
 use Rattle.mesh_expire.proofs.list_table.expired_place.Goals as goal
 

@@ -1,6 +1,4 @@
-use Rattle.std.proofs.Common.{refl, sym, ◌∙◌}
-use Rattle.std.proofs.lemmas.List.{at_drop_all}
-use Rattle.mesh_atoms.specs.Base.{Base, find}
+use Rattle.mesh_expire.proofs.Common.{refl, sym, ◌∙◌, at_drop_all, Base, find}
 use Rattle.mesh_expire.proofs.Places.{stands_at, goes_on}
 use Rattle.mesh_expire.proofs.list_table.place_of.Goals as goal
 

@@ -1,5 +1,4 @@
-use Rattle.std.proofs.Common.{◌≡◌, drop}
-use Rattle.mesh_atoms.specs.Base.{find}
+use Rattle.mesh_expire.proofs.Common.{◌≡◌, drop, find}
 use Rattle.mesh_expire.proofs.list_table.place_of.Given as goal
 
 abbrev pub invariant-loop-i : goal.invariant-loop-i

@@ -1,4 +1,4 @@
-use Rattle.std.proofs.Common.{arith}
+use Rattle.mesh_expire.proofs.Common.{arith}
 use Rattle.mesh_expire.proofs.Places.{replaced, added}
 use Rattle.mesh_expire.proofs.list_table.put_in.Goals as goal
 

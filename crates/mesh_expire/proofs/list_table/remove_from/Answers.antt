@@ -1,4 +1,4 @@
-use Rattle.std.proofs.Common.{refl}
+use Rattle.mesh_expire.proofs.Common.{refl}
 use Rattle.mesh_expire.proofs.Places.{removed}
 use Rattle.mesh_expire.proofs.list_table.remove_from.Goals as goal
 

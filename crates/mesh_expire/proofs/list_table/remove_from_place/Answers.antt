@@ -1,6 +1,4 @@
-use Rattle.std.proofs.Common.{◌≡◌, length, Some, refl, arith}
-use Rattle.std.specs.Prelude.{slice_get}
-use Rattle.std.proofs.lemmas.Option.{slice_get_read}
+use Rattle.mesh_expire.proofs.Common.{◌≡◌, length, Some, refl, arith, slice_get, slice_get_read}
 use Rattle.mesh_expire.proofs.Laws.{swapped_out}
 use Rattle.mesh_expire.proofs.list_table.remove_from_place.Goals as goal
 

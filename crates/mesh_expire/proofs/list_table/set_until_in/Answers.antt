@@ -1,4 +1,4 @@
-use Rattle.std.proofs.Common.{refl, sym, ap, is_some}
+use Rattle.mesh_expire.proofs.Common.{refl, sym, ap, is_some}
 use Rattle.mesh_expire.proofs.Laws.{changed_at-absent, distinct-changed_at}
 use Rattle.mesh_expire.proofs.Places.{changes}
 use Rattle.mesh_expire.proofs.list_table.set_until_in.Goals as goal

@@ -1,5 +1,4 @@
-use Rattle.std.proofs.Common.{arith}
-use Rattle.std.proofs.lemmas.Option.{slice_get_within}
+use Rattle.mesh_expire.proofs.Common.{arith, slice_get_within}
 use Rattle.mesh_expire.proofs.Places.{all_fresh, takes}
 use Rattle.mesh_expire.proofs.list_table.take_next.Goals as goal
 

@@ -1,5 +1,4 @@
-use Rattle.std.proofs.Common.{arith, sym}
-use Rattle.std.proofs.lemmas.Option.{slice_get_within}
+use Rattle.mesh_expire.proofs.Common.{arith, sym, slice_get_within}
 use Rattle.mesh_expire.proofs.Places.{more_live}
 use Rattle.mesh_expire.proofs.swept_table.expired_place.Goals as goal
 

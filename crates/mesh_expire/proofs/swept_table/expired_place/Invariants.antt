@@ -1,5 +1,4 @@
-use Rattle.std.proofs.Common.{◌≡◌, ◌<◌, ℕ, Some}
-use Rattle.std.specs.Prelude.{slice_get}
+use Rattle.mesh_expire.proofs.Common.{◌≡◌, ◌<◌, ℕ, Some, slice_get}
 use Rattle.mesh_expire.proofs.swept_table.expired_place.Given as goal
 
 abbrev pub invariant-loop-place : goal.invariant-loop-place

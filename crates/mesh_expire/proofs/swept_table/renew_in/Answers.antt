@@ -1,4 +1,4 @@
-use Rattle.std.proofs.Common.{sym, ap, ◌∙◌}
+use Rattle.mesh_expire.proofs.Common.{sym, ap, ◌∙◌}
 use Rattle.mesh_expire.proofs.Laws.{changed_at-absent}
 use Rattle.mesh_expire.proofs.IndexLemmas.Moments.{written}
 use Rattle.mesh_expire.proofs.swept_table.renew_in.Goals as goal

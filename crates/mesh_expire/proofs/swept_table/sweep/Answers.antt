@@ -1,5 +1,4 @@
-use Rattle.std.proofs.Common.{◌-◌, arith}
-use Rattle.std.proofs.lemmas.Option.{IfSome_then}
+use Rattle.mesh_expire.proofs.Common.{◌-◌, arith, IfSome_then}
 use Rattle.mesh_expire.proofs.Sweeping.{swept_none, swept_all, swept_past, swept_with, swept_without}
 use Rattle.mesh_expire.proofs.swept_table.sweep.Goals as goal
 

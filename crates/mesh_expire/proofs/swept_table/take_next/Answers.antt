@@ -1,6 +1,4 @@
-use Rattle.std.proofs.Common.{sym, subst}
-use Rattle.std.specs.Prelude.{IfNone}
-use Rattle.mesh_atoms.specs.Base.{IsFresh}
+use Rattle.mesh_expire.proofs.Common.{sym, subst, IfNone, IsFresh}
 use Rattle.mesh_expire.proofs.Places.{all_fresh}
 use Rattle.mesh_expire.proofs.Sweeping.{taken_found}
 use Rattle.mesh_expire.proofs.swept_table.take_next.Goals as goal

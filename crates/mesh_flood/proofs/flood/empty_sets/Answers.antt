@@ -1,5 +1,4 @@
-use Rattle.std.proofs.Common.{◌+◌, ◌∙◌, ℕ, ap}
-use Rattle.std.proofs.lemmas.List.{length_push}
+use Rattle.mesh_flood.proofs.Common.{◌+◌, ◌∙◌, ℕ, ap, length_push}
 use Rattle.mesh_flood.proofs.Room.{pushed_empty}
 use Rattle.mesh_flood.proofs.flood.empty_sets.Goals as goal
 

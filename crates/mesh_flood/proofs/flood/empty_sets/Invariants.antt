@@ -1,5 +1,4 @@
-use Rattle.std.proofs.Common.{◌≡◌, ℕ, [], length}
-use Rattle.mesh_atoms.specs.Base.{base_of}
+use Rattle.mesh_flood.proofs.Common.{◌≡◌, ℕ, [], length, base_of}
 use Rattle.mesh_flood.proofs.flood.empty_sets.Given as goal
 
 abbrev pub invariant-loop : goal.invariant-loop

@@ -1,10 +1,4 @@
-use Rattle.std.proofs.Common.{◌≡◌, ◌<◌, ◌≤◌, ◌+◌, ◌∙◌, [], length, inl, inr, sym, subst, arith}
-use Rattle.std.proofs.lemmas.Bool.{cases_lt}
-use Rattle.std.proofs.lemmas.List.{get_or_past, length-set}
-use Rattle.mesh_expire.proofs.Laws.{distinct_none}
-use Rattle.mesh_atoms.specs.declared.tuples.FloodKey.{FloodKey}
-use Rattle.mesh_atoms.specs.declared.tuples.Noted.{Noted}
-use Rattle.mesh_atoms.specs.Base.{Base, HasDistinctKeys, Expires, base_of, flood_eq}
+use Rattle.mesh_flood.proofs.Common.{◌≡◌, ◌<◌, ◌≤◌, ◌+◌, ◌∙◌, [], length, inl, inr, sym, subst, arith, cases_lt, get_or_past, length-set, distinct_none, FloodKey, Noted, Base, HasDistinctKeys, Expires, base_of, flood_eq}
 use Rattle.mesh_flood.proofs.Room.{base_there, each_other_set}
 use Rattle.mesh_flood.proofs.flood.expire_all.Goals as goal
 

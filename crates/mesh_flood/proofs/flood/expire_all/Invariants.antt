@@ -1,5 +1,4 @@
-use Rattle.std.proofs.Common.{◌≡◌, ◌<◌, ◌≤◌, ℕ, length}
-use Rattle.mesh_atoms.specs.Base.{base_of, Expires, HasDistinctKeys, flood_eq}
+use Rattle.mesh_flood.proofs.Common.{◌≡◌, ◌<◌, ◌≤◌, ℕ, length, base_of, Expires, HasDistinctKeys, flood_eq}
 use Rattle.mesh_flood.proofs.flood.expire_all.Given as goal
 
 abbrev pub invariant-loop-i : goal.invariant-loop-i

@@ -1,10 +1,4 @@
-use Rattle.std.proofs.Common.{◌∙◌, refl, sym, subst, arith}
-use Rattle.std.specs.Prelude.{IsTrue}
-use Rattle.std.proofs.lemmas.Bool.{false≢true}
-use Rattle.mesh_atoms.specs.declared.tuples.FloodKey.{FloodKey}
-use Rattle.mesh_atoms.specs.declared.tuples.Noted.{Noted}
-use Rattle.mesh_atoms.specs.Base.{Base}
-use Rattle.mesh_flood.specs.Verdict.{is_full}
+use Rattle.mesh_flood.proofs.Common.{◌∙◌, refl, sym, subst, arith, IsTrue, false≢true, FloodKey, Noted, Base, is_full}
 use Rattle.mesh_flood.proofs.Room.{base_there, none_yet, none_at_all}
 use Rattle.mesh_flood.proofs.flood.has_full.Goals as goal
 

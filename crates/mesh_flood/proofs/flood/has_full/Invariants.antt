@@ -1,7 +1,4 @@
-use Rattle.std.proofs.Common.{ℕ, ◌<◌}
-use Rattle.std.specs.Prelude.{IsTrue}
-use Rattle.mesh_atoms.specs.Base.{base_of}
-use Rattle.mesh_flood.specs.Verdict.{is_full}
+use Rattle.mesh_flood.proofs.Common.{ℕ, ◌<◌, IsTrue, base_of, is_full}
 use Rattle.mesh_flood.proofs.flood.has_full.Given as goal
 
 abbrev pub invariant-loop-set : goal.invariant-loop-set

@@ -1,9 +1,4 @@
-use Rattle.std.proofs.Common.{◌∙◌, refl, sym, subst, arith}
-use Rattle.std.proofs.lemmas.Bool.{false≢true}
-use Rattle.mesh_atoms.specs.declared.tuples.FloodKey.{FloodKey}
-use Rattle.mesh_atoms.specs.declared.tuples.Noted.{Noted}
-use Rattle.mesh_atoms.specs.Base.{Base}
-use Rattle.mesh_flood.specs.Standing.{HasKey}
+use Rattle.mesh_flood.proofs.Common.{◌∙◌, refl, sym, subst, arith, false≢true, FloodKey, Noted, Base, HasKey}
 use Rattle.mesh_flood.proofs.Room.{base_there, none_yet, none_at_all}
 use Rattle.mesh_flood.proofs.flood.has_one.Goals as goal
 

@@ -1,6 +1,4 @@
-use Rattle.std.proofs.Common.{ℕ, ◌<◌}
-use Rattle.mesh_atoms.specs.Base.{base_of}
-use Rattle.mesh_flood.specs.Standing.{HasKey}
+use Rattle.mesh_flood.proofs.Common.{ℕ, ◌<◌, base_of, HasKey}
 use Rattle.mesh_flood.proofs.flood.has_one.Given as goal
 
 abbrev pub invariant-loop-set : goal.invariant-loop-set

@@ -1,12 +1,6 @@
 use Rattle.std.proofs.lemmas.List.Filters.{dedup_is}
-use Rattle.std.proofs.lemmas.List.Kept.{Contains-dedup, Contains-from_dedup}
+use Rattle.mesh_hello.proofs.Common.{Contains-dedup, Contains-from_dedup, ◌∙◌, subst, sym, List, Contains, Addr4, addr_eq, IsAscending, addr_equiv, same_addr}
 use Rattle.std.proofs.lemmas.List.Sorted.{Contains-permutation, IsPermutation-sym}
-use Rattle.std.proofs.Common.{◌∙◌, subst, sym, List}
-use Rattle.std.specs.Prelude.{Contains}
-use Rattle.mesh_atoms.specs.declared.addr.Addr4.{Addr4}
-use Rattle.mesh_atoms.specs.Base.{addr_eq}
-use Rattle.mesh_atoms.specs.Words.{IsAscending}
-use Rattle.mesh_atoms.proofs.Lookups.{addr_equiv, same_addr}
 use Rattle.mesh_hello.proofs.Sorted.{ascending_dedup}
 use Rattle.mesh_hello.proofs.lists.ascending.Goals as goal
 

@@ -1,4 +1,4 @@
-use Rattle.std.proofs.Common.{ap, sym, ◌∙◌, ◌++◌, arith}
+use Rattle.mesh_hello.proofs.Common.{ap, sym, ◌∙◌, ◌++◌, arith}
 use Rattle.mesh_hello.proofs.Collect.{keys_all, keys_put}
 use Rattle.mesh_hello.proofs.lists.put_table_keys.Goals as goal
 

@@ -1,5 +1,4 @@
-use Rattle.std.proofs.Common.{◌≡◌, ◌++◌, take}
-use Rattle.std.specs.Map.{keys_of}
+use Rattle.mesh_hello.proofs.Common.{◌≡◌, ◌++◌, take, keys_of}
 use Rattle.mesh_hello.proofs.lists.put_table_keys.Given as goal
 
 abbrev pub invariant-loop-place : goal.invariant-loop-place

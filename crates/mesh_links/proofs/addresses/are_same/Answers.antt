@@ -1,5 +1,5 @@
 use Rattle.std.proofs.lemmas.Slice.Eq.{slice_eq-Decides}
-use Rattle.mesh_atoms.proofs.Lookups.{same_addr}
+use Rattle.mesh_links.proofs.Common.{same_addr}
 use Rattle.mesh_atoms.proofs.Values.{addr_itself}
 use Rattle.mesh_links.proofs.addresses.are_same.Goals as goal
 

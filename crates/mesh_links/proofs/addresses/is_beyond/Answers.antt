@@ -1,10 +1,5 @@
-use Rattle.std.proofs.Common.{get_or, refl}
-use Rattle.std.specs.Prelude.{Contains}
-use Rattle.std.proofs.lemmas.Bool.{false≢true}
-use Rattle.std.proofs.lemmas.List.Elements.{AllWithin-more, AllWithin-upto, All-from_all_within, All-contains, Contains-get_or}
-use Rattle.mesh_atoms.specs.declared.addr.Addr4.{Addr4}
+use Rattle.mesh_links.proofs.Common.{get_or, refl, Contains, false≢true, AllWithin-more, AllWithin-upto, All-from_all_within, All-contains, Contains-get_or, Addr4, true_false}
 use Rattle.mesh_links.proofs.Tied.{at_any}
-use Rattle.mesh_atoms.proofs.Options.{true_false}
 use Rattle.mesh_links.proofs.addresses.is_beyond.Goals as goal
 
 pub loop-addr-preserved : goal.loop-addr-preserved

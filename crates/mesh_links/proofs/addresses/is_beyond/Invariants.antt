@@ -1,5 +1,4 @@
-use Rattle.std.specs.Prelude.{Contains}
-use Rattle.std.specs.List.{AllWithin}
+use Rattle.mesh_links.proofs.Common.{Contains, AllWithin}
 use Rattle.mesh_links.proofs.addresses.is_beyond.Given as goal
 
 abbrev pub invariant-loop-addr : goal.invariant-loop-addr

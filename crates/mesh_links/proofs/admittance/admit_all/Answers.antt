@@ -1,4 +1,4 @@
-use Rattle.std.proofs.Common.{arith, refl}
+use Rattle.mesh_links.proofs.Common.{arith, refl}
 use Rattle.mesh_links.proofs.Admitted.{admits_links, one_more_admitted}
 use Rattle.mesh_links.proofs.Tied.{fewer_same, fewer_twice}
 use Rattle.mesh_links.proofs.admittance.admit_all.Goals as goal

@@ -1,8 +1,4 @@
-use Rattle.std.proofs.Common.{◌≡◌, ◌++◌, take, drop, map}
-use Rattle.mesh_atoms.specs.Base.{link_eq, HasDistinctKeys}
-use Rattle.mesh_atoms.specs.Quality.{admitted}
-use Rattle.mesh_links.specs.Links.{HasRoom}
-use Rattle.mesh_links.specs.Owners.{IsFewer}
+use Rattle.mesh_links.proofs.Common.{◌≡◌, ◌++◌, take, drop, map, link_eq, HasDistinctKeys, admitted, HasRoom, IsFewer}
 use Rattle.mesh_links.proofs.admittance.admit_all.Given as goal
 
 abbrev pub invariant-loop-place : goal.invariant-loop-place

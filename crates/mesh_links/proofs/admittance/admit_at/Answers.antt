@@ -1,7 +1,4 @@
-use Rattle.std.proofs.Common.{◌≡◌, ℕ, sym, subst, ◌∙◌, Some}
-use Rattle.std.proofs.lemmas.Result.{on_ok_weaker}
-use Rattle.mesh_atoms.specs.declared.tuples.Link.{Link}
-use Rattle.mesh_atoms.specs.Quality.{admitted}
+use Rattle.mesh_links.proofs.Common.{◌≡◌, ℕ, sym, subst, ◌∙◌, Some, on_ok_weaker, Link, admitted}
 use Rattle.mesh_links.proofs.Admitted.{changed_at-still, found_at, admitted_by}
 use Rattle.mesh_links.proofs.admittance.admit_at.Goals as goal
 

@@ -1,5 +1,4 @@
-use Rattle.std.proofs.Common.{◌≡◌, nat_eq, length, drop}
-use Rattle.std.specs.List.{list_all}
+use Rattle.mesh_links.proofs.Common.{◌≡◌, nat_eq, length, drop, list_all}
 use Rattle.mesh_links.proofs.admittance.is_steady.Given as goal
 
 abbrev pub invariant-loop-sender : goal.invariant-loop-sender

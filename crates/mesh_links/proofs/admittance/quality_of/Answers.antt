@@ -1,4 +1,4 @@
-use Rattle.std.proofs.Common.{sym, ◌∙◌}
+use Rattle.mesh_links.proofs.Common.{sym, ◌∙◌}
 use Rattle.mesh_links.proofs.Admitted.{steady_quality}
 use Rattle.mesh_links.proofs.admittance.quality_of.Goals as goal
 

@@ -1,4 +1,4 @@
-use Rattle.std.proofs.Common.{sym}
+use Rattle.mesh_links.proofs.Common.{sym}
 use Rattle.mesh_links.proofs.admittance.ruling_at.Goals as goal
 
 pub returns-clause-some : goal.returns-clause-some

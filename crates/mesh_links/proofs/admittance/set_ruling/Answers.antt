@@ -1,9 +1,4 @@
-use Rattle.std.proofs.Common.{ap, ◌∙◌}
-use Rattle.mesh_atoms.specs.declared.tuples.LinkKey.{LinkKey}
-use Rattle.mesh_atoms.specs.declared.tuples.Link.{Link}
-use Rattle.mesh_atoms.specs.Base.{Base, link_eq}
-use Rattle.mesh_expire.specs.Table.{changed_at}
-use Rattle.mesh_links.specs.Rulings.{ruled}
+use Rattle.mesh_links.proofs.Common.{ap, ◌∙◌, LinkKey, Link, Base, link_eq, changed_at, ruled}
 use Rattle.mesh_links.proofs.Admitted.{changed_at-twice}
 use Rattle.mesh_links.proofs.admittance.set_ruling.Goals as goal
 

@@ -1,9 +1,4 @@
-use Rattle.std.proofs.Common.{ap, sym, ◌∙◌}
-use Rattle.mesh_atoms.specs.declared.tuples.Link.{Link}
-use Rattle.mesh_atoms.specs.Base.{link_eq}
-use Rattle.mesh_atoms.proofs.Lookups.{link_equiv}
-use Rattle.mesh_expire.proofs.Laws.{changed_at-agrees, changed_at-absent, found_none, found_some}
-use Rattle.mesh_links.specs.Rulings.{ruled}
+use Rattle.mesh_links.proofs.Common.{ap, sym, ◌∙◌, Link, link_eq, link_equiv, changed_at-agrees, changed_at-absent, found_none, found_some, ruled}
 use Rattle.mesh_links.proofs.admittance.write_ruling.Goals as goal
 
 pub returns-in-Some : goal.returns-in-Some

@@ -1,11 +1,4 @@
-use Rattle.std.proofs.Common.{◌≡◌, ℕ, arith}
-use Rattle.std.specs.Prelude.{Some, Contains}
-use Rattle.std.proofs.lemmas.List.Elements.{AllWithin-more, All-contains, AllWithin-upto, All-from_all_within}
-use Rattle.mesh_atoms.specs.declared.tuples.Link.{Link}
-use Rattle.mesh_atoms.specs.declared.tuples.LinkKey.{LinkKey}
-use Rattle.mesh_atoms.specs.declared.addr.Addr4.{Addr4}
-use Rattle.mesh_atoms.specs.Base.{find, link_eq}
-use Rattle.mesh_links.specs.Ending.{Spares}
+use Rattle.mesh_links.proofs.Common.{◌≡◌, ℕ, arith, Some, Contains, AllWithin-more, All-contains, AllWithin-upto, All-from_all_within, Link, LinkKey, Addr4, find, link_eq, Spares}
 use Rattle.mesh_links.proofs.Left.{left_twice, left_kept}
 use Rattle.mesh_links.proofs.Tied.{at_any, back_left, by_meeting, fewer_left, owned_fewer}
 use Rattle.mesh_links.proofs.ending.end_all.Goals as goal

@@ -1,11 +1,4 @@
-use Rattle.std.proofs.Common.{◌≡◌, ◌≤◌, ℕ, length}
-use Rattle.std.specs.Prelude.{Some, Contains}
-use Rattle.std.specs.List.{AllWithin}
-use Rattle.mesh_atoms.specs.declared.tuples.Link.{Link}
-use Rattle.mesh_atoms.specs.declared.tuples.LinkKey.{LinkKey}
-use Rattle.mesh_atoms.specs.Base.{link_eq, find, HasDistinctKeys}
-use Rattle.mesh_links.specs.Ending.{Spares}
-use Rattle.mesh_links.specs.Owners.{IsKeptOrGone}
+use Rattle.mesh_links.proofs.Common.{◌≡◌, ◌≤◌, ℕ, length, Some, Contains, AllWithin, Link, LinkKey, link_eq, find, HasDistinctKeys, Spares, IsKeptOrGone}
 use Rattle.mesh_links.proofs.ending.end_all.Given as goal
 
 abbrev pub invariant-loop-addr : goal.invariant-loop-addr

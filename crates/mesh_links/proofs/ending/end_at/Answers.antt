@@ -1,5 +1,4 @@
-use Rattle.std.proofs.Common.{refl, inl}
-use Rattle.mesh_links.specs.Ending.{Spares}
+use Rattle.mesh_links.proofs.Common.{refl, inl, Spares}
 use Rattle.mesh_links.proofs.Left.{left_without}
 use Rattle.mesh_links.proofs.Tied.{sole_gone}
 use Rattle.mesh_links.proofs.ending.end_at.Goals as goal

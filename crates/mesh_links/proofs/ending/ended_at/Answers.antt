@@ -1,8 +1,5 @@
-use Rattle.std.proofs.Common.{ℕ, sym, subst}
-use Rattle.mesh_atoms.specs.declared.tuples.Link.{Link}
-use Rattle.mesh_links.specs.Ending.{Spares}
+use Rattle.mesh_links.proofs.Common.{ℕ, sym, subst, Link, Spares, true_false}
 use Rattle.mesh_links.proofs.Tied.{sole, unowned, unlinked, same_of}
-use Rattle.mesh_atoms.proofs.Options.{true_false}
 use Rattle.mesh_links.proofs.ending.ended_at.Goals as goal
 
 pub returns-in_default-clause-none : goal.returns-in_default-clause-none

@@ -1,5 +1,4 @@
-use Rattle.std.proofs.Common.{refl, Bool, true, false}
-use Rattle.std.specs.Prelude.{◌↔◌, IsTrue, not}
+use Rattle.mesh_links.proofs.Common.{refl, Bool, true, false, ◌↔◌, IsTrue, not}
 use Rattle.mesh_links.proofs.ending.is_spared.Goals as goal
 
 not_so : (b : Bool) (P : Type 0) → (IsTrue b ↔ P) → (IsTrue (not b) ↔ (P → ⊥))

@@ -1,11 +1,4 @@
-use Rattle.std.proofs.Common.{◌≡◌, ℕ, ap, refl, ◌∙◌, Option, Some, None}
-use Rattle.std.specs.Prelude.{map, option_map}
-use Rattle.std.proofs.lemmas.Map.Made.{lookup-map_values}
-use Rattle.mesh_atoms.specs.declared.tuples.LinkKey.{LinkKey}
-use Rattle.mesh_atoms.specs.declared.tuples.Link.{Link}
-use Rattle.mesh_atoms.specs.Base.{Base, Expires, find, link_eq}
-use Rattle.mesh_atoms.specs.Live.{trim, trimmed}
-use Rattle.mesh_links.specs.Links.{ExpiresLinks}
+use Rattle.mesh_links.proofs.Common.{◌≡◌, ℕ, ap, refl, ◌∙◌, Option, Some, None, map, option_map, lookup-map_values, LinkKey, Link, Base, Expires, find, link_eq, trim, trimmed, ExpiresLinks}
 use Rattle.mesh_links.proofs.Room.{room_expired}
 use Rattle.mesh_links.proofs.expiry.expire_all.Goals as goal
 

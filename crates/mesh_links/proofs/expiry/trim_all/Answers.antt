@@ -1,8 +1,4 @@
-use Rattle.std.proofs.Common.{sym, arith, refl}
-use Rattle.mesh_atoms.specs.Base.{link_eq}
-use Rattle.mesh_atoms.specs.Live.{trimmed}
-use Rattle.mesh_atoms.proofs.Lookups.{link_equiv}
-use Rattle.mesh_expire.proofs.Laws.{walk_changed, distinct-changed_at}
+use Rattle.mesh_links.proofs.Common.{sym, arith, refl, link_eq, trimmed, link_equiv, walk_changed, distinct-changed_at}
 use Rattle.mesh_links.proofs.expiry.trim_all.Goals as goal
 
 pub loop-place-init : goal.loop-place-init

@@ -1,6 +1,4 @@
-use Rattle.std.proofs.Common.{◌≡◌, ◌++◌, take, drop, map}
-use Rattle.mesh_atoms.specs.Base.{link_eq, HasDistinctKeys}
-use Rattle.mesh_atoms.specs.Live.{trimmed}
+use Rattle.mesh_links.proofs.Common.{◌≡◌, ◌++◌, take, drop, map, link_eq, HasDistinctKeys, trimmed}
 use Rattle.mesh_links.proofs.expiry.trim_all.Given as goal
 
 abbrev pub invariant-loop-place : goal.invariant-loop-place

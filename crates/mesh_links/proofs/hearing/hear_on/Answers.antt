@@ -1,10 +1,4 @@
-use Rattle.std.proofs.Common.{◌≡◌, sym, ap, subst, ◌∙◌, Some, inr}
-use Rattle.std.proofs.lemmas.Result.{on_ok_weaker}
-use Rattle.mesh_atoms.specs.declared.addr.Addr4.{Addr4}
-use Rattle.mesh_atoms.specs.declared.tuples.LinkKey.{LinkKey}
-use Rattle.mesh_atoms.specs.Base.{find, link_eq}
-use Rattle.mesh_atoms.specs.AfterHello.{IsApart}
-use Rattle.mesh_links.specs.Links.{HearsOn}
+use Rattle.mesh_links.proofs.Common.{◌≡◌, sym, ap, subst, ◌∙◌, Some, inr, on_ok_weaker, Addr4, LinkKey, find, link_eq, IsApart, HearsOn}
 use Rattle.mesh_links.proofs.Tied.{hears_after, owned_more, kept_from}
 use Rattle.mesh_links.proofs.hearing.hear_on.Goals as goal
 

@@ -1,12 +1,6 @@
-use Rattle.std.proofs.Common.{◌≡◌, ap, sym, subst, arith, ◌∙◌, Some, ℕ}
-use Rattle.mesh_atoms.specs.declared.tuples.Link.{Link}
-use Rattle.mesh_atoms.specs.Base.{SetsOnly, link_eq}
-use Rattle.mesh_atoms.specs.AfterHello.{renewed}
-use Rattle.std.specs.Prelude.{OnOk}
-use Rattle.mesh_links.specs.Links.{HasRoom}
+use Rattle.mesh_links.proofs.Common.{◌≡◌, ap, sym, subst, arith, ◌∙◌, Some, ℕ, Link, SetsOnly, link_eq, renewed, OnOk, HasRoom, by_result}
 use Rattle.mesh_links.proofs.Room.{room_set}
 use Rattle.mesh_links.proofs.hearing.put_made.Goals as goal
-use Rattle.mesh_atoms.proofs.Options.{by_result}
 
 pub renew-until-requires-clause-sym : goal.renew-until-requires-clause-sym
 renew-until-requires-clause-sym g c = omega (arith, ap (λ (e : Link × ℕ). e.0.sym) c.in_ok-link.ensures)

@@ -1,12 +1,7 @@
-use Rattle.std.proofs.Common.{◌≡◌, sym, ◌∙◌, Some}
-use Rattle.std.proofs.lemmas.Result.{on_ok_weaker}
-use Rattle.mesh_atoms.specs.AfterHello.{Stood, Made, made, renewed}
-use Rattle.mesh_atoms.specs.Base.{SetsOnly, link_eq}
-use Rattle.mesh_links.specs.Owners.{HasLinkOwners}
+use Rattle.mesh_links.proofs.Common.{◌≡◌, sym, ◌∙◌, Some, on_ok_weaker, Stood, Made, made, renewed, SetsOnly, link_eq, HasLinkOwners, by_result}
 use Rattle.mesh_links.proofs.Renewed.{addrs-renewed}
 use Rattle.mesh_links.proofs.Tied.{owned_fewer, owned_set, fewer_same}
 use Rattle.mesh_links.proofs.hearing.renew_at.Goals as goal
-use Rattle.mesh_atoms.proofs.Options.{by_result}
 
 pub returns-in-Some-clause-ok : goal.returns-in-Some-clause-ok
 returns-in-Some-clause-ok g c =

@@ -1,9 +1,5 @@
-use Rattle.std.proofs.Common.{subst, refl, Some, ℕ}
+use Rattle.mesh_links.proofs.Common.{subst, refl, Some, ℕ, Link, SetsOnly, link_eq, link_equiv, sets-changed_at}
 use Rattle.mesh_links.proofs.Tied.{fewer_changed, fewer_same, fewer_twice}
-use Rattle.mesh_atoms.specs.declared.tuples.Link.{Link}
-use Rattle.mesh_atoms.specs.Base.{SetsOnly, link_eq}
-use Rattle.mesh_atoms.proofs.Lookups.{link_equiv}
-use Rattle.mesh_expire.proofs.Laws.{sets-changed_at}
 use Rattle.mesh_links.proofs.Room.{room_changed}
 use Rattle.mesh_links.proofs.Tables.{sets_again, set_there}
 use Rattle.mesh_links.proofs.hearing.renew_standing.Goals as goal

@@ -1,11 +1,6 @@
-use Rattle.std.proofs.Common.{◌≡◌, ap, sym, ◌∙◌, ℕ}
+use Rattle.mesh_links.proofs.Common.{◌≡◌, ap, sym, ◌∙◌, ℕ, Link, link_eq, find, renewed, link_equiv, found_some, sets-changed_at, distinct-changed_at}
 use Rattle.mesh_links.proofs.Renewed.{addrs-renewed}
 use Rattle.mesh_links.proofs.Tied.{fewer_changed, fewer_same}
-use Rattle.mesh_atoms.specs.declared.tuples.Link.{Link}
-use Rattle.mesh_atoms.specs.Base.{link_eq, find}
-use Rattle.mesh_atoms.specs.AfterHello.{renewed}
-use Rattle.mesh_atoms.proofs.Lookups.{link_equiv}
-use Rattle.mesh_expire.proofs.Laws.{found_some, sets-changed_at, distinct-changed_at}
 use Rattle.mesh_links.proofs.Room.{room_changed}
 use Rattle.mesh_links.proofs.Tables.{stood}
 use Rattle.mesh_links.proofs.hearing.renew_value.Goals as goal

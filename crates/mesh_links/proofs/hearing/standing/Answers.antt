@@ -1,4 +1,4 @@
-use Rattle.std.proofs.Common.{sym, ◌∙◌}
+use Rattle.mesh_links.proofs.Common.{sym, ◌∙◌}
 use Rattle.mesh_links.proofs.hearing.standing.Goals as goal
 
 pub returns-then-are_same-clause-some : goal.returns-then-are_same-clause-some

@@ -1,9 +1,5 @@
-use Rattle.std.proofs.Common.{◌≡◌, ℕ, sym, subst}
-use Rattle.std.specs.Prelude.{Contains}
-use Rattle.mesh_atoms.specs.declared.tuples.Link.{Link}
-use Rattle.mesh_atoms.specs.Base.{find, link_eq}
+use Rattle.mesh_links.proofs.Common.{◌≡◌, ℕ, sym, subst, Contains, Link, find, link_eq, true_false}
 use Rattle.mesh_links.proofs.Tied.{sole, unowned, unlinked, same_of}
-use Rattle.mesh_atoms.proofs.Options.{true_false}
 use Rattle.mesh_links.proofs.owners.link_with.Goals as goal
 
 pub returns-in_default-clause-none : goal.returns-in_default-clause-none

@@ -1,7 +1,4 @@
-use Rattle.std.proofs.Common.{◌≡◌}
-use Rattle.std.specs.Prelude.{Some}
-use Rattle.std.specs.List.{AllWithin}
-use Rattle.mesh_links.specs.Owners.{owner_of, OwnsMore}
+use Rattle.mesh_links.proofs.Common.{◌≡◌, Some, AllWithin, owner_of, OwnsMore}
 use Rattle.mesh_links.proofs.owners.own_all.Given as goal
 
 abbrev pub invariant-loop-addr : goal.invariant-loop-addr

@@ -1,11 +1,5 @@
-use Rattle.std.proofs.Common.{◌≡◌, Bool, is_some, rules, refl, ap, ◌∙◌}
-use Rattle.mesh_atoms.specs.declared.tuples.LinkKey.{LinkKey}
-use Rattle.std.specs.List.{filter}
-use Rattle.std.proofs.lemmas.Map.Entries.{lookup-filter-values}
+use Rattle.mesh_links.proofs.Common.{◌≡◌, Bool, is_some, rules, refl, ap, ◌∙◌, LinkKey, filter, lookup-filter-values, find, link_eq, addr_equiv, owner_of}
 use Rattle.indexmap.proofs.CallerLemmas.{filter-RetainsPairs}
-use Rattle.mesh_atoms.specs.Base.{find, link_eq}
-use Rattle.mesh_atoms.proofs.Lookups.{addr_equiv}
-use Rattle.mesh_links.specs.Owners.{owner_of}
 use Rattle.mesh_links.proofs.owners.purge.Goals as goal
 
 pub returns : goal.returns

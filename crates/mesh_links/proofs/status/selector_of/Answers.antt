@@ -1,9 +1,5 @@
-use Rattle.std.proofs.Common.{ℕ, ◌∙◌, sym, ap}
-use Rattle.mesh_atoms.specs.declared.tuples.Link.{Link}
-use Rattle.mesh_atoms.specs.State.{is_symmetric}
-use Rattle.mesh_links.specs.Links.{Linked, Unlinked}
+use Rattle.mesh_links.proofs.Common.{ℕ, ◌∙◌, sym, ap, Link, is_symmetric, Linked, Unlinked, true_false}
 use Rattle.mesh_links.proofs.Tied.{one_at}
-use Rattle.mesh_atoms.proofs.Options.{true_false}
 use Rattle.mesh_links.proofs.status.selector_of.Goals as goal
 
 pub returns-in_default : goal.returns-in_default

@@ -1,10 +1,4 @@
-use Rattle.std.proofs.Common.{◌<◌, arith, refl, length}
-use Rattle.std.proofs.lemmas.Bool.{false≢true}
-use Rattle.std.proofs.lemmas.Map.Entries.{lookup_from_place, place_from_lookup}
-use Rattle.std.proofs.lemmas.Option.{slice_get_within}
-use Rattle.mesh_atoms.specs.Base.{link_eq}
-use Rattle.mesh_atoms.proofs.Lookups.{link_equiv}
-use Rattle.mesh_atoms.proofs.Options.{true_false}
+use Rattle.mesh_links.proofs.Common.{◌<◌, arith, refl, length, false≢true, lookup_from_place, place_from_lookup, slice_get_within, link_eq, link_equiv, true_false}
 use Rattle.mesh_links.proofs.staying.are_all_unchanged.Goals as goal
 
 pub returns-then-not-is_unchanged_at : goal.returns-then-not-is_unchanged_at

@@ -1,8 +1,4 @@
-use Rattle.std.proofs.Common.{◌≡◌, ℕ, ◌<◌}
-use Rattle.std.specs.Prelude.{Some, slice_get}
-use Rattle.mesh_atoms.specs.declared.tuples.LinkKey.{LinkKey}
-use Rattle.mesh_atoms.specs.declared.tuples.Link.{Link}
-use Rattle.mesh_links.specs.Links.{IsLinkUnchanged}
+use Rattle.mesh_links.proofs.Common.{◌≡◌, ℕ, ◌<◌, Some, slice_get, LinkKey, Link, IsLinkUnchanged}
 use Rattle.mesh_links.proofs.staying.are_all_unchanged.Given as goal
 
 abbrev pub invariant-loop-place : goal.invariant-loop-place

@@ -1,8 +1,4 @@
-use Rattle.std.proofs.Common.{◌∙◌, ℕ, sym, subst, refl}
-use Rattle.mesh_atoms.specs.declared.tuples.LinkKey.{LinkKey}
-use Rattle.mesh_atoms.specs.declared.tuples.Link.{Link}
-use Rattle.mesh_links.specs.Links.{IsLinkUnchanged}
-use Rattle.mesh_atoms.proofs.Options.{some_equal, none_is_some}
+use Rattle.mesh_links.proofs.Common.{◌∙◌, ℕ, sym, subst, refl, LinkKey, Link, IsLinkUnchanged, some_equal, none_is_some}
 use Rattle.mesh_links.proofs.staying.is_unchanged_at.Goals as goal
 
 pub returns-in-Some : goal.returns-in-Some

@@ -1,5 +1,4 @@
-use Rattle.std.proofs.Common.{◌≡◌, ◌≤◌, ◌*◌, length, map, take}
-use Rattle.std.specs.List.{sum}
+use Rattle.mesh_machine.proofs.Common.{◌≡◌, ◌≤◌, ◌*◌, length, map, take, sum}
 use Rattle.mesh_machine.proofs.count.all_two_hop_count.Given as goal
 
 abbrev pub invariant-loop-iface : goal.invariant-loop-iface

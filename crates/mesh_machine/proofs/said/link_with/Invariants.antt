@@ -1,6 +1,4 @@
-use Rattle.std.proofs.Common.{◌≡◌, ℕ, ◌<◌}
-use Rattle.std.specs.Prelude.{Some, slice_get, Contains}
-use Rattle.mesh_atoms.specs.Base.{base_of}
+use Rattle.mesh_machine.proofs.Common.{◌≡◌, ℕ, ◌<◌, Some, slice_get, Contains, base_of}
 use Rattle.mesh_machine.proofs.said.link_with.Given as goal
 
 abbrev pub invariant-loop-place : goal.invariant-loop-place

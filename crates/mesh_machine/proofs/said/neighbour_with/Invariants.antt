@@ -1,5 +1,4 @@
-use Rattle.std.proofs.Common.{◌≡◌, ℕ, ◌<◌}
-use Rattle.std.specs.Prelude.{Some, slice_get, Contains, IsTrue}
+use Rattle.mesh_machine.proofs.Common.{◌≡◌, ℕ, ◌<◌, Some, slice_get, Contains, IsTrue}
 use Rattle.mesh_machine.proofs.said.neighbour_with.Given as goal
 
 abbrev pub invariant-loop-place : goal.invariant-loop-place

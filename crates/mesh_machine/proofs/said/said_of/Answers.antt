@@ -1,11 +1,5 @@
-use Rattle.std.proofs.Common.{◌∙◌, sym, ap, subst, Bool, List, ◌||◌}
-use Rattle.std.specs.Prelude.{◌↔◌, IsTrue}
-use Rattle.mesh_atoms.specs.declared.addr.Addr4.{Addr4}
-use Rattle.mesh_atoms.specs.Sound.{SoundNeighbourhood}
-use Rattle.mesh_atoms.specs.State.{Neighbourhood}
+use Rattle.mesh_machine.proofs.Common.{◌∙◌, sym, ap, subst, Bool, List, ◌||◌, ◌↔◌, IsTrue, Addr4, SoundNeighbourhood, Neighbourhood, IsFloodingRelay, or_else, is_link_symmetric, near_metric_in, near_metric_out, IsRelayOf}
 use Rattle.mesh_nhdp.specs.expire.Table.{entry_of}
-use Rattle.mesh_machine.specs.Said.{IsFloodingRelay, or_else, is_link_symmetric, near_metric_in, near_metric_out}
-use Rattle.mesh_hello.specs.Saying.Said.{IsRelayOf}
 use Rattle.mesh_machine.proofs.Saying.{said_by}
 use Rattle.mesh_machine.proofs.said.said_of.Goals as goal
 use Rattle.mesh_hello.proofs.SayingLemmas.OneRow.{lent_some}

@@ -1,4 +1,4 @@
-use Rattle.mesh_machine.specs.Ways.{AreArcsOut}
+use Rattle.mesh_machine.proofs.Common.{AreArcsOut}
 use Rattle.mesh_machine.proofs.ways.ways_of.Given as goal
 
 abbrev pub invariant-loop-x : goal.invariant-loop-x

@@ -1,5 +1,4 @@
-use Rattle.std.proofs.Common.{◌≡◌, ◌++◌}
-use Rattle.mesh_machine.specs.Traffic.{leaving}
+use Rattle.mesh_machine.proofs.Common.{◌≡◌, ◌++◌, leaving}
 use Rattle.mesh_machine.proofs.ways.ways_of_interface.Given as goal
 use Rattle.mesh_machine.proofs.Leaving.{leaving_from}
 

@@ -1,4 +1,4 @@
-use Rattle.mesh_machine.specs.Ways.{AreWaysOf}
+use Rattle.mesh_machine.proofs.Common.{AreWaysOf}
 use Rattle.mesh_machine.proofs.ways.ways_of_router.Given as goal
 
 abbrev pub invariant-loop-iface : goal.invariant-loop-iface

@@ -1,7 +1,4 @@
-use Rattle.std.proofs.Common.{◌≡◌, true, ap, is_some, arith}
-use Rattle.mesh_atoms.specs.Base.{addr_eq}
-use Rattle.mesh_atoms.proofs.Lookups.{same_addr}
-use Rattle.mesh_nbrs.specs.Parts.{HasSummaryAt}
+use Rattle.mesh_nbrs.proofs.Common.{◌≡◌, true, ap, is_some, arith, addr_eq, same_addr, HasSummaryAt}
 use Rattle.mesh_nbrs.proofs.Ended.{ended_more, all_ended}
 use Rattle.mesh_nbrs.proofs.ends.end_all.Goals as goal
 

@@ -1,7 +1,4 @@
-use Rattle.std.proofs.Common.{◌≡◌, ◌≤◌, length}
-use Rattle.mesh_atoms.specs.declared.tuples.Neighbour.{Neighbour}
-use Rattle.mesh_atoms.specs.Base.{HasDistinctKeys, addr_eq}
-use Rattle.mesh_nbrs.specs.Parts.{HasSummaryAt}
+use Rattle.mesh_nbrs.proofs.Common.{◌≡◌, ◌≤◌, length, Neighbour, HasDistinctKeys, addr_eq, HasSummaryAt}
 use Rattle.mesh_nbrs.proofs.Ended.{HasEnded}
 use Rattle.mesh_nbrs.proofs.ends.end_all.Given as goal
 

@@ -1,8 +1,4 @@
-use Rattle.std.proofs.Common.{inl, inr, arith}
-use Rattle.std.proofs.lemmas.Bool.{cases_lt}
-use Rattle.mesh_atoms.proofs.Lookups.{same_addr}
-use Rattle.mesh_expire.proofs.Laws.{walked}
-use Rattle.mesh_nbrs.specs.Parts.{HasSummaryAt}
+use Rattle.mesh_nbrs.proofs.Common.{inl, inr, arith, cases_lt, same_addr, walked, HasSummaryAt}
 use Rattle.mesh_nbrs.proofs.Ended.{if_none_so}
 use Rattle.mesh_nbrs.proofs.ends.next_from.Goals as goal
 

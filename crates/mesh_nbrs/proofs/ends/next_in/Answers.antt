@@ -1,7 +1,4 @@
-use Rattle.std.proofs.Common.{◌∙◌, sym}
-use Rattle.std.proofs.lemmas.Bool.{false≢true}
-use Rattle.std.proofs.lemmas.Map.Entries.{lookup_from_place}
-use Rattle.mesh_atoms.proofs.Lookups.{addr_equiv}
+use Rattle.mesh_nbrs.proofs.Common.{◌∙◌, sym, false≢true, lookup_from_place, addr_equiv}
 use Rattle.mesh_nbrs.proofs.ends.next_in.Goals as goal
 
 pub returns-then-not-has_part-clause-some : goal.returns-then-not-has_part-clause-some

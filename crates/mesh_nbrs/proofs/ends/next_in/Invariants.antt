@@ -1,6 +1,4 @@
-use Rattle.std.proofs.Common.{◌≡◌, ℕ, ◌<◌, ◌≤◌}
-use Rattle.std.specs.Prelude.{Some, slice_get}
-use Rattle.mesh_nbrs.specs.Parts.{HasSummaryAt}
+use Rattle.mesh_nbrs.proofs.Common.{◌≡◌, ℕ, ◌<◌, ◌≤◌, Some, slice_get, HasSummaryAt}
 use Rattle.mesh_nbrs.proofs.ends.next_in.Given as goal
 
 abbrev pub invariant-loop-place : goal.invariant-loop-place

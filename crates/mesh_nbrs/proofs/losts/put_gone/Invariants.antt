@@ -1,8 +1,4 @@
-use Rattle.std.proofs.Common.{◌≡◌, cond, take, Some}
-use Rattle.std.specs.Prelude.{◌&&◌, not}
-use Rattle.std.specs.List.{list_any}
-use Rattle.indexmap.specs.IndexSet.{contains}
-use Rattle.mesh_atoms.specs.Base.{HasDistinctKeys, find, addr_eq}
+use Rattle.mesh_nbrs.proofs.Common.{◌≡◌, cond, take, Some, ◌&&◌, not, list_any, contains, HasDistinctKeys, find, addr_eq}
 use Rattle.mesh_nbrs.proofs.losts.put_gone.Given as goal
 
 abbrev pub invariant-loop-addr : goal.invariant-loop-addr

@@ -1,7 +1,4 @@
-use Rattle.std.proofs.Common.{◌≡◌, take}
-use Rattle.std.specs.List.{list_any}
-use Rattle.indexmap.specs.IndexSet.{contains}
-use Rattle.mesh_atoms.specs.Base.{addr_eq}
+use Rattle.mesh_nbrs.proofs.Common.{◌≡◌, take, list_any, contains, addr_eq}
 use Rattle.mesh_nbrs.proofs.losts.set_of.Given as goal
 
 abbrev pub invariant-loop-addr : goal.invariant-loop-addr

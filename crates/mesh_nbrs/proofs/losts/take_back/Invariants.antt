@@ -1,6 +1,4 @@
-use Rattle.std.proofs.Common.{◌≡◌, cond, take, None}
-use Rattle.std.specs.List.{list_any}
-use Rattle.mesh_atoms.specs.Base.{HasDistinctKeys, find, addr_eq}
+use Rattle.mesh_nbrs.proofs.Common.{◌≡◌, cond, take, None, list_any, HasDistinctKeys, find, addr_eq}
 use Rattle.mesh_nbrs.proofs.losts.take_back.Given as goal
 
 abbrev pub invariant-loop-addr : goal.invariant-loop-addr

@@ -1,16 +1,4 @@
-use Rattle.std.proofs.Common.{◌≡◌, ℕ, List, Option, Some, None, inl, inr, refl, sym, ◌∙◌}
-use Rattle.std.proofs.lemmas.Bool.{false≢true}
-use Rattle.std.proofs.lemmas.Result.{on_ok_weaker}
-use Rattle.mesh_atoms.proofs.Lookups.{addr_equiv, same_addr}
-use Rattle.mesh_atoms.specs.declared.addr.Addr4.{Addr4}
-use Rattle.mesh_atoms.specs.declared.tuples.Neighbour.{Neighbour}
-use Rattle.mesh_atoms.specs.Base.{Base, SetsOnly, find, addr_eq}
-use Rattle.mesh_expire.specs.Table.{changed_at}
-use Rattle.mesh_expire.proofs.Laws.{sets-changed_at}
-use Rattle.mesh_nbrs.specs.declared.neighbours.LinkNote.{LinkNote}
-use Rattle.mesh_nbrs.specs.declared.summary.Summary.{Summary}
-use Rattle.mesh_nbrs.specs.Neighbours.{by_summary, HasNote, IsNotesSummary, RestoresBy}
-use Rattle.mesh_nbrs.specs.Parts.{AreSummariesOf, HasSummaryAt}
+use Rattle.mesh_nbrs.proofs.Common.{◌≡◌, ℕ, List, Option, Some, None, inl, inr, refl, sym, ◌∙◌, false≢true, on_ok_weaker, addr_equiv, same_addr, Addr4, Neighbour, Base, SetsOnly, find, addr_eq, changed_at, sets-changed_at, LinkNote, Summary, by_summary, HasNote, IsNotesSummary, RestoresBy, AreSummariesOf, HasSummaryAt}
 use Rattle.mesh_nbrs.proofs.ByAddress.{kept_noted}
 use Rattle.mesh_nbrs.proofs.Owning.{owned_kept}
 use Rattle.mesh_nbrs.proofs.Sets.{set_there, set_elsewhere}

@@ -1,8 +1,4 @@
-use Rattle.std.proofs.Common.{ℕ, ap, refl, ◌∙◌}
-use Rattle.mesh_atoms.specs.Base.{addr_eq}
-use Rattle.mesh_atoms.specs.declared.tuples.Neighbour.{Neighbour}
-use Rattle.mesh_nbrs.specs.Neighbours.{by_summary}
-use Rattle.mesh_expire.specs.Table.{changed_at}
+use Rattle.mesh_nbrs.proofs.Common.{ℕ, ap, refl, ◌∙◌, addr_eq, Neighbour, by_summary, changed_at}
 use Rattle.mesh_nbrs.proofs.Owning.{keeps_changed, keeps_same, keeps_twice}
 use Rattle.mesh_nbrs.proofs.Walks.{changed_at-twice}
 use Rattle.mesh_nbrs.proofs.neighbours.renew.Goals as goal

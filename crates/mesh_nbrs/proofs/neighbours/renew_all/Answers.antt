@@ -1,13 +1,4 @@
-use Rattle.std.proofs.Common.{◌≡◌, ℕ, ◌≤◌, length, List, Option, Some, None, inl, inr, sym, ◌∙◌, refl, arith}
-use Rattle.std.proofs.lemmas.Option.{slice_get_cases}
-use Rattle.mesh_atoms.proofs.Lookups.{addr_equiv, same_addr}
-use Rattle.mesh_atoms.specs.declared.addr.Addr4.{Addr4}
-use Rattle.mesh_atoms.specs.declared.tuples.Neighbour.{Neighbour}
-use Rattle.mesh_atoms.specs.Base.{Base, find, addr_eq}
-use Rattle.mesh_nbrs.specs.declared.neighbours.LinkNote.{LinkNote}
-use Rattle.mesh_nbrs.specs.declared.summary.Summary.{Summary}
-use Rattle.mesh_nbrs.specs.Neighbours.{by_summary, HasSummary}
-use Rattle.mesh_nbrs.specs.Parts.{AreSummariesOf}
+use Rattle.mesh_nbrs.proofs.Common.{◌≡◌, ℕ, ◌≤◌, length, List, Option, Some, None, inl, inr, sym, ◌∙◌, refl, arith, slice_get_cases, addr_equiv, same_addr, Addr4, Neighbour, Base, find, addr_eq, LinkNote, Summary, by_summary, HasSummary, AreSummariesOf}
 use Rattle.mesh_nbrs.proofs.Owning.{keeps_twice}
 use Rattle.mesh_nbrs.proofs.Walks.{IsWalked, walk_begins, walk_on, walk_ends}
 use Rattle.mesh_nbrs.proofs.neighbours.renew_all.Goals as goal

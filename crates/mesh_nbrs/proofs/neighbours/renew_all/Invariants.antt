@@ -1,9 +1,4 @@
-use Rattle.std.proofs.Common.{List, Some}
-use Rattle.mesh_atoms.specs.Base.{addr_eq}
-use Rattle.mesh_nbrs.specs.declared.neighbours.LinkNote.{LinkNote}
-use Rattle.mesh_nbrs.specs.Neighbours.{HasSummary}
-use Rattle.mesh_nbrs.specs.Owners.{KeepsAddrs}
-use Rattle.mesh_nbrs.specs.Parts.{AreSummariesOf}
+use Rattle.mesh_nbrs.proofs.Common.{List, Some, addr_eq, LinkNote, HasSummary, KeepsAddrs, AreSummariesOf}
 use Rattle.mesh_nbrs.proofs.Walks.{IsWalked}
 use Rattle.mesh_nbrs.proofs.neighbours.renew_all.Given as goal
 

@@ -1,9 +1,4 @@
-use Rattle.std.proofs.Common.{ap, sym, ◌∙◌}
-use Rattle.mesh_expire.proofs.Laws.{changed_at-agrees, changed_at-absent, found_none, found_some}
-use Rattle.mesh_atoms.proofs.Lookups.{addr_equiv}
-use Rattle.mesh_atoms.specs.Base.{addr_eq}
-use Rattle.mesh_atoms.specs.declared.tuples.Neighbour.{Neighbour}
-use Rattle.mesh_nbrs.specs.Neighbours.{by_summary}
+use Rattle.mesh_nbrs.proofs.Common.{ap, sym, ◌∙◌, changed_at-agrees, changed_at-absent, found_none, found_some, addr_equiv, addr_eq, Neighbour, by_summary}
 use Rattle.mesh_nbrs.proofs.neighbours.write.Goals as goal
 
 pub returns-in-Some : goal.returns-in-Some

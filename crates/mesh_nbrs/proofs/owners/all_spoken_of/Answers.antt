@@ -1,9 +1,4 @@
-use Rattle.std.proofs.Common.{◌≡◌, Bool, true, cond, List, Contains, ap, sym, ◌∙◌, subst, is_some}
-use Rattle.std.specs.Prelude.{◌↔◌, ◌&&◌}
-use Rattle.std.proofs.lemmas.Result.{IfOk-weaker}
-use Rattle.mesh_atoms.specs.declared.addr.Addr4.{Addr4}
-use Rattle.mesh_atoms.specs.Base.{find, addr_eq}
-use Rattle.mesh_nbrs.specs.Neighbours.{IsSpokenOf}
+use Rattle.mesh_nbrs.proofs.Common.{◌≡◌, Bool, true, cond, List, Contains, ap, sym, ◌∙◌, subst, is_some, ◌↔◌, ◌&&◌, IfOk-weaker, Addr4, find, addr_eq, IsSpokenOf}
 use Rattle.mesh_nbrs.proofs.Spoken.{spoken}
 use Rattle.mesh_nbrs.proofs.owners.all_spoken_of.Goals as goal
 

@@ -1,5 +1,4 @@
-use Rattle.std.proofs.Common.{take, None}
-use Rattle.mesh_nbrs.specs.Owners.{SetsOwner}
+use Rattle.mesh_nbrs.proofs.Common.{take, None, SetsOwner}
 use Rattle.mesh_nbrs.proofs.owners.disown.Given as goal
 
 abbrev pub invariant-loop-addr : goal.invariant-loop-addr

@@ -1,6 +1,4 @@
-use Rattle.std.proofs.Common.{ℕ, ap, sym}
-use Rattle.std.specs.Prelude.{option_map}
-use Rattle.mesh_atoms.specs.declared.tuples.Neighbour.{Neighbour}
+use Rattle.mesh_nbrs.proofs.Common.{ℕ, ap, sym, option_map, Neighbour}
 use Rattle.mesh_nbrs.proofs.Owning.{disowned, not_there}
 use Rattle.mesh_nbrs.proofs.owners.disown_at.Goals as goal
 

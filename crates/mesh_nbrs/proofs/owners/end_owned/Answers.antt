@@ -1,5 +1,4 @@
-use Rattle.std.proofs.Common.{arith}
-use Rattle.mesh_nbrs.specs.Parts.{HasSummaryAt}
+use Rattle.mesh_nbrs.proofs.Common.{arith, HasSummaryAt}
 use Rattle.mesh_nbrs.proofs.Owning.{owned_purged, owned_kept, keeps_same}
 use Rattle.mesh_nbrs.proofs.owners.end_owned.Goals as goal
 

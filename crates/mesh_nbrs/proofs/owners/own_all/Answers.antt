@@ -1,5 +1,4 @@
-use Rattle.std.proofs.Common.{ap, ◌∙◌, Some}
-use Rattle.mesh_nbrs.specs.Owners.{owner_of}
+use Rattle.mesh_nbrs.proofs.Common.{ap, ◌∙◌, Some, owner_of}
 use Rattle.mesh_nbrs.proofs.Owning.{others_keep}
 use Rattle.mesh_nbrs.proofs.owners.own_all.Goals as goal
 

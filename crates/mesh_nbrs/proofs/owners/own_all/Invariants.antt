@@ -1,5 +1,4 @@
-use Rattle.std.proofs.Common.{take, Some}
-use Rattle.mesh_nbrs.specs.Owners.{SetsOwner}
+use Rattle.mesh_nbrs.proofs.Common.{take, Some, SetsOwner}
 use Rattle.mesh_nbrs.proofs.owners.own_all.Given as goal
 
 abbrev pub invariant-loop-addr : goal.invariant-loop-addr

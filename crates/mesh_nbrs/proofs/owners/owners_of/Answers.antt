@@ -1,4 +1,4 @@
-use Rattle.mesh_nbrs.specs.Owners.{owner_of, is_owner}
+use Rattle.mesh_nbrs.proofs.Common.{owner_of, is_owner}
 use Rattle.mesh_nbrs.proofs.Listed.{any_more}
 use Rattle.mesh_nbrs.proofs.owners.owners_of.Goals as goal
 

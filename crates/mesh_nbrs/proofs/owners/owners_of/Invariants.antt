@@ -1,8 +1,4 @@
-use Rattle.std.proofs.Common.{◌≡◌, take}
-use Rattle.std.specs.List.{list_any}
-use Rattle.indexmap.specs.IndexSet.{contains}
-use Rattle.mesh_atoms.specs.Base.{addr_eq}
-use Rattle.mesh_nbrs.specs.Owners.{owner_of, is_owner}
+use Rattle.mesh_nbrs.proofs.Common.{◌≡◌, take, list_any, contains, addr_eq, owner_of, is_owner}
 use Rattle.mesh_nbrs.proofs.owners.owners_of.Given as goal
 
 abbrev pub invariant-loop-addr : goal.invariant-loop-addr

@@ -1,11 +1,4 @@
-use Rattle.std.proofs.Common.{◌≡◌, Bool, is_some, rules, ap, ◌∙◌}
-use Rattle.std.specs.List.{filter}
-use Rattle.std.proofs.lemmas.Map.Entries.{lookup-filter-values}
-use Rattle.indexmap.proofs.CallerLemmas.{filter-RetainsPairs}
-use Rattle.mesh_atoms.specs.declared.addr.Addr4.{Addr4}
-use Rattle.mesh_atoms.specs.Base.{find, addr_eq}
-use Rattle.mesh_atoms.proofs.Lookups.{addr_equiv}
-use Rattle.mesh_nbrs.specs.Owners.{owner_of}
+use Rattle.mesh_nbrs.proofs.Common.{◌≡◌, Bool, is_some, rules, ap, ◌∙◌, filter, lookup-filter-values, filter-RetainsPairs, Addr4, find, addr_eq, addr_equiv, owner_of}
 use Rattle.mesh_nbrs.proofs.Owning.{leaves_tested}
 use Rattle.mesh_nbrs.proofs.owners.purge.Goals as goal
 

@@ -1,6 +1,4 @@
-use Rattle.std.proofs.Common.{get_or, refl}
-use Rattle.std.proofs.lemmas.List.Elements.{Contains-get_or}
-use Rattle.mesh_atoms.specs.declared.addr.Addr4.{Addr4}
+use Rattle.mesh_nbrs.proofs.Common.{get_or, refl, Contains-get_or, Addr4}
 use Rattle.mesh_nbrs.proofs.parts.has_part.Goals as goal
 
 pub returns-then-is_noted : goal.returns-then-is_noted

@@ -1,6 +1,4 @@
-use Rattle.std.proofs.Common.{◌≡◌, ℕ, ◌<◌, get_or}
-use Rattle.std.specs.Prelude.{IsSome}
-use Rattle.mesh_nbrs.specs.Parts.{part_of}
+use Rattle.mesh_nbrs.proofs.Common.{◌≡◌, ℕ, ◌<◌, get_or, IsSome, part_of}
 use Rattle.mesh_nbrs.proofs.parts.has_part.Given as goal
 
 abbrev pub invariant-loop-addr : goal.invariant-loop-addr

@@ -1,7 +1,4 @@
-use Rattle.std.proofs.Common.{take, sym, subst, List}
-use Rattle.std.proofs.lemmas.List.{take_all}
-use Rattle.mesh_nbrs.specs.declared.neighbours.LinkNote.{LinkNote}
-use Rattle.mesh_nbrs.specs.Parts.{AreSummariesOf}
+use Rattle.mesh_nbrs.proofs.Common.{take, sym, subst, List, take_all, LinkNote, AreSummariesOf}
 use Rattle.mesh_nbrs.proofs.ByAddress.{one_more}
 use Rattle.mesh_nbrs.proofs.parts.parts_of.Goals as goal
 

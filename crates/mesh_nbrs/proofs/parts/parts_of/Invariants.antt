@@ -1,5 +1,4 @@
-use Rattle.std.proofs.Common.{take}
-use Rattle.mesh_nbrs.specs.Parts.{AreSummariesOf}
+use Rattle.mesh_nbrs.proofs.Common.{take, AreSummariesOf}
 use Rattle.mesh_nbrs.proofs.parts.parts_of.Given as goal
 
 abbrev pub invariant-loop-note : goal.invariant-loop-note

@@ -1,7 +1,4 @@
-use Rattle.std.proofs.Common.{take, subst, List}
-use Rattle.std.proofs.lemmas.List.{take_all}
-use Rattle.mesh_atoms.specs.declared.addr.Addr4.{Addr4}
-use Rattle.mesh_nbrs.specs.Neighbours.{HasNote, IsNotesSummary}
+use Rattle.mesh_nbrs.proofs.Common.{take, subst, List, take_all, Addr4, HasNote, IsNotesSummary}
 use Rattle.mesh_nbrs.proofs.ByAddress.{summary_next}
 use Rattle.mesh_nbrs.proofs.parts.together.Goals as goal
 

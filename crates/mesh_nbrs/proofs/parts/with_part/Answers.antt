@@ -1,4 +1,4 @@
-use Rattle.std.proofs.Common.{Some, None}
+use Rattle.mesh_nbrs.proofs.Common.{Some, None}
 use Rattle.mesh_nbrs.proofs.ByAddress.{summary_past, summary_more, part_is}
 use Rattle.mesh_nbrs.proofs.parts.with_part.Goals as goal
 

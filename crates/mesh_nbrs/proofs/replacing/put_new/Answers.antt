@@ -1,4 +1,4 @@
-use Rattle.std.proofs.Common.{sym, ◌∙◌}
+use Rattle.mesh_nbrs.proofs.Common.{sym, ◌∙◌}
 use Rattle.mesh_nbrs.proofs.Owning.{owned_back, owned_put, owned_kept, keeps_same, on_err_so, on_ok_so}
 use Rattle.mesh_nbrs.proofs.replacing.put_new.Goals as goal
 

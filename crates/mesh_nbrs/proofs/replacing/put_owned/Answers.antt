@@ -1,9 +1,7 @@
-use Rattle.std.proofs.Common.{None}
-use Rattle.mesh_atoms.proofs.Lookups.{addr_equiv}
+use Rattle.mesh_nbrs.proofs.Common.{None, addr_equiv, by_result}
 use Rattle.mesh_nbrs.proofs.Sets.{set_there}
 use Rattle.mesh_nbrs.proofs.Owning.{owned_kept, keeps_put, keeps_same}
 use Rattle.mesh_nbrs.proofs.replacing.put_owned.Goals as goal
-use Rattle.mesh_atoms.proofs.Options.{by_result}
 
 pub returns-then-has_just-clause-owned : goal.returns-then-has_just-clause-owned
 returns-then-has_just-clause-owned g c =

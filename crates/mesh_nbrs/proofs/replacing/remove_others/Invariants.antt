@@ -1,8 +1,4 @@
-use Rattle.std.proofs.Common.{◌≡◌, ◌≤◌, cond, length, take, None}
-use Rattle.std.specs.Prelude.{◌&&◌, not}
-use Rattle.std.specs.List.{list_any}
-use Rattle.mesh_atoms.specs.Base.{HasDistinctKeys, find, addr_eq}
-use Rattle.mesh_nbrs.specs.Owners.{Owned}
+use Rattle.mesh_nbrs.proofs.Common.{◌≡◌, ◌≤◌, cond, length, take, None, ◌&&◌, not, list_any, HasDistinctKeys, find, addr_eq, Owned}
 use Rattle.mesh_nbrs.proofs.replacing.remove_others.Given as goal
 
 abbrev pub invariant-loop-other : goal.invariant-loop-other

@@ -1,9 +1,5 @@
-use Rattle.std.proofs.Common.{◌≡◌, length, subst, arith}
-use Rattle.mesh_atoms.specs.Base.{find, two_hop_eq}
-use Rattle.mesh_atoms.specs.Words.{IsKept}
-use Rattle.mesh_nhdp.specs.Calls.{is_symmetric_in}
+use Rattle.mesh_nhdp.proofs.Common.{◌≡◌, length, subst, arith, find, two_hop_eq, IsKept, is_symmetric_in, slice_get-get_or}
 use Rattle.mesh_nhdp.proofs.Ends.{IsEndedBelow, ended_more, ended_all}
-use Rattle.std.proofs.lemmas.Option.{slice_get-get_or}
 use Rattle.mesh_nhdp.proofs.drops.drop_ended.Goals as goal
 
 pub loop-key-preserved : goal.loop-key-preserved

@@ -1,7 +1,4 @@
-use Rattle.mesh_atoms.specs.declared.tuples.TwoHopKey.{TwoHopKey}
-use Rattle.mesh_atoms.specs.Base.{find, two_hop_eq}
-use Rattle.mesh_atoms.specs.Words.{IsKept}
-use Rattle.mesh_nhdp.specs.Calls.{is_symmetric_in}
+use Rattle.mesh_nhdp.proofs.Common.{TwoHopKey, find, two_hop_eq, IsKept, is_symmetric_in}
 use Rattle.mesh_nhdp.proofs.Ends.{IsEndedBelow}
 use Rattle.mesh_nhdp.proofs.drops.drop_ended.Given as goal
 

@@ -1,7 +1,4 @@
-use Rattle.std.proofs.lemmas.Result.{on_ok_weaker}
-use Rattle.std.proofs.Common.{◌∙◌, ap, sym, subst}
-use Rattle.mesh_atoms.specs.State.{Neighbourhood}
-use Rattle.mesh_nhdp.specs.Interfaces.{ChangesEach}
+use Rattle.mesh_nhdp.proofs.Common.{on_ok_weaker, ◌∙◌, ap, sym, subst, Neighbourhood, ChangesEach}
 use Rattle.mesh_nhdp.proofs.Expiry.{expiry_runs}
 use Rattle.mesh_nhdp.proofs.expire.expire_all.Goals as goal
 

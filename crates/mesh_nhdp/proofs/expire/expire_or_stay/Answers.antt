@@ -1,4 +1,4 @@
-use Rattle.std.proofs.lemmas.Bool.{false≢true, iff_false}
+use Rattle.mesh_nhdp.proofs.Common.{false≢true, iff_false}
 use Rattle.mesh_nhdp.proofs.Unchanged.{as_it_was, beside_live, beside_sound}
 use Rattle.mesh_nhdp.proofs.expire.expire_or_stay.Goals as goal
 

@@ -1,15 +1,4 @@
-use Rattle.std.proofs.lemmas.Result.{on_ok_weaker}
-use Rattle.std.proofs.Common.{List, ap, subst, ◌∙◌, refl}
-use Rattle.mesh_atoms.specs.declared.addr.Addr4.{Addr4}
-use Rattle.mesh_atoms.specs.declared.tuples.Link.{Link}
-use Rattle.mesh_atoms.specs.declared.tuples.LinkKey.{LinkKey}
-use Rattle.mesh_atoms.specs.declared.tuples.Neighbour.{Neighbour}
-use Rattle.mesh_atoms.specs.Base.{Base, find, addr_eq}
-use Rattle.mesh_nbrs.specs.declared.neighbours.LinkNote.{LinkNote}
-use Rattle.mesh_nbrs.specs.Losts.{SettlesAll}
-use Rattle.mesh_nbrs.specs.Neighbours.{RestoresBy}
-use Rattle.mesh_nhdp.specs.Calls.{TellsLinksOf}
-use Rattle.mesh_nhdp.specs.Wanted.{symmetric_at}
+use Rattle.mesh_nhdp.proofs.Common.{on_ok_weaker, List, ap, subst, ◌∙◌, refl, Addr4, Link, LinkKey, Neighbour, Base, find, addr_eq, LinkNote, SettlesAll, RestoresBy, TellsLinksOf, symmetric_at}
 use Rattle.mesh_nhdp.proofs.follow.follow_links_of.Goals as goal
 
 pub returns : goal.returns

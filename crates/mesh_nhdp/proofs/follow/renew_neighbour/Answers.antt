@@ -1,7 +1,4 @@
-use Rattle.std.proofs.Common.{List, subst}
-use Rattle.std.proofs.lemmas.Result.{on_ok_weaker}
-use Rattle.mesh_atoms.specs.declared.addr.Addr4.{Addr4}
-use Rattle.mesh_nbrs.specs.Neighbours.{Replaces}
+use Rattle.mesh_nhdp.proofs.Common.{List, subst, on_ok_weaker, Addr4, Replaces}
 use Rattle.mesh_nhdp.proofs.follow.renew_neighbour.Goals as goal
 
 pub returns : goal.returns

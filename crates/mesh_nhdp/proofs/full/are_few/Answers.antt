@@ -1,6 +1,4 @@
-use Rattle.std.proofs.Common.{◌≡◌, ◌+◌, ◌<◌, length, ap, ◌∙◌, arith}
-use Rattle.std.proofs.lemmas.Bool.{ltb-true}
-use Rattle.mesh_atoms.specs.State.{Neighbourhood}
+use Rattle.mesh_nhdp.proofs.Common.{◌≡◌, ◌+◌, ◌<◌, length, ap, ◌∙◌, arith, ltb-true, Neighbourhood}
 use Rattle.mesh_nhdp.proofs.HeldAddresses.{few_held}
 use Rattle.mesh_nhdp.proofs.full.are_few.Goals as goal
 

@@ -1,15 +1,4 @@
-use Rattle.std.proofs.Common.{◌≡◌, ℕ, ◌↔◌, ◌⊎◌, sym, subst, Contains, IsTrue}
-use Rattle.std.specs.Prelude.{nat_lt}
-use Rattle.mesh_atoms.specs.declared.addr.Addr4.{Addr4}
-use Rattle.mesh_atoms.specs.declared.tuples.Neighbour.{Neighbour}
-use Rattle.mesh_atoms.specs.Base.{Base}
-use Rattle.mesh_atoms.specs.State.{Neighbourhood}
-use Rattle.mesh_atoms.specs.TakesHello.{IsHeld}
-use Rattle.mesh_atoms.specs.Words.{AreMoreThan}
-use Rattle.mesh_nhdp.specs.declared.near_addresses.WantedNeighbours.TheVariants.{Each}
-use Rattle.mesh_nhdp.specs.Wanted.{IsWantedAddress}
-use Rattle.mesh_hello.proofs.Collect.{iff_on}
-use Rattle.mesh_hello.proofs.Fits.{are_more}
+use Rattle.mesh_nhdp.proofs.Common.{◌≡◌, ℕ, ◌↔◌, ◌⊎◌, sym, subst, Contains, IsTrue, nat_lt, Addr4, Neighbour, Base, Neighbourhood, IsHeld, AreMoreThan, Each, IsWantedAddress, iff_on, are_more}
 use Rattle.mesh_nhdp.proofs.HeldAddresses.{held_addresses}
 use Rattle.mesh_nhdp.proofs.full.are_many.Goals as goal
 

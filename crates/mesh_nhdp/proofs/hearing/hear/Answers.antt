@@ -1,11 +1,5 @@
-use Rattle.std.proofs.Common.{◌<◌, ◌↔◌, Contains, sym, subst, inl}
-use Rattle.mesh_atoms.specs.declared.addr.Addr4.{Addr4}
-use Rattle.mesh_atoms.specs.declared.hello.LocalIf.TheVariants.{This}
-use Rattle.mesh_atoms.specs.HelloTold.{TellsLocal}
-use Rattle.mesh_hello.specs.Told.Telling.{told_of}
+use Rattle.mesh_nhdp.proofs.Common.{◌<◌, ◌↔◌, Contains, sym, subst, inl, Addr4, This, TellsLocal, told_of, Neighbourhood, IsSpokenAddress, IsSymmetricSpokenAddress}
 use Rattle.mesh_hello.proofs.ToldLemmas.Mines.{sending_some, more_some}
-use Rattle.mesh_atoms.specs.State.{Neighbourhood}
-use Rattle.mesh_nhdp.specs.Wanted.{IsSpokenAddress, IsSymmetricSpokenAddress}
 use Rattle.mesh_nhdp.proofs.Receipt.{receipt_runs}
 use Rattle.mesh_nhdp.proofs.hearing.hear.Goals as goal
 

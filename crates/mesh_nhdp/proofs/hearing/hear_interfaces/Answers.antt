@@ -1,16 +1,7 @@
-use Rattle.std.proofs.lemmas.List.{length-set}
-use Rattle.std.proofs.lemmas.Result.{on_ok_weaker}
-use Rattle.std.proofs.Common.{◌≡◌, ◌∙◌, ◌<◌, ap, length, refl, sym, subst, arith}
-use Rattle.mesh_atoms.specs.declared.tuples.Link.{Link}
-use Rattle.mesh_atoms.specs.declared.tuples.LinkKey.{LinkKey}
-use Rattle.mesh_atoms.specs.Base.{Base, base_of}
-use Rattle.mesh_nhdp.specs.Calls.{is_symmetric_in}
-use Rattle.mesh_atoms.specs.State.{Neighbourhood}
-use Rattle.mesh_nhdp.specs.Interfaces.{ChangesEach}
+use Rattle.mesh_nhdp.proofs.Common.{length-set, on_ok_weaker, ◌≡◌, ◌∙◌, ◌<◌, ap, length, refl, sym, subst, arith, Link, LinkKey, Base, base_of, is_symmetric_in, Neighbourhood, ChangesEach, if_ok_weaker as if_ok}
 use Rattle.mesh_nhdp.proofs.AllHears.{is_base, written_same, written_other}
 use Rattle.mesh_nhdp.proofs.RowsRepeat.{repeated_before}
 use Rattle.mesh_nhdp.proofs.hearing.hear_interfaces.Goals as goal
-use Rattle.mesh_atoms.proofs.Options.{if_ok_weaker as if_ok}
 
 pub returns : goal.returns
 returns g c =

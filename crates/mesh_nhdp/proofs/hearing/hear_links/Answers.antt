@@ -1,14 +1,7 @@
-use Rattle.std.proofs.lemmas.Result.{on_ok_weaker}
-use Rattle.std.proofs.Common.{List, subst}
-use Rattle.mesh_atoms.specs.declared.addr.Addr4.{Addr4}
-use Rattle.mesh_atoms.specs.Base.{base_of}
-use Rattle.mesh_atoms.specs.Quality.{rule_of}
-use Rattle.mesh_hello.specs.Told.Telling.{told_of}
-use Rattle.mesh_nhdp.specs.Repeats.{RepeatsRows}
+use Rattle.mesh_nhdp.proofs.Common.{on_ok_weaker, List, subst, Addr4, base_of, rule_of, told_of, RepeatsRows, if_ok_weaker as if_ok}
 use Rattle.mesh_nhdp.proofs.Expiry.{face_rule}
 use Rattle.mesh_nhdp.proofs.Receipt.{links_heard}
 use Rattle.mesh_nhdp.proofs.hearing.hear_links.Goals as goal
-use Rattle.mesh_atoms.proofs.Options.{if_ok_weaker as if_ok}
 
 pub returns-clause-hears : goal.returns-clause-hears
 returns-clause-hears g c =

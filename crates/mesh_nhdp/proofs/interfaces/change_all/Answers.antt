@@ -1,6 +1,4 @@
-use Rattle.std.proofs.Common.{◌≡◌, ◌<◌, ◌∙◌, length, sym, subst, refl, arith}
-use Rattle.std.proofs.lemmas.List.{length-set}
-use Rattle.mesh_atoms.specs.State.{Neighbourhood}
+use Rattle.mesh_nhdp.proofs.Common.{◌≡◌, ◌<◌, ◌∙◌, length, sym, subst, refl, arith, length-set, Neighbourhood}
 use Rattle.mesh_nhdp.proofs.AllHears.{is_base, written_other, changed_more}
 use Rattle.mesh_nhdp.proofs.interfaces.change_all.Goals as goal
 

@@ -1,5 +1,4 @@
-use Rattle.std.proofs.Common.{◌≡◌, ℕ, ◌<◌, ◌≤◌, length}
-use Rattle.mesh_atoms.specs.Base.{base_of}
+use Rattle.mesh_nhdp.proofs.Common.{◌≡◌, ℕ, ◌<◌, ◌≤◌, length, base_of}
 use Rattle.mesh_nhdp.proofs.interfaces.change_all.Given as goal
 
 abbrev pub invariant-loop-i : goal.invariant-loop-i

@@ -1,8 +1,4 @@
-use Rattle.std.proofs.Common.{ap, sym, subst, ◌∙◌, ◌++◌}
-use Rattle.std.specs.Map.{keys_of}
-use Rattle.mesh_atoms.specs.declared.tuples.LinkKey.{LinkKey}
-use Rattle.mesh_atoms.specs.declared.tuples.Link.{Link}
-use Rattle.mesh_atoms.specs.Base.{Base, HasDistinctKeys, link_eq}
+use Rattle.mesh_nhdp.proofs.Common.{ap, sym, subst, ◌∙◌, ◌++◌, keys_of, LinkKey, Link, Base, HasDistinctKeys, link_eq}
 use Rattle.mesh_nhdp.proofs.LinkKeys.{tells_keys}
 use Rattle.mesh_nhdp.proofs.interfaces.link_keys.Goals as goal
 

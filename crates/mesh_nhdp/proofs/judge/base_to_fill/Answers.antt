@@ -1,7 +1,5 @@
-use Rattle.std.proofs.Common.{◌<◌, ◌≤◌, ◌+◌, ◌-◌, sym, length, arith}
-use Rattle.mesh_hello.specs.Told.Telling.{told_of}
+use Rattle.mesh_nhdp.proofs.Common.{◌<◌, ◌≤◌, ◌+◌, ◌-◌, sym, length, arith, told_of, iff_false}
 use Rattle.mesh_nhdp.proofs.FewRows.{few_rows}
-use Rattle.std.proofs.lemmas.Bool.{iff_false}
 use Rattle.mesh_nhdp.proofs.Judges.{overfills, fits}
 use Rattle.mesh_nhdp.proofs.judge.base_to_fill.Goals as goal
 

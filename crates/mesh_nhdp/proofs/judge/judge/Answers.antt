@@ -1,9 +1,6 @@
-use Rattle.std.proofs.Common.{subst, Some, None}
-use Rattle.std.specs.Prelude.{Option}
+use Rattle.mesh_nhdp.proofs.Common.{subst, Some, None, Option, told_of, IsFilledBy}
 use Rattle.mesh_atoms.specs.declared.tuples.Base.{Base}
-use Rattle.mesh_hello.specs.Told.Telling.{told_of}
 use Rattle.mesh_hello.proofs.ToldLemmas.Local.{fault_at}
-use Rattle.mesh_nhdp.specs.Judged.{IsFilledBy}
 use Rattle.mesh_nhdp.proofs.Judges.{own_at, judged_full}
 use Rattle.mesh_nhdp.proofs.judge.judge.Goals as goal
 

@@ -1,13 +1,5 @@
-use Rattle.std.proofs.Common.{List, Contains, map, inl, inr, sym, ap, subst, ◌∙◌}
-use Rattle.std.specs.Prelude.{option_map}
-use Rattle.std.proofs.lemmas.Option.{slice_get-map}
-use Rattle.std.proofs.lemmas.List.Elements.{Contains-append_left, Contains-append_right}
-use Rattle.mesh_atoms.specs.declared.addr.Addr4.{Addr4}
-use Rattle.mesh_atoms.specs.declared.tuples.LinkKey.{LinkKey}
-use Rattle.mesh_nhdp.specs.Calls.{key_at}
-use Rattle.mesh_hello.proofs.Collect.{item_at}
+use Rattle.mesh_nhdp.proofs.Common.{List, Contains, map, inl, inr, sym, ap, subst, ◌∙◌, option_map, slice_get-map, Contains-append_left, Contains-append_right, Addr4, LinkKey, key_at, item_at, contains_at}
 use Rattle.mesh_nhdp.proofs.keys.keys_of_both.Goals as goal
-use Rattle.mesh_atoms.proofs.Lists.{contains_at}
 
 has_key : (xs : List Addr4) (a : Addr4) → Contains xs a → Contains (map key_at xs) (key_at a)
 has_key xs a has = contains_at (map key_at xs) has.0 (key_at a) (slice_get-map key_at xs has.0 ∙ ap (option_map key_at) (item_at xs has.0 a has.1 (sym has.2)))

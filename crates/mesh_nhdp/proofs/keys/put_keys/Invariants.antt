@@ -1,5 +1,4 @@
-use Rattle.std.proofs.Common.{◌≡◌, ◌++◌, drop, map}
-use Rattle.mesh_nhdp.specs.Calls.{key_at}
+use Rattle.mesh_nhdp.proofs.Common.{◌≡◌, ◌++◌, drop, map, key_at}
 use Rattle.mesh_nhdp.proofs.keys.put_keys.Given as goal
 
 abbrev pub invariant-loop-addr : goal.invariant-loop-addr

@@ -1,5 +1,4 @@
-use Rattle.std.proofs.Common.{◌++◌, ap, ◌∙◌, refl}
-use Rattle.mesh_hello.proofs.Collect.{adds_where}
+use Rattle.mesh_nhdp.proofs.Common.{◌++◌, ap, ◌∙◌, refl, adds_where}
 use Rattle.mesh_nhdp.proofs.near_addresses.add_wanted.Goals as goal
 
 pub returns-in_ok-extend_from_slice : goal.returns-in_ok-extend_from_slice

@@ -1,5 +1,4 @@
-use Rattle.std.proofs.Common.{refl, sym}
-use Rattle.std.proofs.lemmas.Result.{on_ok_weaker}
+use Rattle.mesh_nhdp.proofs.Common.{refl, sym, on_ok_weaker}
 use Rattle.mesh_nhdp.proofs.Spoken.{adds_found, adds_unfound}
 use Rattle.mesh_nhdp.proofs.near_addresses.add_wanted_at.Goals as goal
 

@@ -1,8 +1,4 @@
-use Rattle.std.proofs.Common.{◌≡◌, ℕ, ◌↔◌, length, Contains, subst, arith}
-use Rattle.mesh_atoms.specs.declared.addr.Addr4.{Addr4}
-use Rattle.mesh_nhdp.specs.Wanted.{IsWantedAt}
-use Rattle.mesh_hello.proofs.Collect.{gathers_more, below_contains, iff_on, SomeBelow}
-use Rattle.std.proofs.lemmas.Option.{slice_get-get_or}
+use Rattle.mesh_nhdp.proofs.Common.{◌≡◌, ℕ, ◌↔◌, length, Contains, subst, arith, Addr4, IsWantedAt, gathers_more, below_contains, iff_on, SomeBelow, slice_get-get_or}
 use Rattle.mesh_nhdp.proofs.near_addresses.addresses_of.Goals as goal
 
 pub loop-originator-preserved : goal.loop-originator-preserved

@@ -1,8 +1,4 @@
-use Rattle.std.proofs.Common.{◌↔◌}
-use Rattle.std.specs.Prelude.{Contains}
-use Rattle.mesh_atoms.specs.declared.addr.Addr4.{Addr4}
-use Rattle.mesh_nhdp.specs.Wanted.{IsWantedAt}
-use Rattle.mesh_hello.proofs.Collect.{SomeBelow}
+use Rattle.mesh_nhdp.proofs.Common.{◌↔◌, Contains, Addr4, IsWantedAt, SomeBelow}
 use Rattle.mesh_nhdp.proofs.near_addresses.addresses_of.Given as goal
 
 abbrev pub invariant-loop-originator : goal.invariant-loop-originator

@@ -1,6 +1,4 @@
-use Rattle.std.proofs.Common.{List, ◌↔◌, subst, Contains}
-use Rattle.mesh_atoms.specs.declared.addr.Addr4.{Addr4}
-use Rattle.mesh_nbrs.specs.Neighbours.{IsSpokenOf}
+use Rattle.mesh_nhdp.proofs.Common.{List, ◌↔◌, subst, Contains, Addr4, IsSpokenOf}
 use Rattle.mesh_nhdp.proofs.Spoken.{all_spoken, symmetric_spoken}
 use Rattle.mesh_nhdp.proofs.near_addresses.spoken_addresses.Goals as goal
 

@@ -1,10 +1,4 @@
-use Rattle.std.proofs.Common.{◌≡◌, ℕ, length, Contains, sym, subst, arith}
-use Rattle.mesh_atoms.specs.declared.addr.Addr4.{Addr4}
-use Rattle.mesh_atoms.specs.declared.tuples.Neighbour.{Neighbour}
-use Rattle.mesh_atoms.proofs.Lookups.{addr_equiv, same_addr}
-use Rattle.mesh_nhdp.specs.Wanted.{IsWanted}
-use Rattle.mesh_hello.proofs.Collect.{gathers_more, found_below, below_found, SomeBelow}
-use Rattle.mesh_atoms.proofs.Lists.{none_within}
+use Rattle.mesh_nhdp.proofs.Common.{◌≡◌, ℕ, length, Contains, sym, subst, arith, Addr4, Neighbour, addr_equiv, same_addr, IsWanted, gathers_more, found_below, below_found, SomeBelow, none_within}
 use Rattle.mesh_nhdp.proofs.near_addresses.wanted_addresses.Goals as goal
 
 pub returns-in-None : goal.returns-in-None

@@ -1,12 +1,5 @@
-use Rattle.std.proofs.Common.{◌≡◌, ℕ, sym, ap, ◌∙◌, refl, Some}
-use Rattle.mesh_atoms.specs.declared.tuples.LinkKey.{LinkKey}
-use Rattle.mesh_atoms.specs.declared.tuples.Link.{Link}
-use Rattle.mesh_atoms.specs.Base.{Base, find, link_eq}
-use Rattle.mesh_nbrs.specs.declared.neighbours.LinkNote.{LinkNote}
-use Rattle.mesh_nhdp.specs.Calls.{note_of}
-use Rattle.mesh_hello.proofs.Collect.{adds_one, adds_nothing}
+use Rattle.mesh_nhdp.proofs.Common.{◌≡◌, ℕ, sym, ap, ◌∙◌, refl, Some, LinkKey, Link, Base, find, link_eq, LinkNote, note_of, adds_one, adds_nothing, same_some, none_not}
 use Rattle.mesh_nhdp.proofs.notes.add_note_at.Goals as goal
-use Rattle.mesh_atoms.proofs.Options.{same_some, none_not}
 
 -- the notes of the link with the key
 abbrev IsAt : Base LinkKey Link → LinkKey → ℕ → LinkNote → Type 0

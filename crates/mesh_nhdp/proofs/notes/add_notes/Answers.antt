@@ -1,12 +1,4 @@
-use Rattle.std.proofs.Common.{◌≡◌, ℕ, length, sym, ◌∙◌, subst, arith}
-use Rattle.mesh_atoms.specs.declared.tuples.LinkKey.{LinkKey}
-use Rattle.mesh_atoms.specs.declared.tuples.Link.{Link}
-use Rattle.mesh_atoms.specs.Base.{Base}
-use Rattle.mesh_atoms.proofs.Lookups.{link_equiv, same_link}
-use Rattle.mesh_nbrs.specs.declared.neighbours.LinkNote.{LinkNote}
-use Rattle.mesh_nhdp.specs.Calls.{note_of}
-use Rattle.mesh_hello.proofs.Collect.{SomeBelow, adds_more, adds_one, adds_so, found_below, below_found}
-use Rattle.mesh_atoms.proofs.Lists.{none_within}
+use Rattle.mesh_nhdp.proofs.Common.{◌≡◌, ℕ, length, sym, ◌∙◌, subst, arith, LinkKey, Link, Base, link_equiv, same_link, LinkNote, note_of, SomeBelow, adds_more, adds_one, adds_so, found_below, below_found, none_within}
 use Rattle.mesh_nhdp.proofs.notes.add_notes.Goals as goal
 
 pub returns-in-None : goal.returns-in-None

@@ -1,7 +1,4 @@
-use Rattle.std.proofs.Common.{◌≡◌}
-use Rattle.mesh_nhdp.specs.Calls.{note_of}
-use Rattle.mesh_hello.specs.Gathers.{Gathers}
-use Rattle.mesh_hello.proofs.Collect.{SomeBelow}
+use Rattle.mesh_nhdp.proofs.Common.{◌≡◌, note_of, Gathers, SomeBelow}
 use Rattle.mesh_nhdp.proofs.notes.add_notes.Given as goal
 
 abbrev pub invariant-loop-place : goal.invariant-loop-place

@@ -1,11 +1,4 @@
-use Rattle.std.proofs.Common.{◌≡◌, ℕ, Some, length, sym, subst, arith}
-use Rattle.mesh_atoms.specs.declared.addr.Addr4.{Addr4}
-use Rattle.mesh_atoms.specs.declared.tuples.Link.{Link}
-use Rattle.mesh_atoms.specs.Base.{find, link_eq}
-use Rattle.mesh_nbrs.specs.declared.neighbours.LinkNote.{LinkNote}
-use Rattle.mesh_nhdp.specs.Calls.{key_at, note_of}
-use Rattle.mesh_hello.proofs.Collect.{SomeBelow, adds_more, adds_so, below_contains}
-use Rattle.std.proofs.lemmas.Option.{slice_get-get_or}
+use Rattle.mesh_nhdp.proofs.Common.{◌≡◌, ℕ, Some, length, sym, subst, arith, Addr4, Link, find, link_eq, LinkNote, key_at, note_of, SomeBelow, adds_more, adds_so, below_contains, slice_get-get_or}
 use Rattle.mesh_nhdp.proofs.notes.add_notes_among.Goals as goal
 
 pub loop-addr-preserved : goal.loop-addr-preserved

@@ -1,9 +1,4 @@
-use Rattle.std.proofs.Common.{◌≡◌, ℕ, Some}
-use Rattle.mesh_atoms.specs.declared.tuples.Link.{Link}
-use Rattle.mesh_atoms.specs.Base.{find, link_eq}
-use Rattle.mesh_nhdp.specs.Calls.{key_at, note_of}
-use Rattle.mesh_hello.specs.Gathers.{Gathers}
-use Rattle.mesh_hello.proofs.Collect.{SomeBelow}
+use Rattle.mesh_nhdp.proofs.Common.{◌≡◌, ℕ, Some, Link, find, link_eq, key_at, note_of, Gathers, SomeBelow}
 use Rattle.mesh_nhdp.proofs.notes.add_notes_among.Given as goal
 
 abbrev pub invariant-loop-addr : goal.invariant-loop-addr

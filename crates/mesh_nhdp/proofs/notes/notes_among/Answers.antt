@@ -1,11 +1,4 @@
-use Rattle.std.proofs.Common.{◌≡◌, ◌↔◌, length, Contains, subst, arith}
-use Rattle.mesh_atoms.specs.declared.tuples.LinkKey.{LinkKey}
-use Rattle.mesh_atoms.specs.declared.tuples.Link.{Link}
-use Rattle.mesh_atoms.specs.Base.{Base}
-use Rattle.mesh_nbrs.specs.declared.neighbours.LinkNote.{LinkNote}
-use Rattle.mesh_nhdp.specs.Calls.{IsNoteAmong}
-use Rattle.mesh_hello.specs.Gathers.{Gathers}
-use Rattle.mesh_hello.proofs.Collect.{SomeBelow, gathers_more, item_at}
+use Rattle.mesh_nhdp.proofs.Common.{◌≡◌, ◌↔◌, length, Contains, subst, arith, LinkKey, Link, Base, LinkNote, IsNoteAmong, Gathers, SomeBelow, gathers_more, item_at}
 use Rattle.mesh_nhdp.proofs.AllNotes.{tells_links_of}
 use Rattle.mesh_nhdp.proofs.notes.notes_among.Goals as goal
 

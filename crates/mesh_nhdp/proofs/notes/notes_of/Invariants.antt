@@ -1,8 +1,4 @@
-use Rattle.std.proofs.Common.{◌↔◌}
-use Rattle.std.specs.Prelude.{Contains}
-use Rattle.mesh_nbrs.specs.declared.neighbours.LinkNote.{LinkNote}
-use Rattle.mesh_nhdp.specs.Calls.{IsNoteIn}
-use Rattle.mesh_hello.proofs.Collect.{SomeBelow}
+use Rattle.mesh_nhdp.proofs.Common.{◌↔◌, Contains, LinkNote, IsNoteIn, SomeBelow}
 use Rattle.mesh_nhdp.proofs.notes.notes_of.Given as goal
 
 abbrev pub invariant-loop-set : goal.invariant-loop-set

@@ -1,4 +1,4 @@
-use Rattle.std.proofs.lemmas.Slice.Eq.{slice_eq-Decides}
+use Rattle.mesh_nhdp.proofs.Common.{slice_eq-Decides}
 use Rattle.mesh_nhdp.proofs.Deciding.{addrs}
 use Rattle.mesh_nhdp.proofs.repeating.are_addrs_same.Goals as goal
 

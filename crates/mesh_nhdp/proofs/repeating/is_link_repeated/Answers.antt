@@ -1,7 +1,4 @@
-use Rattle.std.proofs.Common.{◌≡◌, Some, sym, subst}
-use Rattle.mesh_atoms.specs.declared.tuples.Link.{Link}
-use Rattle.mesh_atoms.specs.declared.tuples.LinkKey.{LinkKey}
-use Rattle.mesh_atoms.specs.Base.{Base, find, link_eq}
+use Rattle.mesh_nhdp.proofs.Common.{◌≡◌, Some, sym, subst, Link, LinkKey, Base, find, link_eq}
 use Rattle.mesh_nhdp.proofs.repeating.is_link_repeated.Goals as goal
 
 pub returns : goal.returns

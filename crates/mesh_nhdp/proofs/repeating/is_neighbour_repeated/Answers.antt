@@ -1,7 +1,4 @@
-use Rattle.std.proofs.Common.{◌≡◌, Some, sym, subst}
-use Rattle.mesh_atoms.specs.declared.addr.Addr4.{Addr4}
-use Rattle.mesh_atoms.specs.declared.tuples.Neighbour.{Neighbour}
-use Rattle.mesh_atoms.specs.Base.{Base, find, addr_eq}
+use Rattle.mesh_nhdp.proofs.Common.{◌≡◌, Some, sym, subst, Addr4, Neighbour, Base, find, addr_eq}
 use Rattle.mesh_nhdp.proofs.repeating.is_neighbour_repeated.Goals as goal
 
 pub returns : goal.returns

@@ -1,11 +1,4 @@
-use Rattle.std.proofs.Common.{subst}
-use Rattle.std.proofs.lemmas.Bool.{false≢true}
-use Rattle.mesh_atoms.specs.declared.tuples.Link.{Link}
-use Rattle.mesh_atoms.specs.declared.tuples.LinkKey.{LinkKey}
-use Rattle.mesh_atoms.specs.Base.{Base}
-use Rattle.mesh_atoms.specs.State.{Neighbourhood}
-use Rattle.mesh_hello.specs.Told.Telling.{told_of}
-use Rattle.mesh_nhdp.specs.Repeats.{RepeatsLink, RepeatsNeighbour}
+use Rattle.mesh_nhdp.proofs.Common.{subst, false≢true, Link, LinkKey, Base, Neighbourhood, told_of, RepeatsLink, RepeatsNeighbour}
 use Rattle.mesh_nhdp.proofs.repeating.is_repeated.Goals as goal
 
 pub returns-in-Some : goal.returns-in-Some

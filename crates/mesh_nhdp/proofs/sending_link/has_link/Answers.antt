@@ -1,13 +1,5 @@
-use Rattle.std.proofs.Common.{ℕ, ap, sym, ◌∙◌}
-use Rattle.std.proofs.lemmas.Bool.{false≢true}
-use Rattle.std.proofs.lemmas.Slice.Eq.{slice_eq-Decides}
-use Rattle.mesh_atoms.specs.declared.tuples.Link.{Link}
-use Rattle.mesh_atoms.specs.declared.tuples.LinkKey.{LinkKey}
-use Rattle.mesh_atoms.specs.Base.{Base, find, addr_eq, link_eq}
-use Rattle.std.proofs.lemmas.Option.{none-some}
+use Rattle.mesh_nhdp.proofs.Common.{ℕ, ap, sym, ◌∙◌, false≢true, slice_eq-Decides, Link, LinkKey, Base, find, addr_eq, link_eq, none-some, same_some, Decides-addr}
 use Rattle.mesh_nhdp.proofs.sending_link.has_link.Goals as goal
-use Rattle.mesh_atoms.proofs.Options.{same_some}
-use Rattle.mesh_atoms.proofs.Deciding.{Decides-addr}
 
 pub returns-in-Some : goal.returns-in-Some
 returns-in-Some g c =

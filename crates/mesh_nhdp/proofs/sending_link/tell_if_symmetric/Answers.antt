@@ -1,4 +1,4 @@
-use Rattle.mesh_atoms.proofs.Options.{if_ok_weaker as if_ok}
+use Rattle.mesh_nhdp.proofs.Common.{if_ok_weaker as if_ok}
 use Rattle.mesh_nhdp.proofs.sending_link.tell_if_symmetric.Goals as goal
 
 pub returns-then-symmetric-clause-repeats : goal.returns-then-symmetric-clause-repeats

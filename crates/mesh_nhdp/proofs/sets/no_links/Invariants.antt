@@ -1,4 +1,4 @@
-use Rattle.std.proofs.Common.{◌≡◌, [], replicate}
+use Rattle.mesh_nhdp.proofs.Common.{◌≡◌, [], replicate}
 use Rattle.mesh_nhdp.proofs.sets.no_links.Given as goal
 
 abbrev pub invariant-loop : goal.invariant-loop

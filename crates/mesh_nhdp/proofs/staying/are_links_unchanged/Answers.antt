@@ -1,10 +1,4 @@
-use Rattle.std.proofs.Common.{refl, sym, subst, ◌∙◌, below_more, arith}
-use Rattle.std.proofs.lemmas.Bool.{false≢true}
-use Rattle.mesh_atoms.specs.declared.tuples.LinkKey.{LinkKey}
-use Rattle.mesh_atoms.specs.declared.tuples.Link.{Link}
-use Rattle.mesh_atoms.specs.Base.{Base, base_of}
-use Rattle.mesh_atoms.specs.Quality.{rule_of}
-use Rattle.mesh_links.specs.Links.{AllStay}
+use Rattle.mesh_nhdp.proofs.Common.{refl, sym, subst, ◌∙◌, below_more, arith, false≢true, LinkKey, Link, Base, base_of, rule_of, AllStay}
 use Rattle.mesh_nhdp.proofs.AllHears.{is_base}
 use Rattle.mesh_nhdp.proofs.Unchanged.{links_stay_all}
 use Rattle.mesh_nhdp.proofs.staying.are_links_unchanged.Goals as goal

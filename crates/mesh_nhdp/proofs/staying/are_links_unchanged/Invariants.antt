@@ -1,7 +1,4 @@
-use Rattle.std.proofs.Common.{ℕ, ◌<◌}
-use Rattle.mesh_atoms.specs.Base.{base_of}
-use Rattle.mesh_atoms.specs.Quality.{rule_of}
-use Rattle.mesh_links.specs.Links.{AllStay}
+use Rattle.mesh_nhdp.proofs.Common.{ℕ, ◌<◌, base_of, rule_of, AllStay}
 use Rattle.mesh_nhdp.proofs.staying.are_links_unchanged.Given as goal
 
 abbrev pub invariant-loop-i : goal.invariant-loop-i

@@ -1,7 +1,4 @@
-use Rattle.std.proofs.Common.{subst, IsTrue}
-use Rattle.std.specs.Prelude.{◌↔◌}
-use Rattle.mesh_atoms.specs.declared.admit.Admit.{Admit}
-use Rattle.mesh_links.specs.Links.{AllStay}
+use Rattle.mesh_nhdp.proofs.Common.{subst, IsTrue, ◌↔◌, Admit, AllStay}
 use Rattle.mesh_nhdp.proofs.Expiry.{face_rule}
 use Rattle.mesh_nhdp.proofs.staying.are_unchanged_on.Goals as goal
 

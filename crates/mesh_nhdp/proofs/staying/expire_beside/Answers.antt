@@ -1,4 +1,4 @@
-use Rattle.std.proofs.Common.{sym}
+use Rattle.mesh_nhdp.proofs.Common.{sym}
 use Rattle.mesh_nhdp.proofs.Expiry.{written_back}
 use Rattle.mesh_nhdp.proofs.Unchanged.{beside_is}
 use Rattle.mesh_nhdp.proofs.staying.expire_beside.Goals as goal

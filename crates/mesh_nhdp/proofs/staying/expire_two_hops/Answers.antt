@@ -1,5 +1,4 @@
-use Rattle.std.proofs.Common.{◌<◌, [], length, arith, get_or}
-use Rattle.std.proofs.lemmas.List.{get_or_default}
+use Rattle.mesh_nhdp.proofs.Common.{◌<◌, [], length, arith, get_or, get_or_default}
 use Rattle.mesh_nhdp.proofs.BesideWalk.{goes_over_one}
 use Rattle.mesh_nhdp.proofs.staying.expire_two_hops.Goals as goal
 

@@ -1,6 +1,4 @@
-use Rattle.std.proofs.Common.{◌≡◌, ℕ, ◌<◌, ◌≤◌, length}
-use Rattle.std.specs.Prelude.{true, false}
-use Rattle.mesh_atoms.specs.Base.{HasDistinctKeys, Expires, base_of, two_hop_eq}
+use Rattle.mesh_nhdp.proofs.Common.{◌≡◌, ℕ, ◌<◌, ◌≤◌, length, true, false, HasDistinctKeys, Expires, base_of, two_hop_eq}
 use Rattle.mesh_nhdp.proofs.staying.expire_two_hops.Given as goal
 
 abbrev pub invariant-loop-i : goal.invariant-loop-i

@@ -1,8 +1,4 @@
-use Rattle.std.proofs.lemmas.Bool.{not-false}
-use Rattle.std.proofs.Common.{◌<◌, refl, sym, subst}
-use Rattle.mesh_atoms.specs.TakesHello.{Taken, Broken_at, Breaks, Takes}
-use Rattle.mesh_hello.specs.Told.Telling.{told_of}
-use Rattle.mesh_nhdp.specs.Judged.{Judges}
+use Rattle.mesh_nhdp.proofs.Common.{not-false, ◌<◌, refl, sym, subst, Taken, Broken_at, Breaks, Takes, told_of, Judges}
 use Rattle.mesh_nhdp.proofs.Judges.{own_at, overfull, taken_sound}
 use Rattle.mesh_nhdp.proofs.RowsRepeat.{both_true}
 use Rattle.mesh_nhdp.proofs.RepeatsLaw.{repeats_same, unchanged_same}

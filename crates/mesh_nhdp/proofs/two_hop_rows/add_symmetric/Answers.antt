@@ -1,6 +1,4 @@
-use Rattle.std.proofs.Common.{refl, sym}
-use Rattle.mesh_nhdp.specs.Rows.{TellsSymmetric}
-use Rattle.mesh_hello.proofs.Collect.{adds_one}
+use Rattle.mesh_nhdp.proofs.Common.{refl, sym, TellsSymmetric, adds_one}
 use Rattle.mesh_nhdp.proofs.two_hop_rows.add_symmetric.Goals as goal
 
 pub returns-in_ok-push : goal.returns-in_ok-push

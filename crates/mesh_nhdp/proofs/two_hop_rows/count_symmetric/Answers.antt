@@ -1,9 +1,5 @@
-use Rattle.std.proofs.Common.{◌≡◌, ◌↔◌, length, Contains, slice_get, Some, ap, sym, subst, arith}
-use Rattle.mesh_atoms.specs.declared.addr.Addr4.{Addr4}
-use Rattle.mesh_atoms.specs.declared.hello.HelloRow.{HelloRow}
-use Rattle.mesh_nhdp.specs.Rows.{TellsSymmetric}
+use Rattle.mesh_nhdp.proofs.Common.{◌≡◌, ◌↔◌, length, Contains, slice_get, Some, ap, sym, subst, arith, Addr4, HelloRow, TellsSymmetric, SomeBelow, gathers_more, item_at}
 use Rattle.mesh_hello.proofs.Sorted.{distinct_ascending}
-use Rattle.mesh_hello.proofs.Collect.{SomeBelow, gathers_more, item_at}
 use Rattle.mesh_nhdp.proofs.RowWalks.{symmetric_rows}
 use Rattle.mesh_nhdp.proofs.two_hop_rows.count_symmetric.Goals as goal
 

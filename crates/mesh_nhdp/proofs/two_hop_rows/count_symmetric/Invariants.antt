@@ -1,8 +1,4 @@
-use Rattle.std.proofs.Common.{◌↔◌}
-use Rattle.std.specs.Prelude.{Contains}
-use Rattle.mesh_atoms.specs.declared.addr.Addr4.{Addr4}
-use Rattle.mesh_nhdp.specs.Rows.{TellsSymmetric}
-use Rattle.mesh_hello.proofs.Collect.{SomeBelow}
+use Rattle.mesh_nhdp.proofs.Common.{◌↔◌, Contains, Addr4, TellsSymmetric, SomeBelow}
 use Rattle.mesh_nhdp.proofs.two_hop_rows.count_symmetric.Given as goal
 
 abbrev pub invariant-loop-row : goal.invariant-loop-row

@@ -1,6 +1,4 @@
-use Rattle.std.proofs.Common.{◌≡◌, length, slice_get, Some, ap, ◌∙◌, subst, arith}
-use Rattle.mesh_atoms.specs.Base.{find, two_hop_eq}
-use Rattle.mesh_hello.proofs.Collect.{item_at}
+use Rattle.mesh_nhdp.proofs.Common.{◌≡◌, length, slice_get, Some, ap, ◌∙◌, subst, arith, find, two_hop_eq, item_at}
 use Rattle.mesh_nhdp.proofs.RowWalks.{RowsTell, one_more, others_more, rows_all}
 use Rattle.mesh_nhdp.proofs.RowsRepeat.{RowsRepeat, both_true, row_same, repeat_more, repeat_all}
 use Rattle.mesh_nhdp.proofs.two_hop_rows.tell_two_hops.Goals as goal

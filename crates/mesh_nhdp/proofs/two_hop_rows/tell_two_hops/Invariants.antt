@@ -1,9 +1,4 @@
-use Rattle.std.proofs.Common.{◌≡◌, IsTrue}
-use Rattle.std.specs.Prelude.{◌≢◌}
-use Rattle.mesh_atoms.specs.declared.addr.Addr4.{Addr4}
-use Rattle.mesh_atoms.specs.declared.tuples.TwoHopKey.{TwoHopKey}
-use Rattle.mesh_atoms.specs.Base.{find, two_hop_eq}
-use Rattle.mesh_nbrs.specs.Same.{SameTuples}
+use Rattle.mesh_nhdp.proofs.Common.{◌≡◌, IsTrue, ◌≢◌, Addr4, TwoHopKey, find, two_hop_eq, SameTuples}
 use Rattle.mesh_nhdp.proofs.RowWalks.{RowsTell}
 use Rattle.mesh_nhdp.proofs.RowsRepeat.{RowsRepeat}
 use Rattle.mesh_nhdp.proofs.two_hop_rows.tell_two_hops.Given as goal

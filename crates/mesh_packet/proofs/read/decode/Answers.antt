@@ -1,11 +1,6 @@
-use Rattle.std.proofs.Common.{arith}
-use Rattle.std.proofs.lemmas.Result.{IfOk-weaker}
-use Rattle.mesh_atoms.proofs.Given.{given, given_so}
-use Rattle.mesh_packet.specs.Fields.{fields_of_packet, fields_of_decoded}
-use Rattle.mesh_packet.specs.Least.{IsEncodable}
+use Rattle.mesh_packet.proofs.Common.{arith, IfOk-weaker, given, given_so, fields_of_packet, fields_of_decoded, IsEncodable, ArePlaced}
 use Rattle.mesh_packet.proofs.Encodable.{packet_encodable}
 use Rattle.mesh_packet.proofs.Packets.{IsFault, IsSpelled, packet_takes, packet_again, packet_fault}
-use Rattle.mesh_packet.specs.Placed.{ArePlaced}
 use Rattle.mesh_packet.proofs.Placed.{spells_placed}
 use Rattle.mesh_packet.proofs.read.decode.Goals as goal
 

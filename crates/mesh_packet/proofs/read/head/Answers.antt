@@ -1,4 +1,4 @@
-use Rattle.std.proofs.Common.{arith}
+use Rattle.mesh_packet.proofs.Common.{arith}
 use Rattle.mesh_packet.proofs.Flagged.{behind}
 use Rattle.mesh_packet.proofs.read.head.Goals as goal
 

@@ -1,8 +1,4 @@
-use Rattle.std.proofs.Common.{map, arith}
-use Rattle.std.proofs.lemmas.Result.{err_from_is_err_and}
-use Rattle.std.proofs.lemmas.List.{map_push}
-use Rattle.std.proofs.lemmas.Bool.{eq-eqb}
-use Rattle.mesh_packet.specs.Fields.{fields_of_message}
+use Rattle.mesh_packet.proofs.Common.{map, arith, err_from_is_err_and, map_push, eq-eqb, fields_of_message}
 use Rattle.mesh_packet.proofs.MessageRun.{one_more, all_turns, at_the_end, one_fails}
 use Rattle.mesh_packet.proofs.read.messages.Goals as goal
 use Rattle.mesh_packet.proofs.read.messages.Goals.{else-loop-test, then-loop-test+then-place-end}

@@ -1,5 +1,4 @@
-use Rattle.std.proofs.Common.{◌≤◌, map}
-use Rattle.mesh_packet.specs.Fields.{fields_of_message}
+use Rattle.mesh_packet.proofs.Common.{◌≤◌, map, fields_of_message}
 use Rattle.mesh_packet.proofs.MessageRun.{SoFar}
 use Rattle.mesh_packet.proofs.read.messages.Given as goal
 

@@ -1,4 +1,4 @@
-use Rattle.std.proofs.Common.{length, arith}
+use Rattle.mesh_packet.proofs.Common.{length, arith}
 use Rattle.mesh_packet.proofs.Flagged.{behind}
 use Rattle.mesh_packet.proofs.read.whole.Goals as goal
 

@@ -1,8 +1,4 @@
-use Rattle.std.proofs.Common.{List, length, ap, arith}
-use Rattle.std.proofs.lemmas.Result.{IfOk-weaker}
-use Rattle.mesh_packet.specs.declared.packet.Span.{Span}
-use Rattle.mesh_packet.specs.Fields.{fields_of_packet}
-use Rattle.mesh_packet.specs.Grammar.{Spells}
+use Rattle.mesh_packet.proofs.Common.{List, length, ap, arith, IfOk-weaker, Span, fields_of_packet, Spells}
 use Rattle.mesh_packet.proofs.Existing.{form_exists}
 use Rattle.mesh_packet.proofs.Spelled.{form_spelled}
 use Rattle.mesh_packet.proofs.OneForm.{form_once}

@@ -1,7 +1,4 @@
-use Rattle.std.proofs.Common.{◌≡◌, ℕ, ◌+◌, List, [], ◌∷◌, ◌++◌, length, refl, ap, ◌∙◌, arith, append_assoc, length-append}
-use Rattle.mesh_tlv.specs.Least.{least_short}
-use Rattle.mesh_packet.specs.Fields.{fields_of_message}
-use Rattle.mesh_packet.specs.Least.{message_flags}
+use Rattle.mesh_packet.proofs.Common.{◌≡◌, ℕ, ◌+◌, List, [], ◌∷◌, ◌++◌, length, refl, ap, ◌∙◌, arith, append_assoc, length-append, least_short, fields_of_message, message_flags}
 use Rattle.mesh_packet.proofs.write.put_message.Goals as goal
 
 -- four parts, each put behind those before it

@@ -1,6 +1,4 @@
-use Rattle.std.proofs.lemmas.Result.{on_ok_weaker}
-use Rattle.mesh_packet.specs.Fields.{fields_of_message}
-use Rattle.mesh_packet.specs.Least.{LeastBody, Wrote}
+use Rattle.mesh_packet.proofs.Common.{on_ok_weaker, fields_of_message, LeastBody, Wrote}
 use Rattle.mesh_packet.proofs.TooLong.{body_tlvs_pass}
 use Rattle.mesh_packet.proofs.Writing.{was_too_long, body_wrote}
 use Rattle.mesh_packet.proofs.write.write_body.Goals as goal

@@ -1,5 +1,4 @@
-use Rattle.std.proofs.Common.{length}
-use Rattle.mesh_packet.specs.Fields.{fields_of_message}
+use Rattle.mesh_packet.proofs.Common.{length, fields_of_message}
 use Rattle.mesh_packet.proofs.TooLong.{message_passes_by_length}
 use Rattle.mesh_packet.proofs.Writing.{body_alone}
 use Rattle.mesh_packet.proofs.write.write_message.Goals as goal

@@ -1,6 +1,4 @@
-use Rattle.mesh_atoms.proofs.Lists.{all_read}
-use Rattle.mesh_packet.specs.Fields.{fields_of_message}
-use Rattle.mesh_packet.specs.Least.{IsEncodableMessage, LeastMessage}
+use Rattle.mesh_packet.proofs.Common.{all_read, fields_of_message, IsEncodableMessage, LeastMessage}
 use Rattle.mesh_packet.proofs.Items.{wrote_next, items_pass}
 use Rattle.mesh_packet.proofs.OneForm.{message_once}
 use Rattle.mesh_packet.proofs.Writing.{handed_on}

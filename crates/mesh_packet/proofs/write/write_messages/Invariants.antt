@@ -1,7 +1,4 @@
-use Rattle.std.proofs.Common.{◌≤◌, length, map, take}
-use Rattle.mesh_tlv.specs.Items.{SpellsItems}
-use Rattle.mesh_packet.specs.Fields.{fields_of_message}
-use Rattle.mesh_packet.specs.Least.{LeastMessage, Wrote}
+use Rattle.mesh_packet.proofs.Common.{◌≤◌, length, map, take, SpellsItems, fields_of_message, LeastMessage, Wrote}
 use Rattle.mesh_packet.proofs.write.write_messages.Given as goal
 
 abbrev pub invariant-loop-message : goal.invariant-loop-message

@@ -1,4 +1,4 @@
-use Rattle.mesh_packet.specs.Fields.{fields_of_block}
+use Rattle.mesh_packet.proofs.Common.{fields_of_block}
 use Rattle.mesh_packet.proofs.TooLong.{pair_passes}
 use Rattle.mesh_packet.proofs.Writing.{was_too_long, pair_wrote}
 use Rattle.mesh_packet.proofs.write.write_pair.Goals as goal

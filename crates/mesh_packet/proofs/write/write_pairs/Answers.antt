@@ -1,7 +1,4 @@
-use Rattle.std.proofs.Common.{subst, sym, ℕ}
-use Rattle.mesh_atoms.proofs.Lists.{all_read}
-use Rattle.mesh_packet.specs.Fields.{fields_of_block}
-use Rattle.mesh_packet.specs.Least.{IsEncodableBlock, LeastPair}
+use Rattle.mesh_packet.proofs.Common.{subst, sym, ℕ, all_read, fields_of_block, IsEncodableBlock, LeastPair}
 use Rattle.mesh_packet.proofs.Items.{wrote_next, item_passes}
 use Rattle.mesh_packet.proofs.Writing.{handed_on}
 use Rattle.mesh_packet.proofs.write.write_pairs.Goals as goal

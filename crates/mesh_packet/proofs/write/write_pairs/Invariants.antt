@@ -1,7 +1,4 @@
-use Rattle.std.proofs.Common.{map, take}
-use Rattle.mesh_tlv.specs.Items.{SpellsItems}
-use Rattle.mesh_packet.specs.Fields.{fields_of_block}
-use Rattle.mesh_packet.specs.Least.{LeastPair, Wrote}
+use Rattle.mesh_packet.proofs.Common.{map, take, SpellsItems, fields_of_block, LeastPair, Wrote}
 use Rattle.mesh_packet.proofs.write.write_pairs.Given as goal
 
 abbrev pub invariant-loop-block : goal.invariant-loop-block

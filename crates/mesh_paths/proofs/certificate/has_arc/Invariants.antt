@@ -1,6 +1,4 @@
-use Rattle.std.specs.List.{AllWithin}
-use Rattle.mesh_atoms.specs.declared.graphs.Arc4.{Arc4}
-use Rattle.mesh_paths.specs.Tree.{IsStep}
+use Rattle.mesh_paths.proofs.Common.{AllWithin, Arc4, IsStep}
 use Rattle.mesh_paths.proofs.certificate.has_arc.Given as goal
 
 abbrev pub invariant-loop-arc : goal.invariant-loop-arc

@@ -1,4 +1,4 @@
-use Rattle.mesh_paths.specs.Tree.{IsArcMet}
+use Rattle.mesh_paths.proofs.Common.{IsArcMet}
 use Rattle.mesh_paths.proofs.Rows.{yes, no, seen, missed, of_each, arc_of_closed, closed_of_arcs}
 use Rattle.mesh_paths.proofs.certificate.is_closed.Goals as goal
 

@@ -1,4 +1,4 @@
-use Rattle.mesh_paths.specs.Tree.{IsOffered}
+use Rattle.mesh_paths.proofs.Common.{IsOffered}
 use Rattle.mesh_paths.proofs.Rows.{yes, no, seen, missed, of_each}
 use Rattle.mesh_paths.proofs.certificate.is_grounded.Goals as goal
 

@@ -1,5 +1,4 @@
-use Rattle.std.specs.List.{AllWithin}
-use Rattle.mesh_paths.specs.Tree.{IsOffered}
+use Rattle.mesh_paths.proofs.Common.{AllWithin, IsOffered}
 use Rattle.mesh_paths.proofs.certificate.is_grounded.Given as goal
 
 abbrev pub invariant-loop-row : goal.invariant-loop-row

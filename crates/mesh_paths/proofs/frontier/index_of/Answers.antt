@@ -1,6 +1,4 @@
-use Rattle.std.proofs.Common.{rules}
-use Rattle.std.proofs.lemmas.List.Sorted.{IsNonDecreasingBy-from_sort_by_key}
-use Rattle.mesh_paths.specs.declared.frontier.ArcRun.{ArcRun}
+use Rattle.mesh_paths.proofs.Common.{rules, IsNonDecreasingBy-from_sort_by_key, ArcRun}
 use Rattle.mesh_paths.proofs.Index.{index_moved}
 use Rattle.mesh_paths.proofs.frontier.index_of.Goals as goal
 

@@ -1,8 +1,4 @@
-use Rattle.std.proofs.Common.{List, leb, ltb, rules, refl, sym, subst}
-use Rattle.std.specs.List.Sorted.{IsNonDecreasingBy}
-use Rattle.std.proofs.lemmas.List.{take_rest}
-use Rattle.std.proofs.lemmas.List.Sorted.{IsPartitionPoint-from_clause, IsPartitionedBy-leb, IsPartitionedBy-ltb, IsNonDecreasingBy-drop}
-use Rattle.mesh_paths.specs.declared.frontier.ArcRun.{ArcRun}
+use Rattle.mesh_paths.proofs.Common.{List, leb, ltb, rules, refl, sym, subst, IsNonDecreasingBy, take_rest, IsPartitionPoint-from_clause, IsPartitionedBy-leb, IsPartitionedBy-ltb, IsNonDecreasingBy-drop, ArcRun}
 use Rattle.mesh_paths.proofs.Index.{part_of}
 use Rattle.mesh_paths.proofs.frontier.leaving.Goals as goal
 

@@ -1,7 +1,4 @@
-use Rattle.std.proofs.Common.{ℕ, ◌+◌, inl, inr, refl, subst, arith}
-use Rattle.mesh_atoms.specs.declared.graphs.PathRow.{PathRow}
-use Rattle.mesh_paths.specs.Search.{PutsStep, step_of}
-use Rattle.mesh_paths.specs.Reached.{Betters, HasAsGood, IsInRange}
+use Rattle.mesh_paths.proofs.Common.{ℕ, ◌+◌, inl, inr, refl, subst, arith, PathRow, PutsStep, step_of, Betters, HasAsGood, IsInRange}
 use Rattle.mesh_paths.proofs.ReachedLaw.{betters_by}
 use Rattle.mesh_paths.proofs.frontier.offer_arc.Goals as goal
 

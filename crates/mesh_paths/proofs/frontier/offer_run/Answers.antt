@@ -1,5 +1,4 @@
-use Rattle.std.specs.List.{slice_range}
-use Rattle.mesh_paths.specs.Frontier.{IsMetOrWaits}
+use Rattle.mesh_paths.proofs.Common.{slice_range, IsMetOrWaits}
 use Rattle.mesh_paths.proofs.Index.{from_run, leaves_node}
 use Rattle.mesh_paths.proofs.Rows.{item_in, of_each}
 use Rattle.mesh_paths.proofs.FrontierLaw.{offered_next, offered_on}

@@ -1,7 +1,4 @@
-use Rattle.std.proofs.Common.{◌≤◌}
-use Rattle.std.specs.List.{AllWithin}
-use Rattle.mesh_atoms.specs.declared.graphs.Arc4.{Arc4}
-use Rattle.mesh_paths.specs.Frontier.{IsMetOrWaits, IsTaking, work_in}
+use Rattle.mesh_paths.proofs.Common.{◌≤◌, AllWithin, Arc4, IsMetOrWaits, IsTaking, work_in}
 use Rattle.mesh_paths.proofs.frontier.offer_run.Given as goal
 
 abbrev pub invariant-loop-arc : goal.invariant-loop-arc

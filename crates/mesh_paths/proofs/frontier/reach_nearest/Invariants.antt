@@ -1,4 +1,4 @@
-use Rattle.mesh_paths.specs.Frontier.{IsSearch, work_in}
+use Rattle.mesh_paths.proofs.Common.{IsSearch, work_in}
 use Rattle.mesh_paths.proofs.frontier.reach_nearest.Given as goal
 
 abbrev pub invariant-loop-step : goal.invariant-loop-step

@@ -1,4 +1,4 @@
-use Rattle.std.proofs.Common.{◌-◌, length}
+use Rattle.mesh_paths.proofs.Common.{◌-◌, length}
 use Rattle.mesh_paths.proofs.Index.{IsUpto}
 use Rattle.mesh_paths.proofs.frontier.runs_of.Given as goal
 

@@ -1,5 +1,4 @@
-use Rattle.std.proofs.Common.{List, Contains, subst}
-use Rattle.mesh_atoms.specs.declared.graphs.Arc4.{Arc4}
+use Rattle.mesh_paths.proofs.Common.{List, Contains, subst, Arc4}
 use Rattle.mesh_paths.proofs.ReachedLaw.{certificate_of_reached}
 use Rattle.mesh_paths.proofs.frontier.search.Goals as goal
 

@@ -1,5 +1,4 @@
-use Rattle.std.proofs.Common.{ℕ, length, subst, sym, inl, inr}
-use Rattle.mesh_paths.specs.Parts.{IsInside}
+use Rattle.mesh_paths.proofs.Common.{ℕ, length, subst, sym, inl, inr, IsInside}
 use Rattle.mesh_paths.proofs.Rows.{item_in}
 use Rattle.mesh_paths.proofs.RadioLaw.{goes_on}
 use Rattle.mesh_paths.proofs.radio.go_round.Goals as goal

@@ -1,4 +1,4 @@
-use Rattle.mesh_paths.specs.Parts.{IsParts, Goes}
+use Rattle.mesh_paths.proofs.Common.{IsParts, Goes}
 use Rattle.mesh_paths.proofs.radio.go_round.Given as goal
 
 abbrev pub invariant-loop-pair : goal.invariant-loop-pair

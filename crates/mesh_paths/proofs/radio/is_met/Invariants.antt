@@ -1,6 +1,4 @@
-use Rattle.std.proofs.Common.{◌≡◌, drop}
-use Rattle.std.specs.List.{list_any}
-use Rattle.mesh_paths.specs.Parts.{is_admitted_back}
+use Rattle.mesh_paths.proofs.Common.{◌≡◌, drop, list_any, is_admitted_back}
 use Rattle.mesh_paths.proofs.radio.is_met.Given as goal
 
 abbrev pub invariant-loop-back : goal.invariant-loop-back

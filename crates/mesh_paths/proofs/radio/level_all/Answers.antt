@@ -1,5 +1,4 @@
-use Rattle.std.proofs.Common.{ℕ, subst, sym}
-use Rattle.mesh_paths.specs.Parts.{IsInside}
+use Rattle.mesh_paths.proofs.Common.{ℕ, subst, sym, IsInside}
 use Rattle.mesh_paths.proofs.radio.level_all.Goals as goal
 
 pub go_round-requires-clause-inside : goal.go_round-requires-clause-inside

@@ -1,5 +1,4 @@
-use Rattle.std.specs.List.{sum}
-use Rattle.mesh_paths.specs.Parts.{IsParts}
+use Rattle.mesh_paths.proofs.Common.{sum, IsParts}
 use Rattle.mesh_paths.proofs.radio.level_all.Given as goal
 
 abbrev pub invariant-rounds : goal.invariant-rounds

@@ -1,4 +1,4 @@
-use Rattle.std.proofs.Common.{refl, arith}
+use Rattle.mesh_paths.proofs.Common.{refl, arith}
 use Rattle.std.proofs.lemmas.Iterator.{items_from_collect, YieldsList-from_range}
 use Rattle.mesh_paths.proofs.radio.numbers.Goals as goal
 

@@ -1,5 +1,4 @@
-use Rattle.std.proofs.Common.{◌≡◌, map, filter, take}
-use Rattle.mesh_paths.specs.Parts.{pair_of, is_joined}
+use Rattle.mesh_paths.proofs.Common.{◌≡◌, map, filter, take, pair_of, is_joined}
 use Rattle.mesh_paths.proofs.radio.pairs_of.Given as goal
 
 abbrev pub invariant-loop-arc : goal.invariant-loop-arc

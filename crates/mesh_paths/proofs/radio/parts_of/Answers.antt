@@ -1,7 +1,4 @@
-use Rattle.std.proofs.Common.{ℕ, List, ◌≡◌, ◌∙◌, length, length-take, length-append, ap, sym, subst, arith}
-use Rattle.std.specs.List.{range_with_len}
-use Rattle.std.proofs.lemmas.List.FromFn.{length-range_with_len}
-use Rattle.mesh_paths.specs.Parts.{IsInside, IsParts}
+use Rattle.mesh_paths.proofs.Common.{ℕ, List, ◌≡◌, ◌∙◌, length, length-take, length-append, ap, sym, subst, arith, range_with_len, length-range_with_len, IsInside, IsParts}
 use Rattle.mesh_paths.proofs.RadioLaw.{start_parts}
 use Rattle.mesh_paths.proofs.radio.parts_of.Goals as goal
 

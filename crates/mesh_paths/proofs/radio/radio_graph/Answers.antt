@@ -1,8 +1,4 @@
-use Rattle.std.proofs.Common.{ℕ, List, Contains, length, ◌≡◌, subst, sym, ap, ◌∙◌}
-use Rattle.mesh_atoms.specs.declared.graphs.Pair.{Pair}
-use Rattle.mesh_atoms.specs.declared.settings.RouterSettings.{RouterSettings}
-use Rattle.mesh_atoms.specs.Radio.{IsRadioGraph}
-use Rattle.mesh_paths.specs.Parts.{IsInside, IsParts}
+use Rattle.mesh_paths.proofs.Common.{ℕ, List, Contains, length, ◌≡◌, subst, sym, ap, ◌∙◌, Pair, RouterSettings, IsRadioGraph, IsInside, IsParts}
 use Rattle.mesh_paths.proofs.RadioLaw.{pairs_in, pairs_from, pair_inside, radio_graph_of}
 use Rattle.mesh_paths.proofs.radio.radio_graph.Goals as goal
 

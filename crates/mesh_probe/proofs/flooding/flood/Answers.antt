@@ -1,10 +1,4 @@
-use Rattle.std.proofs.Common.{◌≡◌, ◌<◌, ◌≤◌, arith, Some, length, map, refl, ◌∙◌, subst}
-use Rattle.std.specs.Prelude.{slice_get}
-use Rattle.std.proofs.lemmas.List.Elements.{All-contains}
-use Rattle.std.proofs.lemmas.Option.{slice_get_read}
-use Rattle.mesh_paths.proofs.Rows.{item_in}
-use Rattle.mesh_probe.specs.declared.transmission.Transmission.{Transmission}
-use Rattle.mesh_probe.specs.Hearing.{IsOfInterface}
+use Rattle.mesh_probe.proofs.Common.{◌≡◌, ◌<◌, ◌≤◌, arith, Some, length, map, refl, ◌∙◌, subst, slice_get, All-contains, slice_get_read, item_in, Transmission, IsOfInterface}
 use Rattle.mesh_probe.proofs.Onward.{starts, goes_on, short, ends}
 use Rattle.mesh_probe.proofs.flooding.flood.Goals as goal
 

@@ -1,5 +1,4 @@
-use Rattle.std.proofs.Common.{◌*◌, ◌-◌, length}
-use Rattle.std.specs.Prelude.{map}
+use Rattle.mesh_probe.proofs.Common.{◌*◌, ◌-◌, length, map}
 use Rattle.mesh_probe.proofs.Onward.{Onward}
 use Rattle.mesh_probe.proofs.flooding.flood.Given as goal
 

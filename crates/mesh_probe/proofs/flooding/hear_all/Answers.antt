@@ -1,7 +1,4 @@
-use Rattle.std.proofs.Common.{◌≡◌, ◌<◌, ◌≤◌, get_or, List, length, map, subst}
-use Rattle.mesh_atoms.specs.declared.settings.RadioArc.{RadioArc}
-use Rattle.mesh_paths.proofs.Rows.{item_in}
-use Rattle.mesh_probe.specs.Hearing.{HearsFrame}
+use Rattle.mesh_probe.proofs.Common.{◌≡◌, ◌<◌, ◌≤◌, get_or, List, length, map, subst, RadioArc, item_in, HearsFrame}
 use Rattle.mesh_probe.proofs.Turns.{passes, turns, all_turned, router_there}
 use Rattle.mesh_probe.proofs.flooding.hear_all.Goals as goal
 use Rattle.mesh_probe.proofs.flooding.hear_all.Goals.{then-is_arc_from+in_ok-hear_one, else-is_arc_from}

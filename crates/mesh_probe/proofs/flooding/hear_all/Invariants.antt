@@ -1,4 +1,4 @@
-use Rattle.std.specs.Prelude.{map}
+use Rattle.mesh_probe.proofs.Common.{map}
 use Rattle.mesh_probe.proofs.Turns.{Turning}
 use Rattle.mesh_probe.proofs.flooding.hear_all.Given as goal
 

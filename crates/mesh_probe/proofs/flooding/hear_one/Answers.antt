@@ -1,6 +1,4 @@
-use Rattle.std.proofs.Common.{subst, map}
-use Rattle.mesh_atoms.specs.Settled.{At}
-use Rattle.mesh_atoms.specs.State.{State}
+use Rattle.mesh_probe.proofs.Common.{subst, map, At, State}
 use Rattle.mesh_probe.proofs.Turns.{becomes, state_there, within}
 use Rattle.mesh_probe.proofs.flooding.hear_one.Goals as goal
 

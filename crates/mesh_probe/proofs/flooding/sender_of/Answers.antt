@@ -1,9 +1,5 @@
-use Rattle.std.proofs.Common.{◌≡◌, ◌<◌, get_or, refl, subst, length, List, Some}
-use Rattle.std.specs.Prelude.{slice_get}
-use Rattle.std.proofs.lemmas.Option.{slice_get_read, slice_get_within, slice_get-get_or}
+use Rattle.mesh_probe.proofs.Common.{◌≡◌, ◌<◌, get_or, refl, subst, length, List, Some, slice_get, slice_get_read, slice_get_within, slice_get-get_or, RouterSettings, same_some}
 use Rattle.mesh_atoms.specs.declared.settings.Interface.{Interface}
-use Rattle.mesh_atoms.specs.declared.settings.RouterSettings.{RouterSettings}
-use Rattle.mesh_atoms.proofs.Options.{same_some}
 use Rattle.mesh_probe.proofs.flooding.sender_of.Goals as goal
 
 pub returns : goal.returns

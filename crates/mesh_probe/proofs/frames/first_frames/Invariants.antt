@@ -1,6 +1,4 @@
-use Rattle.std.proofs.Common.{◌≡◌}
-use Rattle.mesh_machine.specs.Frames.{on_each}
-use Rattle.mesh_probe.specs.Flood.{sent_by}
+use Rattle.mesh_probe.proofs.Common.{◌≡◌, on_each, sent_by}
 use Rattle.mesh_probe.proofs.frames.first_frames.Given as goal
 
 abbrev pub invariant-loop-iface : goal.invariant-loop-iface

@@ -1,7 +1,4 @@
-use Rattle.std.proofs.Common.{◌++◌, ◌≤◌, length, sym, ◌∙◌, ap}
-use Rattle.std.proofs.lemmas.List.{take_all}
-use Rattle.mesh_machine.specs.declared.frame.Frame.{Frame}
-use Rattle.mesh_probe.specs.Flood.{sent_by}
+use Rattle.mesh_probe.proofs.Common.{◌++◌, ◌≤◌, length, sym, ◌∙◌, ap, take_all, Frame, sent_by}
 use Rattle.mesh_probe.proofs.Queues.{one_put}
 use Rattle.mesh_probe.proofs.frames.put_sent.Goals as goal
 use Rattle.mesh_machine.proofs.Places.{none_past}

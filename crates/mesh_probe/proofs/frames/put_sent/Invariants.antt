@@ -1,5 +1,4 @@
-use Rattle.std.proofs.Common.{◌≡◌, ◌++◌, take}
-use Rattle.mesh_probe.specs.Flood.{sent_by}
+use Rattle.mesh_probe.proofs.Common.{◌≡◌, ◌++◌, take, sent_by}
 use Rattle.mesh_probe.proofs.frames.put_sent.Given as goal
 
 abbrev pub invariant-loop-i : goal.invariant-loop-i

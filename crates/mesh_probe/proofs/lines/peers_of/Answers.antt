@@ -1,5 +1,4 @@
-use Rattle.std.proofs.Common.{◌≢◌, ◌≡◌, ℕ, ◌≤◌, length, arith, true}
-use Rattle.mesh_atoms.specs.Radio.{Joined}
+use Rattle.mesh_probe.proofs.Common.{◌≢◌, ◌≡◌, ℕ, ◌≤◌, length, arith, true, Joined}
 use Rattle.mesh_probe.proofs.Hearers.{joined_inside}
 use Rattle.mesh_probe.proofs.Listing.{all_listed, one_listed, one_passed}
 use Rattle.mesh_probe.proofs.lines.peers_of.Goals as goal

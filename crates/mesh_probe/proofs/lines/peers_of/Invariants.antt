@@ -1,6 +1,4 @@
-use Rattle.std.proofs.Common.{◌≢◌, ◌<◌}
-use Rattle.mesh_atoms.specs.Radio.{Joined}
-use Rattle.mesh_probe.specs.Probes.{ListsNumbers}
+use Rattle.mesh_probe.proofs.Common.{◌≢◌, ◌<◌, Joined, ListsNumbers}
 use Rattle.mesh_probe.proofs.lines.peers_of.Given as goal
 
 abbrev pub invariant-loop-router : goal.invariant-loop-router

@@ -1,5 +1,4 @@
-use Rattle.std.proofs.Common.{◌≡◌, ◌++◌, filter, not, take}
-use Rattle.std.specs.List.{flat_map}
+use Rattle.mesh_probe.proofs.Common.{◌≡◌, ◌++◌, filter, not, take, flat_map}
 use Rattle.mesh_probe.specs.Text.{is_reached, unreached_line}
 use Rattle.mesh_probe.proofs.lines.put_all_unreached.Given as goal
 

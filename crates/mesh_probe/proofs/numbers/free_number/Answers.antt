@@ -1,7 +1,4 @@
-use Rattle.std.proofs.Common.{◌≡◌, inl, inr, arith, sym, subst, map, true}
-use Rattle.std.proofs.lemmas.Bool.{cases_lt, cases_Bool}
-use Rattle.mesh_probe.specs.Laws.{tc_key}
-use Rattle.mesh_probe.specs.Probes.{IsKnown}
+use Rattle.mesh_probe.proofs.Common.{◌≡◌, inl, inr, arith, sym, subst, map, true, cases_lt, cases_Bool, tc_key, IsKnown}
 use Rattle.mesh_probe.proofs.numbers.free_number.Goals as goal
 
 pub loop-number-preserved : goal.loop-number-preserved

@@ -1,7 +1,4 @@
-use Rattle.std.proofs.Common.{ℕ, ◌<◌}
-use Rattle.std.specs.Prelude.{map}
-use Rattle.mesh_probe.specs.Laws.{tc_key}
-use Rattle.mesh_probe.specs.Probes.{IsKnown}
+use Rattle.mesh_probe.proofs.Common.{ℕ, ◌<◌, map, tc_key, IsKnown}
 use Rattle.mesh_probe.proofs.numbers.free_number.Given as goal
 
 abbrev pub invariant-loop-number : goal.invariant-loop-number

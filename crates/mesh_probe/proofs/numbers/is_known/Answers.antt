@@ -1,12 +1,5 @@
-use Rattle.std.proofs.Common.{◌≡◌, inl, inr, arith, sym, ◌∙◌, subst, map, true, Some, slice_get}
-use Rattle.std.proofs.lemmas.Bool.{cases_lt, false≢true}
-use Rattle.mesh_atoms.specs.Settled.{At}
-use Rattle.mesh_atoms.specs.State.{State}
-use Rattle.mesh_flood.specs.Standing.{HasNoted}
-use Rattle.mesh_flood.specs.Verdict.{key_of}
-use Rattle.mesh_paths.proofs.Rows.{yes, no}
+use Rattle.mesh_probe.proofs.Common.{◌≡◌, inl, inr, arith, sym, ◌∙◌, subst, map, true, Some, slice_get, cases_lt, false≢true, At, State, HasNoted, key_of, yes, no, same_some}
 use Rattle.mesh_probe.proofs.Turns.{item_at, within}
-use Rattle.mesh_atoms.proofs.Options.{same_some}
 use Rattle.mesh_probe.proofs.numbers.is_known.Goals as goal
 
 pub returns-then-has_noted : goal.returns-then-has_noted

@@ -1,9 +1,4 @@
-use Rattle.std.proofs.Common.{ℕ, ◌<◌}
-use Rattle.std.specs.Prelude.{map}
-use Rattle.mesh_atoms.specs.Settled.{At}
-use Rattle.mesh_atoms.specs.State.{State}
-use Rattle.mesh_flood.specs.Standing.{HasNoted}
-use Rattle.mesh_flood.specs.Verdict.{key_of}
+use Rattle.mesh_probe.proofs.Common.{ℕ, ◌<◌, map, At, State, HasNoted, key_of}
 use Rattle.mesh_probe.proofs.numbers.is_known.Given as goal
 
 abbrev pub invariant-loop-router : goal.invariant-loop-router

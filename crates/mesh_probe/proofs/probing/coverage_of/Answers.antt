@@ -1,6 +1,4 @@
-use Rattle.std.proofs.Common.{◌≢◌, List, subst}
-use Rattle.mesh_probe.specs.declared.coverage.Sending.{Sending}
-use Rattle.mesh_probe.specs.Probes.{HearsOne, ListsNumbers}
+use Rattle.mesh_probe.proofs.Common.{◌≢◌, List, subst, Sending, HearsOne, ListsNumbers}
 use Rattle.mesh_probe.proofs.probing.coverage_of.Goals as goal
 
 pub returns-clause-reached : goal.returns-clause-reached

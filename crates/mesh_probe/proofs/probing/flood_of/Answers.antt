@@ -1,8 +1,4 @@
-use Rattle.std.proofs.Common.{◌<◌, length, map, rules, sym, subst, slice_index_or}
-use Rattle.std.specs.Prelude.{All}
-use Rattle.mesh_atoms.specs.State.{State}
-use Rattle.mesh_probe.specs.Flood.{Flood}
-use Rattle.mesh_probe.specs.Hearing.{IsOfInterface, SendsOnceFrom}
+use Rattle.mesh_probe.proofs.Common.{◌<◌, length, map, rules, sym, subst, slice_index_or, All, State, Flood, IsOfInterface, SendsOnceFrom}
 use Rattle.mesh_probe.proofs.Beginning.{can_hear, first_are, once, owned, prober, probe_flood, router_at}
 use Rattle.mesh_probe.proofs.Turns.{within}
 use Rattle.mesh_probe.proofs.probing.flood_of.Goals as goal

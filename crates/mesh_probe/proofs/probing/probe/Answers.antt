@@ -1,4 +1,4 @@
-use Rattle.std.specs.Prelude.{map}
+use Rattle.mesh_probe.proofs.Common.{map}
 use Rattle.mesh_probe.proofs.Reaching.{done_reaches, done_once}
 use Rattle.mesh_probe.proofs.probing.probe.Goals as goal
 

@@ -1,12 +1,7 @@
-use Rattle.std.proofs.Common.{ℕ, ◌<◌, ◌∷◌, [], List, length, arith, sym, ap, subst}
-use Rattle.mesh_atoms.specs.declared.settings.RouterSettings.{RouterSettings}
+use Rattle.mesh_probe.proofs.Common.{ℕ, ◌<◌, ◌∷◌, [], List, length, arith, sym, ap, subst, RouterSettings, State, IsRoundedUp, IsLeastCode, Everywhere, WritesLeastTc}
 use Rattle.mesh_atoms.specs.declared.tc.TcRow.{TcRow}
-use Rattle.mesh_atoms.specs.State.{State}
-use Rattle.mesh_atoms.specs.Hello.{IsRoundedUp}
-use Rattle.mesh_atoms.specs.Validity.{IsLeastCode, Everywhere}
 use Rattle.mesh_atoms.specs.Writable.{AreOneType, HaveTypeWhole}
 use Rattle.mesh_machine.proofs.nhdp.TcCounts.{tc_rows_few}
-use Rattle.mesh_wire.specs.Writes.{WritesLeastTc}
 use Rattle.mesh_probe.proofs.OneTime.{least_is_rounded}
 use Rattle.mesh_probe.proofs.probing.probe_frame.Goals as goal
 use Rattle.mesh_bases.proofs.SendingLemmas.Written.{sent_if_some, rows_one_type, rows_whole}

@@ -1,7 +1,4 @@
-use Rattle.std.proofs.Common.{◌≡◌, List, length, map, get_or, refl, subst}
-use Rattle.std.proofs.lemmas.Option.{slice_get_read}
-use Rattle.mesh_atoms.specs.declared.settings.RouterSettings.{RouterSettings}
-use Rattle.mesh_atoms.specs.Radio.{Router}
+use Rattle.mesh_probe.proofs.Common.{◌≡◌, List, length, map, get_or, refl, subst, slice_get_read, RouterSettings, Router}
 use Rattle.mesh_probe.proofs.Beginning.{least_number, no_number}
 use Rattle.mesh_probe.proofs.probing.probe_from.Goals as goal
 

@@ -1,7 +1,4 @@
-use Rattle.std.proofs.Common.{refl, ◌∙◌, subst}
-use Rattle.mesh_atoms.specs.declared.settings.RouterSettings.{RouterSettings}
-use Rattle.mesh_atoms.specs.Hello.{IsRoundedUp}
-use Rattle.mesh_atoms.specs.State.{IsOriginator}
+use Rattle.mesh_probe.proofs.Common.{refl, ◌∙◌, subst, RouterSettings, IsRoundedUp, IsOriginator}
 use Rattle.mesh_probe.proofs.probing.probe_tc.Goals as goal
 
 pub returns : goal.returns

@@ -1,5 +1,4 @@
-use Rattle.std.proofs.Common.{◌≡◌, map, take}
-use Rattle.mesh_probe.specs.Probes.{sending_of}
+use Rattle.mesh_probe.proofs.Common.{◌≡◌, map, take, sending_of}
 use Rattle.mesh_probe.proofs.probing.sends_of.Given as goal
 
 abbrev pub invariant-loop-frame : goal.invariant-loop-frame

@@ -1,7 +1,4 @@
-use Rattle.std.proofs.Common.{◌≡◌, ◌<◌, ◌≤◌, get_or, List, length, subst}
-use Rattle.mesh_atoms.specs.declared.settings.RadioArc.{RadioArc}
-use Rattle.mesh_paths.proofs.Rows.{yes, no, item_in, of_each}
-use Rattle.mesh_probe.specs.Hearing.{BringsTo}
+use Rattle.mesh_probe.proofs.Common.{◌≡◌, ◌<◌, ◌≤◌, get_or, List, length, subst, RadioArc, yes, no, item_in, of_each, BringsTo}
 use Rattle.mesh_probe.proofs.Hearers.{brought, brings}
 use Rattle.mesh_probe.proofs.reached.can_hear_one.Goals as goal
 

@@ -1,6 +1,4 @@
-use Rattle.std.specs.List.{AllWithin}
-use Rattle.mesh_atoms.specs.declared.settings.RadioArc.{RadioArc}
-use Rattle.mesh_probe.specs.Hearing.{BringsTo}
+use Rattle.mesh_probe.proofs.Common.{AllWithin, RadioArc, BringsTo}
 use Rattle.mesh_probe.proofs.reached.can_hear_one.Given as goal
 
 abbrev pub invariant-loop-arc : goal.invariant-loop-arc

@@ -1,5 +1,4 @@
-use Rattle.std.proofs.Common.{◌≢◌, ◌≡◌, ℕ, ◌≤◌, length, arith, true}
-use Rattle.mesh_probe.specs.Probes.{HearsOne}
+use Rattle.mesh_probe.proofs.Common.{◌≢◌, ◌≡◌, ℕ, ◌≤◌, length, arith, true, HearsOne}
 use Rattle.mesh_probe.proofs.Hearers.{hears_inside}
 use Rattle.mesh_probe.proofs.Listing.{all_listed, one_listed, one_passed}
 use Rattle.mesh_probe.proofs.reached.reached_of.Goals as goal

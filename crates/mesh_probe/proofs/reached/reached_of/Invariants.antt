@@ -1,5 +1,4 @@
-use Rattle.std.proofs.Common.{◌≢◌, ◌<◌}
-use Rattle.mesh_probe.specs.Probes.{HearsOne, ListsNumbers}
+use Rattle.mesh_probe.proofs.Common.{◌≢◌, ◌<◌, HearsOne, ListsNumbers}
 use Rattle.mesh_probe.proofs.reached.reached_of.Given as goal
 
 abbrev pub invariant-loop-router : goal.invariant-loop-router

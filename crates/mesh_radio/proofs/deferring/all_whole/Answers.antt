@@ -1,7 +1,4 @@
-use Rattle.std.proofs.Common.{◌∙◌, map, sym, ap, length}
-use Rattle.std.proofs.lemmas.List.{map-id}
-use Rattle.std.proofs.lemmas.Iterator.Adapters.{YieldsList-from_vec}
-use Rattle.std.proofs.lemmas.Iterator.Consumers.{YieldsList-end, YieldsList-turn}
+use Rattle.mesh_radio.proofs.Common.{◌∙◌, map, sym, ap, length, map-id, YieldsList-from_vec, YieldsList-end, YieldsList-turn}
 use Rattle.mesh_radio.proofs.Turning.{one_turned, next_sound}
 use Rattle.mesh_radio.proofs.deferring.all_whole.Goals as goal
 

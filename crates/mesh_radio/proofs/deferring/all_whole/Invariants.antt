@@ -1,4 +1,4 @@
-use Rattle.std.proofs.Common.{◌≡◌, map}
+use Rattle.mesh_radio.proofs.Common.{◌≡◌, map}
 use Rattle.mesh_radio.proofs.deferring.all_whole.Given as goal
 
 abbrev pub invariant-loop-router : goal.invariant-loop-router

@@ -1,7 +1,4 @@
-use Rattle.std.proofs.Common.{◌∙◌, map, sym, ap}
-use Rattle.std.proofs.lemmas.List.{map-id}
-use Rattle.std.proofs.lemmas.Iterator.Adapters.{YieldsList-from_vec}
-use Rattle.std.proofs.lemmas.Iterator.Consumers.{YieldsList-end}
+use Rattle.mesh_radio.proofs.Common.{◌∙◌, map, sym, ap, map-id, YieldsList-from_vec, YieldsList-end}
 use Rattle.mesh_radio.proofs.Turning.{one_turned, one_sound}
 use Rattle.mesh_radio.proofs.deferring.defer_each.Goals as goal
 

@@ -1,5 +1,4 @@
-use Rattle.std.proofs.Common.{◌≡◌, map}
-use Rattle.mesh_radio.specs.Scene.{AreSoundStates}
+use Rattle.mesh_radio.proofs.Common.{◌≡◌, map, AreSoundStates}
 use Rattle.mesh_radio.proofs.deferring.defer_each.Given as goal
 
 abbrev pub invariant-loop-core : goal.invariant-loop-core

@@ -1,4 +1,4 @@
-use Rattle.std.proofs.Common.{map}
+use Rattle.mesh_radio.proofs.Common.{map}
 use Rattle.mesh_radio.proofs.RunsOff.{none_put_off, one_put_off, none_left_off}
 use Rattle.mesh_radio.proofs.deferring.do_events.Goals as goal
 

@@ -1,5 +1,4 @@
-use Rattle.std.specs.Prelude.{map}
-use Rattle.mesh_radio.specs.Scene.{net_of}
+use Rattle.mesh_radio.proofs.Common.{map, net_of}
 use Rattle.mesh_radio.proofs.RunsOff.{RunsOff}
 use Rattle.mesh_radio.proofs.deferring.do_events.Given as goal
 

@@ -1,6 +1,4 @@
-use Rattle.std.proofs.Common.{◌∙◌, ap, List, map, subst, sym}
-use Rattle.mesh_atoms.specs.State.{State}
-use Rattle.mesh_radio.specs.Scene.{IsSound}
+use Rattle.mesh_radio.proofs.Common.{◌∙◌, ap, List, map, subst, sym, State, IsSound}
 use Rattle.mesh_radio.proofs.deferring.run_to_end.Goals as goal
 
 pub do_events-requires-clause-sound : goal.do_events-requires-clause-sound

@@ -1,8 +1,4 @@
-use Rattle.std.proofs.Common.{map}
-use Rattle.mesh_radio.specs.Occurrences.{emission_of}
-use Rattle.mesh_radio.specs.Traffic.Air.{delivery_of}
-use Rattle.mesh_radio.specs.Traffic.Traffic.{traffic_of}
-use Rattle.mesh_machine.proofs.Arcs.{arc_ends}
+use Rattle.mesh_radio.proofs.Common.{map, emission_of, delivery_of, traffic_of, arc_ends}
 use Rattle.mesh_radio.proofs.Happenings.{lands}
 use Rattle.mesh_radio.proofs.Standing.{router_to, may_send, item_at}
 use Rattle.mesh_radio.proofs.events.land.Goals as goal

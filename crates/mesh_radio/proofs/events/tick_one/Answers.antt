@@ -1,4 +1,4 @@
-use Rattle.std.proofs.Common.{refl, map}
+use Rattle.mesh_radio.proofs.Common.{refl, map}
 use Rattle.mesh_radio.proofs.Standing.{router_at, may_send}
 use Rattle.mesh_radio.proofs.events.tick_one.Goals as goal
 

@@ -1,9 +1,4 @@
-use Rattle.std.proofs.Common.{◌∙◌, List, map, sym, ap}
-use Rattle.std.proofs.lemmas.List.{map-id}
-use Rattle.std.proofs.lemmas.Iterator.Adapters.{YieldsList-from_vec}
-use Rattle.std.proofs.lemmas.Iterator.Consumers.{YieldsList-end}
-use Rattle.mesh_radio.specs.declared.occurrences.SentFrame.{SentFrame}
-use Rattle.mesh_radio.specs.Occurrences.{emission_of}
+use Rattle.mesh_radio.proofs.Common.{◌∙◌, List, map, sym, ap, map-id, YieldsList-from_vec, YieldsList-end, SentFrame, emission_of}
 use Rattle.mesh_radio.proofs.TrafficLemmas.Sending.{one_told}
 use Rattle.mesh_radio.proofs.occurrences.emissions_told.Goals as goal
 

@@ -1,5 +1,4 @@
-use Rattle.std.proofs.Common.{◌≡◌, map}
-use Rattle.mesh_radio.specs.Occurrences.{emission_of}
+use Rattle.mesh_radio.proofs.Common.{◌≡◌, map, emission_of}
 use Rattle.mesh_radio.proofs.occurrences.emissions_told.Given as goal
 
 abbrev pub invariant-loop-one : goal.invariant-loop-one

@@ -1,7 +1,4 @@
-use Rattle.std.proofs.Common.{List, map, subst}
-use Rattle.mesh_atoms.specs.State.{State}
-use Rattle.mesh_atoms.specs.declared.settings.RouterSettings.{RouterSettings}
-use Rattle.mesh_radio.specs.Opening.{AreOpening}
+use Rattle.mesh_radio.proofs.Common.{List, map, subst, State, RouterSettings, AreOpening}
 use Rattle.mesh_radio.proofs.Beginning.{opening_sound, opening_net, some_router}
 use Rattle.mesh_radio.proofs.opening.opening_of.Goals as goal
 

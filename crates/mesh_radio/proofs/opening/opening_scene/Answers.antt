@@ -1,4 +1,4 @@
-use Rattle.std.proofs.Common.{refl}
+use Rattle.mesh_radio.proofs.Common.{refl}
 use Rattle.mesh_radio.proofs.opening.opening_scene.Goals as goal
 
 pub returns : goal.returns

@@ -1,10 +1,4 @@
-use Rattle.std.proofs.Common.{◌≡◌, refl, length, List, Some, map}
-use Rattle.std.specs.Prelude.{slice_get}
-use Rattle.std.proofs.lemmas.List.{length-map}
-use Rattle.std.proofs.lemmas.Option.{slice_get_read}
-use Rattle.mesh_atoms.specs.State.{State}
-use Rattle.mesh_machine.proofs.FirstDue.{very_first, is_earlier, is_no_earlier, first_of_all}
-use Rattle.mesh_machine.proofs.Places.{mapped_at}
+use Rattle.mesh_radio.proofs.Common.{◌≡◌, refl, length, List, Some, map, slice_get, length-map, slice_get_read, State, very_first, is_earlier, is_no_earlier, first_of_all, mapped_at}
 use Rattle.mesh_radio.proofs.routers.first_due.Goals as goal
 use Rattle.mesh_radio.proofs.routers.first_due.Goals.{then-moment-first, else-moment-first}
 

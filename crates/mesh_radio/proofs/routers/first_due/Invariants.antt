@@ -1,5 +1,4 @@
-use Rattle.std.specs.Prelude.{map}
-use Rattle.mesh_machine.proofs.FirstDue.{IsFirstOf}
+use Rattle.mesh_radio.proofs.Common.{map, IsFirstOf}
 use Rattle.mesh_radio.proofs.routers.first_due.Given as goal
 
 abbrev pub invariant-loop-router : goal.invariant-loop-router

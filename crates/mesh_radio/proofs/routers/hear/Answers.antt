@@ -1,8 +1,4 @@
-use Rattle.std.proofs.Common.{◌<◌, ◌≤◌, ℕ, List, OnOk, length, map, subst}
-use Rattle.std.specs.Prelude.{slice_set}
-use Rattle.mesh_atoms.specs.State.{State}
-use Rattle.mesh_machine.specs.Machine.{Hear}
-use Rattle.mesh_radio.specs.Scene.{Stepped, KeepsDue}
+use Rattle.mesh_radio.proofs.Common.{◌<◌, ◌≤◌, ℕ, List, OnOk, length, map, subst, slice_set, State, Hear, Stepped, KeepsDue}
 use Rattle.mesh_radio.proofs.Steps.{its_state, hears}
 use Rattle.mesh_radio.proofs.routers.hear.Goals as goal
 

@@ -1,4 +1,4 @@
-use Rattle.std.proofs.Common.{◌≡◌, arith, length}
+use Rattle.mesh_radio.proofs.Common.{◌≡◌, arith, length}
 use Rattle.mesh_radio.proofs.Beginning.{none_opening, opening_more}
 use Rattle.mesh_radio.proofs.routers.routers_of.Goals as goal
 

@@ -1,5 +1,4 @@
-use Rattle.std.specs.Prelude.{map}
-use Rattle.mesh_radio.specs.Opening.{AreOpeningUpTo}
+use Rattle.mesh_radio.proofs.Common.{map, AreOpeningUpTo}
 use Rattle.mesh_radio.proofs.routers.routers_of.Given as goal
 
 abbrev pub invariant-loop-one : goal.invariant-loop-one

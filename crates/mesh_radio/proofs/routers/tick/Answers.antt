@@ -1,5 +1,4 @@
-use Rattle.std.proofs.Common.{◌≤◌, subst}
-use Rattle.mesh_atoms.specs.State.{State}
+use Rattle.mesh_radio.proofs.Common.{◌≤◌, subst, State}
 use Rattle.mesh_machine.specs.Machine.{Tick}
 use Rattle.mesh_radio.proofs.Steps.{its_state, ticks}
 use Rattle.mesh_radio.proofs.routers.tick.Goals as goal

@@ -1,11 +1,5 @@
-use Rattle.std.proofs.Common.{◌≤◌, map, subst, sym}
-use Rattle.std.specs.Prelude.{min}
-use Rattle.mesh_radio.specs.Occurrences.{net_event_of}
-use Rattle.mesh_radio.specs.Traffic.Air.{delivery_of}
-use Rattle.mesh_radio.specs.declared.scene.Scene.{Scene}
-use Rattle.mesh_radio.specs.Scene.{Happens, IsFlying}
+use Rattle.mesh_radio.proofs.Common.{◌≤◌, map, subst, sym, min, net_event_of, delivery_of, Scene, Happens, IsFlying, first_and_others}
 use Rattle.mesh_radio.proofs.Happenings.{hears_next}
-use Rattle.mesh_machine.proofs.Sent.{first_and_others}
 use Rattle.mesh_radio.proofs.Soundness.{later_routers}
 use Rattle.mesh_radio.proofs.step.hear_next.Goals as goal
 

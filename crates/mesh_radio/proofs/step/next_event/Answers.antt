@@ -1,4 +1,4 @@
-use Rattle.std.proofs.Common.{map}
+use Rattle.mesh_radio.proofs.Common.{map}
 use Rattle.mesh_radio.proofs.Happenings.{told_since, sound_since, quiet_since}
 use Rattle.mesh_radio.proofs.step.next_event.Goals as goal
 

@@ -1,5 +1,4 @@
-use Rattle.std.proofs.Common.{refl}
-use Rattle.mesh_radio.specs.Scene.{Due_first}
+use Rattle.mesh_radio.proofs.Common.{refl, Due_first}
 use Rattle.mesh_radio.proofs.step.next_tick.Goals as goal
 
 pub returns-then-scene : goal.returns-then-scene

@@ -1,6 +1,4 @@
-use Rattle.std.proofs.Common.{map, subst, sym}
-use Rattle.mesh_atoms.specs.declared.network.NetEvent.{NetEvent}
-use Rattle.mesh_radio.specs.Scene.{Happens}
+use Rattle.mesh_radio.proofs.Common.{map, subst, sym, NetEvent, Happens}
 use Rattle.mesh_radio.proofs.step.tell_next.Goals as goal
 
 pub next_event-requires : goal.next_event-requires

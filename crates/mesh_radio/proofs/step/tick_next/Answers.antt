@@ -1,9 +1,4 @@
-use Rattle.std.proofs.Common.{arith, map, subst, sym}
-use Rattle.std.proofs.lemmas.List.{length-map}
-use Rattle.std.proofs.lemmas.Option.{slice_get_within}
-use Rattle.mesh_radio.specs.declared.scene.Scene.{Scene}
-use Rattle.mesh_radio.specs.Occurrences.{net_event_of}
-use Rattle.mesh_radio.specs.Scene.{Happens}
+use Rattle.mesh_radio.proofs.Common.{arith, map, subst, sym, length-map, slice_get_within, Scene, net_event_of, Happens}
 use Rattle.mesh_radio.proofs.Happenings.{tick_within, tick_in_time, tick_later, ticks_next, nothing_left}
 use Rattle.mesh_radio.proofs.Soundness.{later_routers, same_count}
 use Rattle.mesh_radio.proofs.step.tick_next.Goals as goal

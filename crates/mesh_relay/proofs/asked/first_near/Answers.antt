@@ -1,6 +1,4 @@
-use Rattle.std.proofs.Common.{nat_lt, rules}
-use Rattle.std.proofs.lemmas.List.Sorted.{IsPartitionPoint-from_clause, IsPartitionedBy-ltb}
-use Rattle.mesh_atoms.specs.declared.graphs.Near.{Near}
+use Rattle.mesh_relay.proofs.Common.{nat_lt, rules, IsPartitionPoint-from_clause, IsPartitionedBy-ltb, Near}
 use Rattle.mesh_relay.proofs.Flags.{ids_rise}
 use Rattle.mesh_relay.proofs.asked.first_near.Goals as goal
 

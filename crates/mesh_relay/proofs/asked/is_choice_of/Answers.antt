@@ -1,4 +1,4 @@
-use Rattle.std.proofs.lemmas.Result.{IfOk-weaker}
+use Rattle.mesh_relay.proofs.Common.{IfOk-weaker}
 use Rattle.mesh_relay.proofs.Flags.{serves_same}
 use Rattle.mesh_relay.proofs.asked.is_choice_of.Goals as goal
 

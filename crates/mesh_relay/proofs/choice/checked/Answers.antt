@@ -1,6 +1,4 @@
-use Rattle.std.proofs.Common.{sym, subst}
-use Rattle.std.proofs.lemmas.Result.{IfOk-weaker}
-use Rattle.mesh_atoms.specs.Words.{IsAscending}
+use Rattle.mesh_relay.proofs.Common.{sym, subst, IfOk-weaker, IsAscending}
 use Rattle.mesh_relay.proofs.Taken.{ids_ascend}
 use Rattle.mesh_relay.proofs.choice.checked.Goals as goal
 

@@ -1,4 +1,4 @@
-use Rattle.std.proofs.Common.{refl}
+use Rattle.mesh_relay.proofs.Common.{refl}
 use Rattle.mesh_relay.proofs.Cheapest.{places_within}
 use Rattle.mesh_relay.proofs.choice.choose.Goals as goal
 

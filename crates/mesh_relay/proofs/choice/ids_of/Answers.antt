@@ -1,4 +1,4 @@
-use Rattle.std.proofs.Common.{arith}
+use Rattle.mesh_relay.proofs.Common.{arith}
 use Rattle.mesh_relay.proofs.Taken.{ids_more_taken, ids_more_untaken}
 use Rattle.mesh_relay.proofs.choice.ids_of.Goals as goal
 use Rattle.mesh_relay.proofs.choice.ids_of.Goals.{then-taken-place+in_ok-push, else-taken-place}

@@ -1,5 +1,4 @@
-use Rattle.std.proofs.Common.{◌≡◌, ◌++◌, drop}
-use Rattle.mesh_relay.specs.Taken.{ids_of}
+use Rattle.mesh_relay.proofs.Common.{◌≡◌, ◌++◌, drop, ids_of}
 use Rattle.mesh_relay.proofs.choice.ids_of.Given as goal
 
 abbrev pub invariant-loop-place : goal.invariant-loop-place

@@ -1,4 +1,4 @@
-use Rattle.std.proofs.lemmas.Result.{IfOk-weaker}
+use Rattle.mesh_relay.proofs.Common.{IfOk-weaker}
 use Rattle.mesh_relay.proofs.Taken.{covers_all, all_taken}
 use Rattle.mesh_relay.proofs.choice.take_all.Goals as goal
 

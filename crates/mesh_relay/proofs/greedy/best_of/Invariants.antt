@@ -1,4 +1,4 @@
-use Rattle.mesh_relay.specs.Taken.{IsBest}
+use Rattle.mesh_relay.proofs.Common.{IsBest}
 use Rattle.mesh_relay.proofs.greedy.best_of.Given as goal
 
 abbrev pub invariant-loop-place : goal.invariant-loop-place

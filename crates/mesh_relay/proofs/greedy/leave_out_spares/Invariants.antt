@@ -1,4 +1,4 @@
-use Rattle.std.proofs.Common.{◌≡◌, ◌≤◌, ◌<◌, All, length}
+use Rattle.mesh_relay.proofs.Common.{◌≡◌, ◌≤◌, ◌<◌, All, length}
 use Rattle.mesh_relay.specs.declared.greedy.Own.{Own}
 use Rattle.mesh_relay.proofs.greedy.leave_out_spares.Given as goal
 

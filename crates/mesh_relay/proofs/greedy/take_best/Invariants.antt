@@ -1,5 +1,4 @@
-use Rattle.std.proofs.Common.{◌≡◌, length}
-use Rattle.mesh_relay.specs.Taken.{free_count}
+use Rattle.mesh_relay.proofs.Common.{◌≡◌, length, free_count}
 use Rattle.mesh_relay.proofs.greedy.take_best.Given as goal
 
 abbrev pub invariant-loop-place : goal.invariant-loop-place

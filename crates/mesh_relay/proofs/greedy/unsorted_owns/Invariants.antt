@@ -1,4 +1,4 @@
-use Rattle.std.proofs.Common.{◌≤◌, length}
+use Rattle.mesh_relay.proofs.Common.{◌≤◌, length}
 use Rattle.mesh_relay.specs.Owns.{AreBelow}
 use Rattle.mesh_relay.proofs.greedy.unsorted_owns.Given as goal
 

@@ -1,5 +1,4 @@
-use Rattle.std.proofs.Common.{Bool, true, false, set, ◌≡◌, sym, ◌∙◌, subst, inr}
-use Rattle.std.proofs.lemmas.List.{set-set, set-get_or}
+use Rattle.mesh_relay.proofs.Common.{Bool, true, false, set, ◌≡◌, sym, ◌∙◌, subst, inr, set-set, set-get_or}
 use Rattle.mesh_relay.proofs.prune.leave_out.Goals as goal
 
 pub returns-then-not-are_all_reached : goal.returns-then-not-are_all_reached

@@ -1,7 +1,4 @@
-use Rattle.std.proofs.Common.{◌≤◌, List, Bool, ℕ, length}
-use Rattle.mesh_atoms.specs.declared.graphs.Near.{Near}
-use Rattle.mesh_atoms.specs.declared.graphs.NeighbourGraph.{NeighbourGraph}
-use Rattle.mesh_relay.specs.Taken.{IsPruned}
+use Rattle.mesh_relay.proofs.Common.{◌≤◌, List, Bool, ℕ, length, Near, NeighbourGraph, IsPruned}
 use Rattle.mesh_relay.proofs.prune.prune.Given as goal
 
 pub record PrunesOn (graph : NeighbourGraph) (willing : List Near) (taken : List Bool) (left : ℕ) : Type 0 where

@@ -1,6 +1,4 @@
-use Rattle.std.proofs.Common.{rules}
-use Rattle.std.proofs.lemmas.List.Sorted.{IsNonDecreasingBy-from_sort_by_key}
-use Rattle.mesh_atoms.specs.declared.graphs.Direct.{Direct}
+use Rattle.mesh_relay.proofs.Common.{rules, IsNonDecreasingBy-from_sort_by_key, Direct}
 use Rattle.mesh_relay.proofs.seek.directs_of.Goals as goal
 
 pub returns-clause-order : goal.returns-clause-order

@@ -1,6 +1,4 @@
-use Rattle.std.proofs.Common.{nat_lt, rules}
-use Rattle.std.proofs.lemmas.List.Sorted.{IsPartitionPoint-from_clause, IsPartitionedBy-ltb}
-use Rattle.mesh_atoms.specs.declared.graphs.Direct.{Direct}
+use Rattle.mesh_relay.proofs.Common.{nat_lt, rules, IsPartitionPoint-from_clause, IsPartitionedBy-ltb, Direct}
 use Rattle.mesh_relay.proofs.seek.first_direct.Goals as goal
 
 pub returns-clause-point : goal.returns-clause-point

@@ -1,5 +1,4 @@
-use Rattle.std.proofs.Common.{◌≡◌, drop}
-use Rattle.mesh_relay.specs.Ways.{is_first_within}
+use Rattle.mesh_relay.proofs.Common.{◌≡◌, drop, is_first_within}
 use Rattle.mesh_relay.proofs.seek.is_first_within.Given as goal
 
 abbrev pub invariant-loop-direct : goal.invariant-loop-direct

@@ -1,5 +1,4 @@
-use Rattle.std.proofs.Common.{◌∙◌}
-use Rattle.std.proofs.lemmas.List.{take_rest}
+use Rattle.mesh_relay.proofs.Common.{◌∙◌, take_rest}
 use Rattle.mesh_relay.proofs.Directs.{from_point}
 use Rattle.mesh_relay.proofs.seek.is_found.Goals as goal
 

@@ -1,5 +1,4 @@
-use Rattle.std.proofs.Common.{◌≡◌, drop}
-use Rattle.mesh_relay.specs.Ways.{near_from}
+use Rattle.mesh_relay.proofs.Common.{◌≡◌, drop, near_from}
 use Rattle.mesh_relay.proofs.seek.near_of.Given as goal
 
 abbrev pub invariant-loop-place : goal.invariant-loop-place

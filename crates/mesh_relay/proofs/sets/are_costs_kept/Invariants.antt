@@ -1,7 +1,4 @@
-use Rattle.std.proofs.Common.{◌≡◌, drop}
-use Rattle.std.specs.List.{list_all}
-use Rattle.mesh_relay.specs.declared.sets.Among.TheVariants.{Willing}
-use Rattle.mesh_relay.specs.Tests.{is_as_cheap}
+use Rattle.mesh_relay.proofs.Common.{◌≡◌, drop, list_all, Willing, is_as_cheap}
 use Rattle.mesh_relay.proofs.sets.are_costs_kept.Given as goal
 
 abbrev pub invariant-loop-far : goal.invariant-loop-far

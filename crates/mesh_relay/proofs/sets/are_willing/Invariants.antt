@@ -1,6 +1,4 @@
-use Rattle.std.proofs.Common.{◌≡◌, drop}
-use Rattle.std.specs.List.{list_all}
-use Rattle.mesh_relay.specs.Tests.{is_willing_id}
+use Rattle.mesh_relay.proofs.Common.{◌≡◌, drop, list_all, is_willing_id}
 use Rattle.mesh_relay.proofs.sets.are_willing.Given as goal
 
 abbrev pub invariant-loop-id : goal.invariant-loop-id

@@ -1,6 +1,4 @@
-use Rattle.std.proofs.Common.{◌≡◌, ◌||◌, not, nat_eq, drop}
-use Rattle.std.specs.List.{list_all}
-use Rattle.mesh_relay.specs.Tests.{is_in_set}
+use Rattle.mesh_relay.proofs.Common.{◌≡◌, ◌||◌, not, nat_eq, drop, list_all, is_in_set}
 use Rattle.mesh_relay.proofs.sets.has_always.Given as goal
 
 abbrev pub invariant-loop-near : goal.invariant-loop-near

@@ -1,7 +1,4 @@
-use Rattle.std.proofs.Common.{◌≡◌, ◌+◌, ◌&&◌, nat_le, drop}
-use Rattle.std.specs.List.{list_any}
-use Rattle.mesh_atoms.specs.Base.{addr_eq}
-use Rattle.mesh_relay.specs.Tests.{is_in_set}
+use Rattle.mesh_relay.proofs.Common.{◌≡◌, ◌+◌, ◌&&◌, nat_le, drop, list_any, addr_eq, is_in_set}
 use Rattle.mesh_relay.proofs.sets.has_way_within.Given as goal
 
 abbrev pub invariant-loop-near : goal.invariant-loop-near

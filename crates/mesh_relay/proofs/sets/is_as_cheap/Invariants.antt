@@ -1,7 +1,4 @@
-use Rattle.std.proofs.Common.{◌≡◌, ◌||◌, not, drop}
-use Rattle.std.specs.List.{list_all}
-use Rattle.mesh_atoms.specs.Base.{addr_eq}
-use Rattle.mesh_relay.specs.Tests.{is_matched}
+use Rattle.mesh_relay.proofs.Common.{◌≡◌, ◌||◌, not, drop, list_all, addr_eq, is_matched}
 use Rattle.mesh_relay.proofs.sets.is_as_cheap.Given as goal
 
 abbrev pub invariant-loop-far : goal.invariant-loop-far

@@ -1,6 +1,4 @@
-use Rattle.std.proofs.Common.{◌≡◌, ◌&&◌, nat_le, drop}
-use Rattle.std.specs.List.{list_any}
-use Rattle.mesh_atoms.specs.Base.{addr_eq}
+use Rattle.mesh_relay.proofs.Common.{◌≡◌, ◌&&◌, nat_le, drop, list_any, addr_eq}
 use Rattle.mesh_relay.proofs.sets.is_direct_within.Given as goal
 
 abbrev pub invariant-loop-direct : goal.invariant-loop-direct

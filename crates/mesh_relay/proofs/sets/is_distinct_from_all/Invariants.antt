@@ -1,6 +1,4 @@
-use Rattle.std.proofs.Common.{◌≡◌, drop}
-use Rattle.std.specs.List.{list_all}
-use Rattle.mesh_relay.specs.Tests.{are_distinct}
+use Rattle.mesh_relay.proofs.Common.{◌≡◌, drop, list_all, are_distinct}
 use Rattle.mesh_relay.proofs.sets.is_distinct_from_all.Given as goal
 
 abbrev pub invariant-loop-other : goal.invariant-loop-other

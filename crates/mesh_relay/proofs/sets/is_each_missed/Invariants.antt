@@ -1,6 +1,4 @@
-use Rattle.std.proofs.Common.{◌≡◌, ◌||◌, not, drop}
-use Rattle.std.specs.List.{list_all}
-use Rattle.mesh_relay.specs.Tests.{is_in_set, without, can_be_left_out, is_missed}
+use Rattle.mesh_relay.proofs.Common.{◌≡◌, ◌||◌, not, drop, list_all, is_in_set, without, can_be_left_out, is_missed}
 use Rattle.mesh_relay.proofs.sets.is_each_missed.Given as goal
 
 abbrev pub invariant-loop-near : goal.invariant-loop-near

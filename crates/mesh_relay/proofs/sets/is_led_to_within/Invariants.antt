@@ -1,7 +1,4 @@
-use Rattle.std.proofs.Common.{◌≡◌, ◌&&◌, drop}
-use Rattle.std.specs.List.{list_any}
-use Rattle.mesh_atoms.specs.Base.{addr_eq}
-use Rattle.mesh_relay.specs.Tests.{has_way_within}
+use Rattle.mesh_relay.proofs.Common.{◌≡◌, ◌&&◌, drop, list_any, addr_eq, has_way_within}
 use Rattle.mesh_relay.proofs.sets.is_led_to_within.Given as goal
 
 abbrev pub invariant-loop-far : goal.invariant-loop-far

@@ -1,7 +1,4 @@
-use Rattle.std.proofs.Common.{◌≡◌, ◌+◌, ◌||◌, not, drop}
-use Rattle.std.specs.List.{list_all}
-use Rattle.mesh_atoms.specs.Base.{addr_eq}
-use Rattle.mesh_relay.specs.Tests.{is_in_set, is_offered_within}
+use Rattle.mesh_relay.proofs.Common.{◌≡◌, ◌+◌, ◌||◌, not, drop, list_all, addr_eq, is_in_set, is_offered_within}
 use Rattle.mesh_relay.proofs.sets.is_matched.Given as goal
 
 abbrev pub invariant-loop-near : goal.invariant-loop-near

@@ -1,7 +1,4 @@
-use Rattle.std.proofs.Common.{◌≡◌, not, drop}
-use Rattle.std.specs.List.{list_any}
-use Rattle.mesh_relay.specs.declared.sets.Among.TheVariants.{Willing}
-use Rattle.mesh_relay.specs.Tests.{has_same_distance}
+use Rattle.mesh_relay.proofs.Common.{◌≡◌, not, drop, list_any, Willing, has_same_distance}
 use Rattle.mesh_relay.proofs.sets.is_missed.Given as goal
 
 abbrev pub invariant-loop-far : goal.invariant-loop-far

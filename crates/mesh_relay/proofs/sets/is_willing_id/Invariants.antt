@@ -1,6 +1,4 @@
-use Rattle.std.proofs.Common.{◌≡◌, ◌&&◌, not, nat_eq, drop}
-use Rattle.std.specs.List.{list_any}
-use Rattle.mesh_atoms.specs.Base.{addr_eq}
+use Rattle.mesh_relay.proofs.Common.{◌≡◌, ◌&&◌, not, nat_eq, drop, list_any, addr_eq}
 use Rattle.mesh_relay.proofs.sets.is_willing_id.Given as goal
 
 abbrev pub invariant-loop-near : goal.invariant-loop-near

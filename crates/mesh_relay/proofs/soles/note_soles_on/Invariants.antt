@@ -1,5 +1,4 @@
-use Rattle.std.proofs.Common.{◌≡◌, ℕ, length, drop}
-use Rattle.mesh_relay.specs.Soles.{is_within, tells}
+use Rattle.mesh_relay.proofs.Common.{◌≡◌, ℕ, length, drop, is_within, tells}
 use Rattle.mesh_relay.proofs.soles.note_soles_on.Given as goal
 
 abbrev pub invariant-loop-way : goal.invariant-loop-way

@@ -1,5 +1,4 @@
-use Rattle.std.proofs.Common.{◌≡◌, false, drop, get_or}
-use Rattle.mesh_relay.specs.Ways.{are_all_reached_on}
+use Rattle.mesh_relay.proofs.Common.{◌≡◌, false, drop, get_or, are_all_reached_on}
 use Rattle.mesh_relay.proofs.ways.are_all_reached_on.Given as goal
 
 abbrev pub invariant-loop-way : goal.invariant-loop-way

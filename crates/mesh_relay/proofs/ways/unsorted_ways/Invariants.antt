@@ -1,6 +1,4 @@
-use Rattle.std.proofs.Common.{◌≡◌, ◌++◌, drop}
-use Rattle.std.specs.Prelude.{filter_map}
-use Rattle.mesh_relay.specs.Ways.{way_from, IsSought}
+use Rattle.mesh_relay.proofs.Common.{◌≡◌, ◌++◌, drop, filter_map, way_from, IsSought}
 use Rattle.mesh_relay.proofs.ways.unsorted_ways.Given as goal
 
 abbrev pub invariant-loop-far : goal.invariant-loop-far

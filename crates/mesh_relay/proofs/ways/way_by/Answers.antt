@@ -1,4 +1,4 @@
-use Rattle.std.proofs.Common.{◌∙◌}
+use Rattle.mesh_relay.proofs.Common.{◌∙◌}
 use Rattle.mesh_relay.proofs.Sought.{no_way, one_way}
 use Rattle.mesh_relay.proofs.ways.way_by.Goals as goal
 

@@ -1,6 +1,4 @@
-use Rattle.std.proofs.lemmas.Fn.{dedup_same}
-use Rattle.std.proofs.Common.{rules}
-use Rattle.mesh_relay.specs.Ways.{is_no_better}
+use Rattle.mesh_relay.proofs.Common.{dedup_same, rules, is_no_better}
 use Rattle.mesh_relay.proofs.Cheapest.{are_ways, in_order_sorted}
 use Rattle.mesh_relay.proofs.ways.ways_of.Goals as goal
 

@@ -1,7 +1,4 @@
-use Rattle.std.proofs.Common.{rules}
-use Rattle.std.proofs.lemmas.Fn.{dedup_same}
-use Rattle.std.proofs.lemmas.List.Sorted.{IsNonDecreasingBy-from_sort_by_key}
-use Rattle.mesh_atoms.specs.declared.graphs.Near.{Near}
+use Rattle.mesh_relay.proofs.Common.{rules, dedup_same, IsNonDecreasingBy-from_sort_by_key, Near}
 use Rattle.mesh_relay.proofs.Willing.{are_willing, has_same_id}
 use Rattle.mesh_relay.proofs.ways.willing_of.Goals as goal
 

@@ -1,7 +1,4 @@
-use Rattle.std.proofs.Common.{◌≡◌, ℕ, ◌/◌, ◌%◌, subst, sym, arith}
-use Rattle.std.specs.Prelude.{slice_index}
-use Rattle.hex.specs.Hex.{lower_digits}
-use Rattle.mesh_report.specs.declared.hexadecimal.TheConstants.{DIGITS}
+use Rattle.mesh_report.proofs.Common.{◌≡◌, ℕ, ◌/◌, ◌%◌, subst, sym, arith, slice_index, lower_digits, DIGITS}
 use Rattle.mesh_report.proofs.LaidHex.{first_is, second_is}
 use Rattle.mesh_report.proofs.hexadecimal.digits_of.Goals as goal
 

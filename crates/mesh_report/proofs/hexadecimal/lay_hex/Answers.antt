@@ -1,4 +1,4 @@
-use Rattle.std.proofs.Common.{◌∙◌}
+use Rattle.mesh_report.proofs.Common.{◌∙◌}
 use Rattle.mesh_report.proofs.LaidHex.{digits_all}
 use Rattle.mesh_report.proofs.hexadecimal.lay_hex.Goals as goal
 

@@ -1,6 +1,4 @@
-use Rattle.std.proofs.Common.{◌+◌, ◌*◌, ◌<◌, length, arith, ◌∙◌}
-use Rattle.std.specs.Prelude.{slice_set}
-use Rattle.std.proofs.lemmas.List.{length-set}
+use Rattle.mesh_report.proofs.Common.{◌+◌, ◌*◌, ◌<◌, length, arith, ◌∙◌, slice_set, length-set}
 use Rattle.mesh_report.proofs.LaidHex.{one_more}
 use Rattle.mesh_report.proofs.hexadecimal.lay_rest.Goals as goal
 

@@ -1,5 +1,4 @@
-use Rattle.std.proofs.Common.{ℕ, ◌<◌, get_or, refl, ap, ◌∙◌, arith, w8}
-use Rattle.std.proofs.lemmas.Simd.{SwzOk-from_below, Each1-from_get_or, length-swz_l, get_or-swz_l_below}
+use Rattle.mesh_report.proofs.Common.{ℕ, ◌<◌, get_or, refl, ap, ◌∙◌, arith, w8, SwzOk-from_below, Each1-from_get_or, length-swz_l, get_or-swz_l_below}
 use Rattle.mesh_report.specs.declared.lanes.TheConstants.{LOWER}
 use Rattle.mesh_report.proofs.lanes.digits.Goals as goal
 

@@ -1,7 +1,4 @@
-use Rattle.std.proofs.Common.{ℕ, ap, ◌∙◌, arith, Fits, w8}
-use Rattle.std.specs.Prelude.{slice_index}
-use Rattle.hex.specs.Hex.{lower_digits}
-use Rattle.std.proofs.lemmas.Simd.{Each1-get_or}
+use Rattle.mesh_report.proofs.Common.{ℕ, ap, ◌∙◌, arith, Fits, w8, slice_index, lower_digits, Each1-get_or}
 use Rattle.mesh_report.proofs.lanes.digits_of.Goals as goal
 
 pub digits-requires : goal.digits-requires

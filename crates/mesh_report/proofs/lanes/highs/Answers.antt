@@ -1,4 +1,4 @@
-use Rattle.std.proofs.Common.{ℕ, ◌/◌, ◌^◌, refl}
+use Rattle.mesh_report.proofs.Common.{ℕ, ◌/◌, ◌^◌, refl}
 use Rattle.mesh_report.proofs.Vectors.{lanes_with}
 use Rattle.mesh_report.proofs.lanes.highs.Goals as goal
 

@@ -1,6 +1,4 @@
-use Rattle.std.proofs.Common.{◌≡◌, ◌+◌, ◌*◌, ◌/◌, ◌≤◌, length, subst, ap, ◌∙◌, arith}
-use Rattle.std.proofs.lemmas.Simd.{length-put_chunk}
-use Rattle.mesh_report.specs.Digits.{AreDigits}
+use Rattle.mesh_report.proofs.Common.{◌≡◌, ◌+◌, ◌*◌, ◌/◌, ◌≤◌, length, subst, ap, ◌∙◌, arith, length-put_chunk, AreDigits}
 use Rattle.mesh_report.proofs.LaidHex.{sixteen_more}
 use Rattle.mesh_report.proofs.lanes.lay_wide.Goals as goal
 

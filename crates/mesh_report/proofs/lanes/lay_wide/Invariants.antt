@@ -1,5 +1,4 @@
-use Rattle.std.proofs.Common.{◌≡◌, ◌*◌, length}
-use Rattle.mesh_report.specs.Digits.{AreDigits}
+use Rattle.mesh_report.proofs.Common.{◌≡◌, ◌*◌, length, AreDigits}
 use Rattle.mesh_report.proofs.lanes.lay_wide.Given as goal
 
 abbrev pub invariant-loop-i : goal.invariant-loop-i

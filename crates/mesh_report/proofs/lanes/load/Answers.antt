@@ -1,4 +1,4 @@
-use Rattle.std.proofs.lemmas.Simd.{length-chunk, get_or-chunk}
+use Rattle.mesh_report.proofs.Common.{length-chunk, get_or-chunk}
 use Rattle.mesh_report.proofs.lanes.load.Goals as goal
 
 pub returns : goal.returns

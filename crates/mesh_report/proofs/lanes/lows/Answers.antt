@@ -1,4 +1,4 @@
-use Rattle.std.proofs.Common.{bit_and, get_or, refl, ◌∙◌}
+use Rattle.mesh_report.proofs.Common.{bit_and, get_or, refl, ◌∙◌}
 use Rattle.std.proofs.lemmas.Nat.{and_mask}
 use Rattle.mesh_report.proofs.Vectors.{lanes_with}
 use Rattle.mesh_report.proofs.lanes.lows.Goals as goal

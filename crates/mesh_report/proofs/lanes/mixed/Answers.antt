@@ -1,5 +1,4 @@
-use Rattle.std.proofs.Common.{ℕ, ◌+◌, ◌*◌, ◌++◌, get_or, refl, ap, ◌∙◌, arith}
-use Rattle.std.proofs.lemmas.List.{get_or_append_left, get_or-append_right}
+use Rattle.mesh_report.proofs.Common.{ℕ, ◌+◌, ◌*◌, ◌++◌, get_or, refl, ap, ◌∙◌, arith, get_or_append_left, get_or-append_right}
 use Rattle.mesh_report.proofs.Turns.{turns, first_turn, second_turn}
 use Rattle.mesh_report.proofs.Vectors.{picked}
 use Rattle.mesh_report.proofs.lanes.mixed.Goals as goal

@@ -1,4 +1,4 @@
-use Rattle.mesh_tlv.proofs.Grows.{grows_on}
+use Rattle.mesh_report.proofs.Common.{grows_on}
 use Rattle.mesh_report.proofs.lines.put_each.Goals as goal
 
 pub returns-in_err-put_lines-clause-kept : goal.returns-in_err-put_lines-clause-kept

@@ -1,6 +1,4 @@
-use Rattle.std.proofs.Common.{◌≡◌, ◌++◌, take}
-use Rattle.std.specs.List.{flat_map}
-use Rattle.mesh_tlv.specs.Least.{Grows}
+use Rattle.mesh_report.proofs.Common.{◌≡◌, ◌++◌, take, flat_map, Grows}
 use Rattle.mesh_report.proofs.lines.put_each.Given as goal
 
 abbrev pub invariant-loop-item : goal.invariant-loop-item

@@ -1,5 +1,5 @@
 use Rattle.mesh_report.proofs.lines.put_opening.Goals as goal
-use Rattle.mesh_atoms.proofs.Lists.{four_appended}
+use Rattle.mesh_report.proofs.Common.{four_appended}
 
 pub returns-clause-text : goal.returns-clause-text
 returns-clause-text c =

@@ -1,10 +1,5 @@
-use Rattle.std.proofs.Common.{◌≡◌, length, map, sym, ◌∙◌}
-use Rattle.std.proofs.lemmas.List.{length-map}
-use Rattle.mesh_tlv.specs.Fields.{fields}
-use Rattle.mesh_packet.specs.Fields.{fields_of_message}
-use Rattle.mesh_report.specs.Lines.{packet_line}
+use Rattle.mesh_report.proofs.Common.{◌≡◌, length, map, sym, ◌∙◌, length-map, fields, fields_of_message, packet_line, three_appended}
 use Rattle.mesh_report.proofs.lines.put_packet_end.Goals as goal
-use Rattle.mesh_atoms.proofs.Lists.{three_appended}
 
 pub returns : goal.returns
 unfolding packet_line

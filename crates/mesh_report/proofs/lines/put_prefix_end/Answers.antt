@@ -1,5 +1,4 @@
-use Rattle.std.proofs.Common.{arith}
-use Rattle.mesh_report.specs.Pieces.{numbered}
+use Rattle.mesh_report.proofs.Common.{arith, numbered}
 use Rattle.mesh_report.proofs.Decimals.{two_digits}
 use Rattle.mesh_report.proofs.lines.put_prefix_end.Goals as goal
 

@@ -1,6 +1,5 @@
-use Rattle.mesh_report.specs.Lines.{refused_line}
+use Rattle.mesh_report.proofs.Common.{refused_line, three_appended}
 use Rattle.mesh_report.proofs.lines.put_refused_line.Goals as goal
-use Rattle.mesh_atoms.proofs.Lists.{three_appended}
 
 pub returns : goal.returns
 unfolding refused_line

@@ -1,7 +1,4 @@
-use Rattle.std.proofs.Common.{◌≡◌, ◌++◌, take}
-use Rattle.std.specs.List.{flat_map}
-use Rattle.mesh_tlv.specs.Least.{Grows}
-use Rattle.mesh_report.specs.Lines.{address_line}
+use Rattle.mesh_report.proofs.Common.{◌≡◌, ◌++◌, take, flat_map, Grows, address_line}
 use Rattle.mesh_report.proofs.packet.put_addresses.Given as goal
 
 abbrev pub invariant-loop-addr : goal.invariant-loop-addr

@@ -1,15 +1,5 @@
-use Rattle.std.proofs.lemmas.Result.{on_ok_weaker}
-use Rattle.std.proofs.Common.{◌≡◌, ◌++◌, List, ℕ, map, refl}
-use Rattle.std.proofs.lemmas.List.Folds.{flat_map-map}
-use Rattle.std.specs.List.{flat_map}
-use Rattle.mesh_tlv.specs.Fields.{fields}
-use Rattle.mesh_tlv.proofs.Grows.{grows_on}
-use Rattle.mesh_packet.specs.Fields.{fields_of_packet, fields_of_message}
-use Rattle.mesh_packet.specs.Least.{Wrote}
-use Rattle.mesh_report.specs.Lines.{packet_line, tlv_line}
-use Rattle.mesh_report.specs.Packets.{IsMessagesText}
+use Rattle.mesh_report.proofs.Common.{on_ok_weaker, ◌≡◌, ◌++◌, List, ℕ, map, refl, flat_map-map, flat_map, fields, grows_on, fields_of_packet, fields_of_message, Wrote, packet_line, tlv_line, IsMessagesText, three_appended}
 use Rattle.mesh_report.proofs.packet.put_decoded.Goals as goal
-use Rattle.mesh_atoms.proofs.Lists.{three_appended}
 
 pub returns-clause-ok : goal.returns-clause-ok
 returns-clause-ok c = on_ok_weaker c.put_messages.result (λ wrote.

@@ -1,6 +1,4 @@
-use Rattle.std.proofs.lemmas.Result.{on_ok_weaker}
-use Rattle.std.proofs.Common.{◌++◌, List, ℕ, ap, ◌∙◌}
-use Rattle.std.proofs.lemmas.List.{append-nil}
+use Rattle.mesh_report.proofs.Common.{on_ok_weaker, ◌++◌, List, ℕ, ap, ◌∙◌, append-nil}
 use Rattle.mesh_report.proofs.packet.put_line_text.Goals as goal
 
 pub returns-clause-ok : goal.returns-clause-ok

@@ -1,10 +1,6 @@
-use Rattle.std.proofs.Common.{◌≡◌, ◌++◌, List, ℕ, refl, ap, ◌∙◌}
-use Rattle.mesh_tlv.proofs.Grows.{grows_on, grows_none}
-use Rattle.mesh_packet.specs.Fields.{fields_of_message}
-use Rattle.mesh_report.specs.Packets.{message_text}
+use Rattle.mesh_report.proofs.Common.{◌≡◌, ◌++◌, List, ℕ, refl, ap, ◌∙◌, grows_on, grows_none, fields_of_message, message_text, two_appended as two}
 use Rattle.mesh_report.proofs.Joined.{behind}
 use Rattle.mesh_report.proofs.packet.put_message.Goals as goal
-use Rattle.mesh_atoms.proofs.Lists.{two_appended as two}
 
 pub returns-clause-ok : goal.returns-clause-ok
 returns-clause-ok c =

@@ -1,9 +1,4 @@
-use Rattle.std.proofs.Common.{◌≡◌, ℕ, ◌+◌, ◌<◌, List, [], ◌++◌, length, map, drop, get_or, ap, ◌∙◌, arith, append_assoc, length-drop}
-use Rattle.std.proofs.lemmas.List.{append-nil, length-map}
-use Rattle.mesh_tlv.proofs.Grows.{grows_on}
-use Rattle.mesh_packet.specs.Fields.{MessageFields, fields_of_message}
-use Rattle.mesh_packet.specs.declared.packet.Span.{Span}
-use Rattle.mesh_report.specs.Packets.{IsMessageText, IsMessagesText}
+use Rattle.mesh_report.proofs.Common.{◌≡◌, ℕ, ◌+◌, ◌<◌, List, [], ◌++◌, length, map, drop, get_or, ap, ◌∙◌, arith, append_assoc, length-drop, append-nil, length-map, grows_on, MessageFields, fields_of_message, Span, IsMessageText, IsMessagesText}
 use Rattle.mesh_report.proofs.Messages.{none_left, next_first}
 use Rattle.mesh_report.proofs.packet.put_messages.Goals as goal
 

@@ -1,8 +1,4 @@
-use Rattle.std.proofs.Common.{ℕ, List, ◌++◌, map, drop}
-use Rattle.mesh_tlv.specs.Least.{Grows}
-use Rattle.mesh_packet.specs.Fields.{fields_of_message}
-use Rattle.mesh_packet.specs.Least.{Wrote}
-use Rattle.mesh_report.specs.Packets.{IsMessagesText}
+use Rattle.mesh_report.proofs.Common.{ℕ, List, ◌++◌, map, drop, Grows, fields_of_message, Wrote, IsMessagesText}
 use Rattle.mesh_report.proofs.packet.put_messages.Given as goal
 
 -- what stands, with what is still to come, is the whole

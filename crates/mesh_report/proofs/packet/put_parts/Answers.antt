@@ -1,14 +1,5 @@
-use Rattle.std.proofs.lemmas.Result.{on_ok_weaker}
-use Rattle.std.proofs.Common.{◌≡◌, ◌++◌, List, ℕ, map}
-use Rattle.std.proofs.lemmas.List.Folds.{flat_map-map}
-use Rattle.std.specs.List.{flat_map}
-use Rattle.mesh_tlv.specs.Fields.{fields}
-use Rattle.mesh_tlv.proofs.Grows.{grows_on}
-use Rattle.mesh_packet.specs.Fields.{fields_of_message, fields_of_block}
-use Rattle.mesh_report.specs.Lines.{message_line, tlv_line}
-use Rattle.mesh_report.specs.Packets.{block_text, message_text}
+use Rattle.mesh_report.proofs.Common.{on_ok_weaker, ◌≡◌, ◌++◌, List, ℕ, map, flat_map-map, flat_map, fields, grows_on, fields_of_message, fields_of_block, message_line, tlv_line, block_text, message_text, three_appended}
 use Rattle.mesh_report.proofs.packet.put_parts.Goals as goal
-use Rattle.mesh_atoms.proofs.Lists.{three_appended}
 
 pub returns-in_err-put_message_line-clause-kept : goal.returns-in_err-put_message_line-clause-kept
 returns-in_err-put_message_line-clause-kept c = c.put_message_line.ensures.kept

@@ -1,7 +1,4 @@
-use Rattle.std.proofs.lemmas.Result.{on_ok_weaker}
-use Rattle.std.proofs.Common.{[], refl, sym}
-use Rattle.std.proofs.lemmas.List.{append-nil}
-use Rattle.mesh_report.specs.Lines.{refused_line}
+use Rattle.mesh_report.proofs.Common.{on_ok_weaker, [], refl, sym, append-nil, refused_line}
 use Rattle.mesh_report.proofs.Joined.{behind}
 use Rattle.mesh_report.proofs.packet.put_read.Goals as goal
 

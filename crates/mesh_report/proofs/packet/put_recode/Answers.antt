@@ -1,6 +1,4 @@
-use Rattle.std.proofs.lemmas.Result.{on_ok_weaker}
-use Rattle.std.proofs.Common.{codes, Err, inl, inr, refl, ap, ◌∙◌}
-use Rattle.mesh_report.specs.Packets.{recode_line}
+use Rattle.mesh_report.proofs.Common.{on_ok_weaker, codes, Err, inl, inr, refl, ap, ◌∙◌, recode_line}
 use Rattle.mesh_report.proofs.packet.put_recode.Goals as goal
 
 pub returns-in-Ok-clause-ok : goal.returns-in-Ok-clause-ok

@@ -1,10 +1,6 @@
-use Rattle.std.proofs.Common.{ℕ, List, ◌++◌, codes, ap, ◌∙◌}
-use Rattle.hex.specs.Hex.{encode_lower}
-use Rattle.mesh_tlv.proofs.Grows.{grows_on}
-use Rattle.mesh_report.specs.Packets.{recode_line}
+use Rattle.mesh_report.proofs.Common.{ℕ, List, ◌++◌, codes, ap, ◌∙◌, encode_lower, grows_on, recode_line, three_appended}
 use Rattle.mesh_report.proofs.Joined.{behind}
 use Rattle.mesh_report.proofs.packet.put_recode_octets.Goals as goal
-use Rattle.mesh_atoms.proofs.Lists.{three_appended}
 
 pub returns-clause-ok : goal.returns-clause-ok
 unfolding recode_line

@@ -1,8 +1,5 @@
-use Rattle.std.proofs.lemmas.Result.{on_ok_weaker}
-use Rattle.std.proofs.Common.{◌++◌, refl}
-use Rattle.mesh_tlv.proofs.Grows.{grows_on}
+use Rattle.mesh_report.proofs.Common.{on_ok_weaker, ◌++◌, refl, grows_on, two_appended as two}
 use Rattle.mesh_report.proofs.packet.put_recoded.Goals as goal
-use Rattle.mesh_atoms.proofs.Lists.{two_appended as two}
 
 pub returns-clause-ok : goal.returns-clause-ok
 returns-clause-ok c = on_ok_weaker c.put_recode.result (λ (last, put, is).

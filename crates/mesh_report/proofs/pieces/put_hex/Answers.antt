@@ -1,6 +1,4 @@
-use Rattle.std.proofs.Common.{◌≡◌, ◌+◌, ◌-◌, ◌++◌, List, ℕ, take, drop, refl, ap, ◌∙◌, arith, append_assoc, sym}
-use Rattle.hex.specs.Hex.{encode_lower}
-use Rattle.mesh_tlv.proofs.Grows.{grows_none, grows_on}
+use Rattle.mesh_report.proofs.Common.{◌≡◌, ◌+◌, ◌-◌, ◌++◌, List, ℕ, take, drop, refl, ap, ◌∙◌, arith, append_assoc, sym, encode_lower, grows_none, grows_on}
 use Rattle.mesh_report.proofs.Digits.{digits_none, digits_more}
 use Rattle.mesh_report.proofs.pieces.put_hex.Goals as goal
 

@@ -1,6 +1,4 @@
-use Rattle.std.proofs.Common.{◌≡◌, ◌-◌, ◌≤◌, ◌++◌, length, take}
-use Rattle.hex.specs.Hex.{encode_lower}
-use Rattle.mesh_tlv.specs.Least.{Grows}
+use Rattle.mesh_report.proofs.Common.{◌≡◌, ◌-◌, ◌≤◌, ◌++◌, length, take, encode_lower, Grows}
 use Rattle.mesh_report.proofs.pieces.put_hex.Given as goal
 
 abbrev pub invariant-loop-at : goal.invariant-loop-at

@@ -1,7 +1,5 @@
-use Rattle.std.proofs.lemmas.Result.{on_ok_weaker}
-use Rattle.std.proofs.Common.{arith}
+use Rattle.mesh_report.proofs.Common.{on_ok_weaker, arith, hello_summary_line, tc_summary_line}
 use Rattle.mesh_wire.specs.Summaries.{hello_summary_of, tc_summary_of}
-use Rattle.mesh_report.specs.Readings.{hello_summary_line, tc_summary_line}
 use Rattle.mesh_report.proofs.Readings.{told_reads}
 use Rattle.mesh_report.proofs.reading.put_reading.Goals as goal
 

@@ -1,4 +1,4 @@
-use Rattle.std.proofs.Common.{◌≤◌, length, ap, arith}
+use Rattle.mesh_routes.proofs.Common.{◌≤◌, length, ap, arith}
 use Rattle.mesh_routes.proofs.Adding.{all_adds, length_own}
 use Rattle.mesh_routes.proofs.bases.graph_of_topology.Goals as goal
 

@@ -1,4 +1,4 @@
-use Rattle.std.proofs.Common.{◌≤◌, ◌∙◌, length, arith}
+use Rattle.mesh_routes.proofs.Common.{◌≤◌, ◌∙◌, length, arith}
 use Rattle.mesh_routes.proofs.Making.{few_owners, rooted_in, pairs_in, made_of, for_state}
 use Rattle.mesh_routes.proofs.Originators.{interfaces_of}
 use Rattle.mesh_routes.proofs.OwnGraph.{costs_of}

@@ -1,8 +1,5 @@
-use Rattle.std.proofs.Common.{◌≡◌, Result, Err}
+use Rattle.mesh_run.proofs.Common.{◌≡◌, Result, Err, EndsRun, ToldInCall, told, RunFault}
 use Rattle.mesh_io.specs.declared.stop.Stop.TheVariants as stop
-use Rattle.mesh_run.specs.Ends.{EndsRun}
-use Rattle.mesh_run.specs.Run.{ToldInCall, told}
-use Rattle.mesh_run.specs.declared.fault.RunFault.{RunFault}
 use Rattle.mesh_run.specs.declared.fault.RunFault.TheVariants as fault
 use Rattle.mesh_run.proofs.Endings.{done_left, by_answer, completes}
 use Rattle.mesh_run.proofs.job.run.Given.{Over}

@@ -1,6 +1,4 @@
-use Rattle.std.proofs.Common.{ℕ, List}
-use Rattle.mesh_io.proofs.Pieces.{one_put, one_cut}
-use Rattle.mesh_run.specs.Text.{IsReport}
+use Rattle.mesh_run.proofs.Common.{ℕ, List, one_put, one_cut, IsReport}
 use Rattle.mesh_run.proofs.report.tell_report.Goals as goal
 
 pub returns-in-Ok-write_all-clause-leaves : goal.returns-in-Ok-write_all-clause-leaves

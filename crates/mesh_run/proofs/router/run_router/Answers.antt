@@ -1,8 +1,4 @@
-use Rattle.std.proofs.Common.{sym, subst}
-use Rattle.mesh_atoms.specs.Sound.{Sound}
-use Rattle.mesh_atoms.specs.State.{State}
-use Rattle.mesh_core.specs.Deferred.{IsKeptOf}
-use Rattle.mesh_io.proofs.Fronts.{keeps_same}
+use Rattle.mesh_run.proofs.Common.{sym, subst, Sound, State, IsKeptOf, keeps_same}
 use Rattle.mesh_run.proofs.Endings.{sound_left, report_left, report_stops, spends}
 use Rattle.mesh_run.proofs.router.run_router.Goals as goal
 

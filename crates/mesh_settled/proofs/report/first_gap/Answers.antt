@@ -1,9 +1,4 @@
-use Rattle.std.specs.Prelude.{◌⊎◌}
-use Rattle.mesh_settled.specs.Kinds.{IsTopologyKey}
-use Rattle.mesh_settled.specs.Gaps.Links.{IsLinkKey}
-use Rattle.mesh_settled.specs.Gaps.Neighbours.{IsNeighbourKey}
-use Rattle.mesh_settled.specs.Gaps.Site.{seen}
-use Rattle.mesh_settled.specs.Gaps.TwoHops.{IsTwoHopKey}
+use Rattle.mesh_settled.proofs.Common.{◌⊎◌, IsTopologyKey, IsLinkKey, IsNeighbourKey, seen, IsTwoHopKey}
 use Rattle.mesh_settled.proofs.KindLemmas.{first_link, first_rest, none_found}
 use Rattle.mesh_settled.proofs.GapsLemmas.Leasts.{least_lesser}
 use Rattle.mesh_settled.proofs.report.first_gap.Goals as goal

@@ -1,4 +1,4 @@
-use Rattle.std.proofs.Common.{map}
+use Rattle.mesh_settled.proofs.Common.{map}
 use Rattle.mesh_settled.proofs.KindLemmas.{next_router, this_router, no_router}
 use Rattle.mesh_settled.proofs.report.first_of.Goals as goal
 

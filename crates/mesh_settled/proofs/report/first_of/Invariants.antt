@@ -1,4 +1,4 @@
-use Rattle.std.proofs.Common.{map}
+use Rattle.mesh_settled.proofs.Common.{map}
 use Rattle.mesh_settled.proofs.KindLemmas.{NoneBefore}
 use Rattle.mesh_settled.proofs.report.first_of.Given as goal
 

@@ -1,4 +1,4 @@
-use Rattle.std.proofs.Common.{map}
+use Rattle.mesh_settled.proofs.Common.{map}
 use Rattle.mesh_settled.proofs.KindLemmas.{none_settled, differ}
 use Rattle.mesh_settled.proofs.RouteLaw.{rows_are_least, next_hops_lead}
 use Rattle.mesh_settled.proofs.report.settled.Goals as goal

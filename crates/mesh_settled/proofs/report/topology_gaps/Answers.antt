@@ -1,7 +1,4 @@
-use Rattle.std.specs.Prelude.{◌⊎◌}
-use Rattle.mesh_settled.specs.declared.gaps.topics.TopologyKind.TheVariants.{Routers, Addresses, Networks}
-use Rattle.mesh_settled.specs.Gaps.Site.{seen}
-use Rattle.mesh_settled.specs.Gaps.Topics.{IsTopicKey}
+use Rattle.mesh_settled.proofs.Common.{◌⊎◌, Routers, Addresses, Networks, seen, IsTopicKey}
 use Rattle.mesh_settled.proofs.GapsLemmas.Leasts.{least_lesser}
 use Rattle.mesh_settled.proofs.report.topology_gaps.Goals as goal
 

@@ -1,8 +1,5 @@
-use Rattle.std.proofs.Common.{◌≡◌, [], ◌++◌, drop, refl, arith, append_assoc}
-use Rattle.std.proofs.lemmas.List.{append-nil, drop_all}
+use Rattle.mesh_texts.proofs.Common.{◌≡◌, [], ◌++◌, drop, refl, arith, append_assoc, append-nil, drop_all, all_read, grows_on}
 use Rattle.mesh_atoms.specs.Sound.{Sound}
-use Rattle.mesh_atoms.proofs.Lists.{all_read}
-use Rattle.mesh_settled.proofs.machine.tlv.Grows.{grows_on}
 use Rattle.mesh_texts.proofs.States.{next_state}
 use Rattle.mesh_texts.proofs.summary.put_sections.Goals as goal
 

@@ -1,7 +1,4 @@
-use Rattle.std.proofs.Common.{List, ℕ, ◌++◌, drop, map}
-use Rattle.mesh_settled.specs.machine.packet.Least.{Wrote}
-use Rattle.mesh_settled.specs.machine.tlv.Least.{Grows}
-use Rattle.mesh_texts.specs.Sections.Section.{AreSections}
+use Rattle.mesh_texts.proofs.Common.{List, ℕ, ◌++◌, drop, map, Wrote, Grows, AreSections}
 use Rattle.mesh_texts.proofs.summary.put_sections.Given as goal
 
 -- what stands, with the sections that are still to come, is the whole

@@ -1,6 +1,4 @@
-use Rattle.std.proofs.Common.{◌≡◌, ◌++◌, take}
-use Rattle.std.specs.List.{flat_map}
-use Rattle.mesh_texts.specs.Trace.{sent_lines}
+use Rattle.mesh_texts.proofs.Common.{◌≡◌, ◌++◌, take, flat_map, sent_lines}
 use Rattle.mesh_texts.proofs.trace.put_all_sent.Given as goal
 
 abbrev pub invariant-loop-emission : goal.invariant-loop-emission

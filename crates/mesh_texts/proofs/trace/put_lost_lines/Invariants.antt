@@ -1,6 +1,4 @@
-use Rattle.std.proofs.Common.{◌≡◌, ◌++◌, take}
-use Rattle.std.specs.List.{flat_map}
-use Rattle.mesh_texts.specs.Trace.{lost_line}
+use Rattle.mesh_texts.proofs.Common.{◌≡◌, ◌++◌, take, flat_map, lost_line}
 use Rattle.mesh_texts.proofs.trace.put_lost_lines.Given as goal
 
 abbrev pub invariant-loop-arc : goal.invariant-loop-arc

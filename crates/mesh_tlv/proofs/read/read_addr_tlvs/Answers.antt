@@ -1,14 +1,6 @@
-use Rattle.std.proofs.Common.{ℕ, List}
-use Rattle.std.specs.Prelude.{All}
-use Rattle.std.proofs.lemmas.Result.{MatchResult-weaker}
-use Rattle.mesh_tlv.specs.Fields.{AddrTlvFields, addr_block_fields}
-use Rattle.mesh_tlv.specs.Items.{FirstFaultAt}
-use Rattle.mesh_tlv.specs.Reading.{addr_tlv_at, block_at}
-use Rattle.mesh_tlv.specs.Grammar.{SpellsAddrTlv, TlvFault, AddrTlvBlockFault}
-use Rattle.mesh_tlv.specs.Least.{IsFit}
+use Rattle.mesh_tlv.proofs.Common.{ℕ, List, All, MatchResult-weaker, AddrTlvFields, addr_block_fields, FirstFaultAt, addr_tlv_at, block_at, SpellsAddrTlv, TlvFault, AddrTlvBlockFault, IsFit, given, given_so}
 use Rattle.mesh_tlv.proofs.Fit.{all_fit}
 use Rattle.mesh_tlv.proofs.Blocks.{BlockTook, block_takes, block_again, block_refuses}
-use Rattle.mesh_atoms.proofs.Given.{given, given_so}
 use Rattle.mesh_tlv.proofs.Tlvs.{addr_tlv_reader}
 use Rattle.mesh_tlv.proofs.read.read_addr_tlvs.Goals as goal
 

@@ -1,9 +1,5 @@
-use Rattle.mesh_tlv.specs.Fields.{block_fields}
-use Rattle.mesh_tlv.specs.Items.{FirstFaultAt}
-use Rattle.mesh_tlv.specs.Reading.{tlv_at}
-use Rattle.mesh_tlv.specs.Grammar.{SpellsTlv, TlvFault, TlvBlockFault}
+use Rattle.mesh_tlv.proofs.Common.{block_fields, FirstFaultAt, tlv_at, SpellsTlv, TlvFault, TlvBlockFault, given, given_so}
 use Rattle.mesh_tlv.proofs.Blocks.{BlockTook, block_takes, block_again, block_refuses}
-use Rattle.mesh_atoms.proofs.Given.{given, given_so}
 use Rattle.mesh_tlv.proofs.Tlvs.{tlv_reader}
 use Rattle.mesh_tlv.proofs.read.read_tlvs.Goals as goal
 

@@ -1,9 +1,5 @@
-use Rattle.std.proofs.Common.{◌≡◌, ◌-◌, ◌++◌, ◌∷◌, [], map, arith}
-use Rattle.std.proofs.lemmas.Result.{err_from_is_err_and}
-use Rattle.std.proofs.lemmas.List.{map_push}
-use Rattle.std.proofs.lemmas.Bool.{eq-eqb}
+use Rattle.mesh_tlv.proofs.Common.{◌≡◌, ◌-◌, ◌++◌, ◌∷◌, [], map, arith, err_from_is_err_and, map_push, eq-eqb, items_at}
 use native.Mathlib.Nat.{sub-zero}
-use Rattle.mesh_tlv.specs.Items.{items_at}
 use Rattle.mesh_tlv.proofs.Loop.{none_before, goes_on, fails, is_done, is_at_end}
 use Rattle.mesh_tlv.proofs.reader.read_items.Goals as goal
 use Rattle.mesh_tlv.proofs.reader.read_items.Goals.{else-loop-test, then-loop-test+then-place-end}

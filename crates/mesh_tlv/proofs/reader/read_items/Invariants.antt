@@ -1,5 +1,4 @@
-use Rattle.std.proofs.Common.{◌≡◌, ◌-◌, ◌≤◌, map}
-use Rattle.mesh_tlv.specs.Items.{items_at}
+use Rattle.mesh_tlv.proofs.Common.{◌≡◌, ◌-◌, ◌≤◌, map, items_at}
 use Rattle.mesh_tlv.proofs.Loop.{with_front}
 use Rattle.mesh_tlv.proofs.reader.read_items.Given as goal
 

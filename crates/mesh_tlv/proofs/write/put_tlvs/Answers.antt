@@ -1,6 +1,4 @@
-use Rattle.std.proofs.Common.{◌≤◌, ◌∙◌, length, sym, ap, subst}
-use Rattle.mesh_tlv.specs.Fields.{AddrTlvFields}
-use Rattle.mesh_tlv.specs.Least.{least_addr_tlv}
+use Rattle.mesh_tlv.proofs.Common.{◌≤◌, ◌∙◌, length, sym, ap, subst, AddrTlvFields, least_addr_tlv}
 use Rattle.mesh_tlv.proofs.Lengths.{item_within}
 use Rattle.mesh_tlv.proofs.write.put_tlvs.Goals as goal
 

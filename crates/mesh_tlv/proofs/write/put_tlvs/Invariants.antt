@@ -1,6 +1,4 @@
-use Rattle.std.proofs.Common.{◌≡◌, ◌++◌, map, take}
-use Rattle.std.specs.List.{flat_map}
-use Rattle.mesh_tlv.specs.Least.{least_addr_tlv}
+use Rattle.mesh_tlv.proofs.Common.{◌≡◌, ◌++◌, map, take, flat_map, least_addr_tlv}
 use Rattle.mesh_tlv.proofs.write.put_tlvs.Given as goal
 
 abbrev pub invariant-loop-tlv : goal.invariant-loop-tlv

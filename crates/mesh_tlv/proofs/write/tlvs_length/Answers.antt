@@ -1,6 +1,4 @@
-use Rattle.std.proofs.Common.{◌≡◌, ◌∙◌, get_or, length, ap, sym, arith}
-use Rattle.mesh_tlv.specs.Fields.{AddrTlvFields}
-use Rattle.mesh_tlv.specs.Least.{least_addr_tlv}
+use Rattle.mesh_tlv.proofs.Common.{◌≡◌, ◌∙◌, get_or, length, ap, sym, arith, AddrTlvFields, least_addr_tlv}
 use Rattle.mesh_tlv.proofs.Lengths.{too_long}
 use Rattle.mesh_tlv.proofs.write.tlvs_length.Goals as goal
 

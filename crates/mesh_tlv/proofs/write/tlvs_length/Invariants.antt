@@ -1,6 +1,4 @@
-use Rattle.std.proofs.Common.{◌≡◌, ◌≤◌, length, map, take}
-use Rattle.std.specs.List.{flat_map}
-use Rattle.mesh_tlv.specs.Least.{least_addr_tlv}
+use Rattle.mesh_tlv.proofs.Common.{◌≡◌, ◌≤◌, length, map, take, flat_map, least_addr_tlv}
 use Rattle.mesh_tlv.proofs.write.tlvs_length.Given as goal
 
 abbrev pub invariant-loop-tlv : goal.invariant-loop-tlv

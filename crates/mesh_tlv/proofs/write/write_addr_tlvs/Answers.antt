@@ -1,7 +1,4 @@
-use Rattle.std.proofs.Common.{map, inl}
-use Rattle.std.proofs.lemmas.Result.{on_ok_weaker}
-use Rattle.mesh_tlv.specs.Fields.{addr_fields}
-use Rattle.mesh_tlv.specs.Least.{least_addr_tlv}
+use Rattle.mesh_tlv.proofs.Common.{map, inl, on_ok_weaker, addr_fields, least_addr_tlv}
 use Rattle.mesh_tlv.proofs.Lengths.{addr_tlv_longer, block_longer}
 use Rattle.mesh_tlv.proofs.Spelled.{addr_tlv_block_spelled}
 use Rattle.mesh_tlv.proofs.write.write_addr_tlvs.Goals as goal

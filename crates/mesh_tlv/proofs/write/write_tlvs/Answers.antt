@@ -1,7 +1,4 @@
-use Rattle.std.proofs.Common.{map, inl, sym}
-use Rattle.std.proofs.lemmas.Result.{on_ok_weaker}
-use Rattle.mesh_tlv.specs.Fields.{fields}
-use Rattle.mesh_tlv.specs.Least.{least_tlv}
+use Rattle.mesh_tlv.proofs.Common.{map, inl, sym, on_ok_weaker, fields, least_tlv}
 use Rattle.mesh_tlv.proofs.Lengths.{tlv_longer, block_longer, written_indexed}
 use Rattle.mesh_tlv.proofs.Spelled.{tlv_block_spelled}
 use Rattle.mesh_tlv.proofs.write.write_tlvs.Goals as goal

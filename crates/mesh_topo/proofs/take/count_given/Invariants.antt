@@ -1,4 +1,4 @@
-use Rattle.std.proofs.Common.{◌≡◌, take, count_by, is_some}
+use Rattle.mesh_topo.proofs.Common.{◌≡◌, take, count_by, is_some}
 use Rattle.mesh_topo.proofs.take.count_given.Given as goal
 
 abbrev pub invariant-loop-row : goal.invariant-loop-row

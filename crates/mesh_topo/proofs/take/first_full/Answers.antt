@@ -1,4 +1,4 @@
-use Rattle.std.proofs.Common.{refl, ◌∙◌}
+use Rattle.mesh_topo.proofs.Common.{refl, ◌∙◌}
 use Rattle.mesh_topo.proofs.Full.{third_full, fourth_full, none_full, tested, router_rows, address_rows, network_rows}
 use Rattle.mesh_topo.proofs.take.first_full.Goals as goal
 

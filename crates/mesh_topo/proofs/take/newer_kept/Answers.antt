@@ -1,4 +1,4 @@
-use Rattle.std.proofs.Common.{refl, sym}
+use Rattle.mesh_topo.proofs.Common.{refl, sym}
 use Rattle.mesh_topo.proofs.take.newer_kept.Goals as goal
 
 pub returns-then-seq_newer-clause-some : goal.returns-then-seq_newer-clause-some

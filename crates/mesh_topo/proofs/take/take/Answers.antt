@@ -1,11 +1,7 @@
-use Rattle.std.proofs.Common.{◌+◌, ◌||◌, refl, sym}
-use Rattle.mesh_atoms.specs.AfterTc.{Is_old, Overfull, Takes}
-use Rattle.mesh_atoms.specs.State.{TopologyBase}
-use Rattle.mesh_topo.specs.Sets.{sets_of}
+use Rattle.mesh_topo.proofs.Common.{◌+◌, ◌||◌, refl, sym, Is_old, Overfull, Takes, TopologyBase, sets_of, or_parts as neither}
 use Rattle.mesh_topo.proofs.Full.{room_in_all, few_after, put_few, router_rows, address_rows, network_rows}
 use Rattle.mesh_topo.proofs.RowKinds.{router_set, address_set, network_set}
 use Rattle.mesh_topo.proofs.take.take.Goals as goal
-use Rattle.std.proofs.lemmas.Bool.{or_parts as neither}
 
 pub returns-in-Some : goal.returns-in-Some
 returns-in-Some g c = record {

@@ -1,7 +1,4 @@
-use Rattle.std.proofs.Common.{ℕ, List, length, take, ap, ◌∙◌}
-use Rattle.std.proofs.lemmas.Bool.Decides.{Decides-eqb, not_from_Decides}
-use Rattle.std.proofs.lemmas.Slice.Eq.{slice_eq-Decides}
-use Rattle.std.proofs.Math.Seq.{take-append_seam}
+use Rattle.mesh_trace.proofs.Common.{ℕ, List, length, take, ap, ◌∙◌, Decides-eqb, not_from_Decides, slice_eq-Decides, take-append_seam}
 use Rattle.mesh_trace.proofs.reading.behind.Goals as goal
 
 pub returns-else-eq-clause-none : goal.returns-else-eq-clause-none

@@ -1,4 +1,4 @@
-use Rattle.std.proofs.Common.{arith, add-one}
+use Rattle.mesh_trace.proofs.Common.{arith, add-one}
 use Rattle.mesh_trace.proofs.ReadingLemmas.FirstLine.{lines_at, lines_all}
 use Rattle.mesh_trace.proofs.reading.first_line.Goals as goal
 

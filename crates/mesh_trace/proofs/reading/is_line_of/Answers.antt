@@ -1,6 +1,4 @@
-use Rattle.std.proofs.lemmas.Bool.Decides.{Decides-eqb}
-use Rattle.std.proofs.lemmas.Slice.Eq.{slice_eq-Decides}
-use Rattle.std.proofs.Common.{take, length}
+use Rattle.mesh_trace.proofs.Common.{Decides-eqb, slice_eq-Decides, take, length}
 use Rattle.mesh_trace.proofs.ReadingLemmas.Ends.{line_ends, line_within}
 use Rattle.mesh_trace.proofs.reading.is_line_of.Goals as goal
 

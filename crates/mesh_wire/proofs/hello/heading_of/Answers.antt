@@ -1,7 +1,5 @@
-use Rattle.std.proofs.lemmas.Bool.{iff_false}
-use Rattle.mesh_packet.specs.Fields.{fields_of_message}
-use Rattle.mesh_wire.specs.HelloHeading.{IsOther}
-use Rattle.mesh_wire.specs.HelloRules.{BreaksHello, AddressWidth, HopLimit, HopCount, NoValidity, WrongInterval, WrongWilling}
+use Rattle.mesh_wire.proofs.Common.{iff_false, fields_of_message, IsOther, BreaksHello, HopLimit, HopCount, WrongWilling}
+use Rattle.mesh_wire.specs.HelloRules.{AddressWidth, NoValidity, WrongInterval}
 use Rattle.mesh_wire.proofs.HelloHeading.{first_number, past_width, past_limit, past_count, past_validity, past_interval}
 use Rattle.mesh_wire.proofs.InOrder.{first_at}
 use Rattle.mesh_wire.proofs.hello.heading_of.Goals as goal

@@ -1,6 +1,4 @@
-use Rattle.mesh_packet.specs.Fields.{fields_of_message}
-use Rattle.mesh_wire.specs.Hello.{HelloIs}
-use Rattle.mesh_wire.specs.HelloRules.{BreaksHello}
+use Rattle.mesh_wire.proofs.Common.{fields_of_message, HelloIs, BreaksHello}
 use Rattle.mesh_wire.proofs.HelloRead.{gives_of, refuses_of}
 use Rattle.mesh_wire.proofs.OneHello.{one_hello}
 use Rattle.mesh_wire.proofs.hello.hello_of.Goals as goal

@@ -1,5 +1,4 @@
-use Rattle.mesh_wire.specs.HelloRules.{BreaksHello}
-use Rattle.mesh_wire.specs.TcRules.{BreaksTc}
+use Rattle.mesh_wire.proofs.Common.{BreaksHello, BreaksTc}
 use Rattle.mesh_wire.proofs.OneHello.{one_hello}
 use Rattle.mesh_wire.proofs.OneTc.{one_tc}
 use Rattle.mesh_wire.proofs.Single.{one_broken}

@@ -1,5 +1,4 @@
-use Rattle.std.proofs.Common.{◌+◌}
-use Rattle.mesh_wire.specs.Rehop.{after_hops}
+use Rattle.mesh_wire.proofs.Common.{◌+◌, after_hops}
 use Rattle.mesh_wire.proofs.EachDistance.{kept_on}
 use Rattle.mesh_wire.proofs.Further.{further}
 use Rattle.mesh_wire.proofs.laws.written_for_each_distance.Goals as goal

@@ -1,5 +1,4 @@
-use Rattle.std.proofs.Common.{◌≡◌, ◌++◌, take}
-use Rattle.mesh_wire.specs.Lines.{column_text}
+use Rattle.mesh_wire.proofs.Common.{◌≡◌, ◌++◌, take, column_text}
 use Rattle.mesh_wire.proofs.lay.lay_column.Given as goal
 
 abbrev pub invariant-loop-line : goal.invariant-loop-line

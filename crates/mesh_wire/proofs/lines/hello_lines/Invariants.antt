@@ -1,5 +1,4 @@
-use Rattle.std.proofs.Common.{◌≡◌, map, take}
-use Rattle.mesh_wire.specs.Lines.{hello_line}
+use Rattle.mesh_wire.proofs.Common.{◌≡◌, map, take, hello_line}
 use Rattle.mesh_wire.proofs.lines.hello_lines.Given as goal
 
 abbrev pub invariant-loop-row : goal.invariant-loop-row

@@ -1,5 +1,4 @@
-use Rattle.std.proofs.Common.{◌≡◌, map, take}
-use Rattle.mesh_wire.specs.Lines.{tc_line}
+use Rattle.mesh_wire.proofs.Common.{◌≡◌, map, take, tc_line}
 use Rattle.mesh_wire.proofs.lines.tc_lines.Given as goal
 
 abbrev pub invariant-loop-row : goal.invariant-loop-row

@@ -1,4 +1,4 @@
-use Rattle.std.proofs.Common.{sym, ◌∙◌}
+use Rattle.mesh_wire.proofs.Common.{sym, ◌∙◌}
 use Rattle.mesh_wire.proofs.OctetKinds.{status_found}
 use Rattle.mesh_wire.proofs.octets.is_status_type.Goals as goal
 

@@ -1,5 +1,4 @@
-use Rattle.std.proofs.Common.{rules}
-use Rattle.mesh_atoms.proofs.Rows.{same_metric}
+use Rattle.mesh_wire.proofs.Common.{rules, same_metric}
 use Rattle.mesh_wire.proofs.parts.metric_in.Goals as goal
 
 pub returns : goal.returns

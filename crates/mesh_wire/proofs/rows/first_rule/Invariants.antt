@@ -1,5 +1,4 @@
-use Rattle.std.specs.Prelude.{◌≡◌, None, drop}
-use Rattle.mesh_wire.specs.RowRules.{first_rule}
+use Rattle.mesh_wire.proofs.Common.{◌≡◌, None, drop, first_rule}
 use Rattle.mesh_wire.proofs.rows.first_rule.Given as goal
 
 abbrev pub invariant-loop-i : goal.invariant-loop-i

@@ -1,7 +1,4 @@
-use Rattle.std.proofs.Common.{refl, sym, ap, ◌∙◌}
-use Rattle.std.specs.Prelude.{List, Some, None}
-use Rattle.mesh_wire.specs.declared.collect.AddressParts.{AddressParts}
-use Rattle.mesh_wire.specs.RowRules.{first_rule}
+use Rattle.mesh_wire.proofs.Common.{refl, sym, ap, ◌∙◌, List, Some, None, AddressParts, first_rule}
 use Rattle.mesh_wire.proofs.rows.kept_of.Goals as goal
 
 pub returns-in-Some-clause-broken : goal.returns-in-Some-clause-broken

@@ -1,5 +1,4 @@
-use Rattle.std.proofs.Common.{◌≡◌, sym, ◌∙◌, rules, length, map}
-use Rattle.std.proofs.lemmas.List.{length-map}
+use Rattle.mesh_wire.proofs.Common.{◌≡◌, sym, ◌∙◌, rules, length, map, length-map}
 use Rattle.mesh_wire.proofs.rows.row_count.Goals as goal
 
 pub returns-clause-counted : goal.returns-clause-counted

@@ -1,4 +1,4 @@
-use Rattle.std.proofs.Common.{◌≡◌, map, take}
+use Rattle.mesh_wire.proofs.Common.{◌≡◌, map, take}
 use Rattle.mesh_wire.proofs.rows.rows_of.Given as goal
 
 abbrev pub invariant-loop-kept : goal.invariant-loop-kept

@@ -1,4 +1,4 @@
-use Rattle.std.proofs.Common.{length}
+use Rattle.mesh_wire.proofs.Common.{length}
 use Rattle.mesh_wire.proofs.runs.+leading.Given as goal
 
 abbrev pub decreases-leading : goal.decreases-leading

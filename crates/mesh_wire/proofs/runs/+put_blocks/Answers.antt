@@ -1,7 +1,4 @@
-use Rattle.std.proofs.Common.{map, drop, ◌+◌}
-use Rattle.std.proofs.lemmas.Result.{on_ok_weaker}
-use Rattle.mesh_packet.specs.Fields.{fields_of_block}
-use Rattle.mesh_wire.specs.Runs.{Adds, AreBlocks}
+use Rattle.mesh_wire.proofs.Common.{map, drop, ◌+◌, on_ok_weaker, fields_of_block, Adds, AreBlocks}
 use Rattle.mesh_wire.proofs.RunLaws.{blocks_added}
 use Rattle.mesh_wire.proofs.runs.+put_blocks.Goals as goal
 

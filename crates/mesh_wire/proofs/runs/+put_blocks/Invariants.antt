@@ -1,4 +1,4 @@
-use Rattle.std.proofs.Common.{length, ◌-◌}
+use Rattle.mesh_wire.proofs.Common.{length, ◌-◌}
 use Rattle.mesh_wire.proofs.runs.+put_blocks.Given as goal
 
 abbrev pub decreases-put_blocks : goal.decreases-put_blocks

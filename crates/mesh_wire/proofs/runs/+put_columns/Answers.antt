@@ -1,8 +1,4 @@
-use Rattle.std.proofs.Common.{map, take, drop, length, ◌-◌}
-use Rattle.std.specs.Prelude.{slice_range}
-use Rattle.std.proofs.lemmas.Result.{on_ok_weaker}
-use Rattle.mesh_tlv.specs.Fields.{addr_fields}
-use Rattle.mesh_wire.specs.Runs.{Adds, LaysAll}
+use Rattle.mesh_wire.proofs.Common.{map, take, drop, length, ◌-◌, slice_range, on_ok_weaker, addr_fields, Adds, LaysAll}
 use Rattle.mesh_wire.proofs.RunLaws.{columns_added}
 use Rattle.mesh_wire.proofs.runs.+put_columns.Goals as goal
 

@@ -1,5 +1,4 @@
-use Rattle.std.proofs.Common.{length, arith, ap, length-append, length-take}
-use Rattle.mesh_wire.specs.Lines.{column_text, columns_text}
+use Rattle.mesh_wire.proofs.Common.{length, arith, ap, length-append, length-take, column_text, columns_text}
 use Rattle.mesh_wire.proofs.Texts.{front_of, back_of}
 use Rattle.mesh_wire.proofs.runs.first_column.Goals as goal
 

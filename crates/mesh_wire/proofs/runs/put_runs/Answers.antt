@@ -1,9 +1,4 @@
-use Rattle.std.proofs.Common.{◌≡◌, ◌+◌, arith, ap, List, subst, ◌∙◌, sym, map}
-use Rattle.std.specs.Prelude.{drop}
-use Rattle.mesh_tlv.specs.declared.tlv.AddrTlv.{AddrTlv}
-use Rattle.mesh_tlv.specs.Fields.{addr_fields}
-use Rattle.std.proofs.lemmas.List.{take_rest}
-use Rattle.mesh_wire.specs.Runs.{leading, Adds, LaysFirst}
+use Rattle.mesh_wire.proofs.Common.{◌≡◌, ◌+◌, arith, ap, List, subst, ◌∙◌, sym, map, drop, AddrTlv, addr_fields, take_rest, leading, Adds, LaysFirst}
 use Rattle.mesh_wire.proofs.RunLaws.{adds_none, adds_run, adds_skip, adds_all}
 use Rattle.mesh_wire.proofs.runs.put_runs.Goals.{then-first-end+in_ok-push, else-first-end}
 use Rattle.mesh_wire.proofs.runs.put_runs.Goals as goal

@@ -1,6 +1,4 @@
-use Rattle.std.proofs.Common.{length, ◌-◌, map}
-use Rattle.mesh_tlv.specs.Fields.{addr_fields}
-use Rattle.mesh_wire.specs.Runs.{Adds, LaysFirst}
+use Rattle.mesh_wire.proofs.Common.{length, ◌-◌, map, addr_fields, Adds, LaysFirst}
 use Rattle.mesh_wire.proofs.runs.put_runs.Given as goal
 
 abbrev pub invariant-loop-first : goal.invariant-loop-first

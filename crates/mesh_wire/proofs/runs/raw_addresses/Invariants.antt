@@ -1,6 +1,4 @@
-use Rattle.std.proofs.Common.{◌≡◌, map, take}
-use Rattle.mesh_wire.specs.declared.lines.AddressRecord.{AddressRecord}
-use Rattle.mesh_wire.specs.Runs.{raw_of}
+use Rattle.mesh_wire.proofs.Common.{◌≡◌, map, take, AddressRecord, raw_of}
 use Rattle.mesh_wire.proofs.runs.raw_addresses.Given as goal
 
 abbrev pub invariant-loop-line : goal.invariant-loop-line

@@ -1,5 +1,4 @@
-use Rattle.std.proofs.Common.{length, arith, ap}
-use Rattle.mesh_wire.specs.Lines.{laid}
+use Rattle.mesh_wire.proofs.Common.{length, arith, ap, laid}
 use Rattle.mesh_wire.proofs.Texts.{between, starts_before, ends_within}
 use Rattle.mesh_wire.proofs.runs.text_between.Goals as goal
 

@@ -1,4 +1,4 @@
-use Rattle.std.proofs.Common.{sym}
+use Rattle.mesh_wire.proofs.Common.{sym}
 use Rattle.mesh_wire.proofs.Texts.{column_wide, column_narrow}
 use Rattle.mesh_wire.proofs.runs.text_len.Goals as goal
 

@@ -1,9 +1,4 @@
-use Rattle.std.proofs.Common.{refl}
-use Rattle.mesh_packet.specs.Fields.{fields_of_message}
-use Rattle.mesh_wire.specs.Answers.{Sums}
-use Rattle.mesh_wire.specs.Hello.{HelloIs}
-use Rattle.mesh_wire.specs.HelloRules.{BreaksHello}
-use Rattle.mesh_wire.specs.Summaries.{hello_summary_of}
+use Rattle.mesh_wire.proofs.Common.{refl, fields_of_message, Sums, HelloIs, BreaksHello, hello_summary_of}
 use Rattle.mesh_wire.proofs.Counted.{one_sum}
 use Rattle.mesh_wire.proofs.HelloRead.{gives_of, refuses_of}
 use Rattle.mesh_wire.proofs.OneHello.{one_hello}

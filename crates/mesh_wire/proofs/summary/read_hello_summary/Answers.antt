@@ -1,5 +1,4 @@
-use Rattle.std.proofs.Common.{refl}
-use Rattle.mesh_atoms.specs.declared.hello.Hello.{Hello}
+use Rattle.mesh_wire.proofs.Common.{refl, Hello}
 use Rattle.mesh_wire.proofs.summary.read_hello_summary.Goals as goal
 
 pub returns-clause-reads : goal.returns-clause-reads

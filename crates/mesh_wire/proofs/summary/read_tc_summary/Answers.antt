@@ -1,5 +1,4 @@
-use Rattle.std.proofs.Common.{refl}
-use Rattle.mesh_atoms.specs.declared.tc.Tc.{Tc}
+use Rattle.mesh_wire.proofs.Common.{refl, Tc}
 use Rattle.mesh_wire.proofs.summary.read_tc_summary.Goals as goal
 
 pub returns-clause-reads : goal.returns-clause-reads

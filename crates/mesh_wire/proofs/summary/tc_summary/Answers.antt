@@ -1,9 +1,4 @@
-use Rattle.std.proofs.Common.{refl}
-use Rattle.mesh_packet.specs.Fields.{fields_of_message}
-use Rattle.mesh_wire.specs.Answers.{Sums}
-use Rattle.mesh_wire.specs.Tc.{TcIs}
-use Rattle.mesh_wire.specs.TcRules.{BreaksTc}
-use Rattle.mesh_wire.specs.Summaries.{tc_summary_of}
+use Rattle.mesh_wire.proofs.Common.{refl, fields_of_message, Sums, TcIs, BreaksTc, tc_summary_of}
 use Rattle.mesh_wire.proofs.Counted.{one_sum}
 use Rattle.mesh_wire.proofs.HelloRead.{gives_of, refuses_of}
 use Rattle.mesh_wire.proofs.OneTc.{one_tc}

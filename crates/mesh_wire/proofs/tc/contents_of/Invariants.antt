@@ -1,7 +1,4 @@
-use Rattle.std.proofs.Common.{◌≡◌, ◌++◌}
-use Rattle.std.specs.Prelude.{drop, map}
-use Rattle.mesh_tlv.specs.Fields.{fields}
-use Rattle.mesh_wire.specs.TcHeading.{contents_in}
+use Rattle.mesh_wire.proofs.Common.{◌≡◌, ◌++◌, drop, map, fields, contents_in}
 use Rattle.mesh_wire.proofs.Values.{front}
 use Rattle.mesh_wire.proofs.tc.contents_of.Given as goal
 

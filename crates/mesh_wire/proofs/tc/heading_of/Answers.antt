@@ -1,11 +1,4 @@
-use Rattle.std.proofs.Common.{◌≡◌, ℕ, subst}
-use Rattle.std.specs.Prelude.{Option, Some}
-use Rattle.mesh_atoms.specs.declared.addr.Addr4.{Addr4}
-use Rattle.mesh_atoms.proofs.Options.{none_not}
-use Rattle.mesh_packet.specs.Fields.{MessageFields, fields_of_message}
-use Rattle.mesh_wire.specs.Hello.{OriginatorIs}
-use Rattle.mesh_wire.specs.TcRules.{BreaksTc, AddressWidth, NoOriginator, NoSequence, NoValidity, WrongInterval, Content}
-use Rattle.mesh_wire.specs.Times.{ValidityIs, IntervalIs}
+use Rattle.mesh_wire.proofs.Common.{◌≡◌, ℕ, subst, Option, Some, Addr4, none_not, MessageFields, fields_of_message, OriginatorIs, BreaksTc, AddressWidth, NoOriginator, NoSequence, NoValidity, WrongInterval, Content, ValidityIs, IntervalIs}
 use Rattle.mesh_wire.proofs.InOrder.{NoneBelow, first_at}
 use Rattle.mesh_wire.proofs.TcHeading.{first_number, past_width, past_header, past_validity, past_interval, no_originator, an_originator}
 use Rattle.mesh_wire.proofs.tc.heading_of.Goals as goal

@@ -1,6 +1,4 @@
-use Rattle.mesh_packet.specs.Fields.{fields_of_message}
-use Rattle.mesh_wire.specs.Tc.{TcIs}
-use Rattle.mesh_wire.specs.TcRules.{BreaksTc}
+use Rattle.mesh_wire.proofs.Common.{fields_of_message, TcIs, BreaksTc}
 use Rattle.mesh_wire.proofs.HelloRead.{gives_of, refuses_of}
 use Rattle.mesh_wire.proofs.OneTc.{one_tc}
 use Rattle.mesh_wire.proofs.TcWhole.{types_whole}

@@ -1,7 +1,4 @@
-use Rattle.std.proofs.Common.{◌≡◌, ℕ, List, ◌++◌}
-use Rattle.std.specs.Prelude.{drop, map}
-use Rattle.mesh_tlv.specs.Fields.{fields}
-use Rattle.mesh_wire.specs.Values.{values_in}
+use Rattle.mesh_wire.proofs.Common.{◌≡◌, ℕ, List, ◌++◌, drop, map, fields, values_in}
 use Rattle.mesh_wire.proofs.Values.{front}
 use Rattle.mesh_wire.proofs.times.values_of.Given as goal
 use denote.Ref.{Bor}

@@ -1,8 +1,4 @@
-use Rattle.std.proofs.Common.{ℕ, List, ◌<◌, subst, rules}
-use Rattle.std.specs.Prelude.{slice_index}
-use Rattle.mesh_packet.specs.Fields.{fields_of_message}
-use Rattle.mesh_packet.specs.Least.{LeastForm}
-use Rattle.mesh_wire.specs.Writes.{alone}
+use Rattle.mesh_wire.proofs.Common.{ℕ, List, ◌<◌, subst, rules, slice_index, fields_of_message, LeastForm, alone}
 use Rattle.mesh_wire.proofs.LeastAlone.{sole_message}
 use Rattle.mesh_wire.proofs.write.alone.Goals as goal
 

@@ -1,6 +1,4 @@
-use Rattle.std.proofs.Common.{ℕ, ◌≤◌, sym, ap, subst, ◌∙◌}
-use Rattle.mesh_atoms.specs.Codes.Codes.{time_value, IsSentCode}
-use Rattle.mesh_atoms.proofs.CodesLemmas.CodeLaws.{time_again}
+use Rattle.mesh_wire.proofs.Common.{ℕ, ◌≤◌, sym, ap, subst, ◌∙◌, time_value, IsSentCode, time_again}
 use Rattle.mesh_wire.proofs.write.code_of.Goals as goal
 
 pub returns : goal.returns

@@ -1,9 +1,4 @@
-use Rattle.std.proofs.Common.{refl, ap, subst, ◌∙◌, List, map, Bool}
-use Rattle.std.specs.Prelude.{take, slice_range}
-use Rattle.mesh_packet.specs.Fields.{fields_of_block}
-use Rattle.mesh_wire.specs.declared.lines.AddressRecord.{AddressRecord}
-use Rattle.mesh_wire.specs.Drafts.{HasHelloValues, heading_of}
-use Rattle.mesh_wire.specs.Runs.{AreBlocks}
+use Rattle.mesh_wire.proofs.Common.{refl, ap, subst, ◌∙◌, List, map, Bool, take, slice_range, fields_of_block, AddressRecord, HasHelloValues, heading_of, AreBlocks}
 use Rattle.mesh_wire.proofs.write.hello_message.Goals as goal
 
 pub returns : goal.returns

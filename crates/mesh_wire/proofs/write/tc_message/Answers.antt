@@ -1,10 +1,4 @@
-use Rattle.std.proofs.Common.{◌≡◌, refl, sym, ap, subst, ◌∙◌, List, ℕ, map, Bool, cond, Some}
-use Rattle.std.specs.Option.{is_some}
-use Rattle.std.specs.Prelude.{take}
-use Rattle.mesh_packet.specs.Fields.{fields_of_block}
-use Rattle.mesh_wire.specs.declared.lines.AddressRecord.{AddressRecord}
-use Rattle.mesh_wire.specs.Drafts.{HasTcValues, heading_of}
-use Rattle.mesh_wire.specs.Runs.{AreBlocks}
+use Rattle.mesh_wire.proofs.Common.{◌≡◌, refl, sym, ap, subst, ◌∙◌, List, ℕ, map, Bool, cond, Some, is_some, take, fields_of_block, AddressRecord, HasTcValues, heading_of, AreBlocks}
 use Rattle.mesh_wire.proofs.write.tc_message.Goals.{then-tc, else-tc}
 use Rattle.mesh_wire.proofs.write.tc_message.Goals as goal
 

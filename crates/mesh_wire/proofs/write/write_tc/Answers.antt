@@ -1,8 +1,4 @@
-use Rattle.std.proofs.Common.{List, ℕ}
-use Rattle.std.proofs.lemmas.Result.{IfOk-weaker}
-use Rattle.mesh_packet.specs.Fields.{fields_of_message}
-use Rattle.mesh_packet.specs.Least.{LeastForm}
-use Rattle.mesh_wire.specs.Writes.{IsSoleMessage, WritesTc, WritesLeastTc, alone}
+use Rattle.mesh_wire.proofs.Common.{List, ℕ, IfOk-weaker, fields_of_message, LeastForm, IsSoleMessage, WritesTc, WritesLeastTc, alone}
 use Rattle.mesh_wire.proofs.TcWritten.{fits, encodable, written, written_least, back}
 use Rattle.mesh_wire.proofs.write.write_tc.Goals as goal
 

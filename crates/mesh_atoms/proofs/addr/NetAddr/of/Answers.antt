@@ -1,6 +1,5 @@
 -- A multiple of the network's size has no remainder by it.
-use Rattle.std.proofs.Common.{◌/◌}
-use Rattle.std.proofs.Math.Nat.{mul-mod_left}
+use Rattle.mesh_atoms.proofs.Common.{◌/◌, mul-mod_left}
 use Rattle.mesh_atoms.proofs.addr.NetAddr.of.Goals as goal
 
 pub invariant_of-result : goal.invariant_of-result

@@ -1,4 +1,4 @@
-use Rattle.std.proofs.Common.{ℕ, ◌*◌, ◌^◌, ◌<◌}
+use Rattle.mesh_atoms.proofs.Common.{ℕ, ◌*◌, ◌^◌, ◌<◌}
 use Rattle.mesh_atoms.proofs.codes.codes.exponent_for.Given as goal
 
 abbrev pub invariant-loop-exponent : goal.invariant-loop-exponent

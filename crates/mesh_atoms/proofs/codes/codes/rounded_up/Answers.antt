@@ -1,7 +1,5 @@
 -- The mantissa is the quotient rounded up, or the least there is.
-use Rattle.std.proofs.Common.{◌≡◌, ℕ, ◌+◌, ◌*◌, ◌%◌, ◌^◌, ◌/◌, min, ◌∙◌, ap, inl, inr, arith}
-use Rattle.std.proofs.lemmas.Nat.{pow_pos, one_shl}
-use Rattle.std.proofs.lemmas.Bool.{cases_lt}
+use Rattle.mesh_atoms.proofs.Common.{◌≡◌, ℕ, ◌+◌, ◌*◌, ◌%◌, ◌^◌, ◌/◌, min, ◌∙◌, ap, inl, inr, arith, pow_pos, one_shl, cases_lt}
 use Rattle.mesh_atoms.proofs.CodesLemmas.CodeLaws.{ceil_reaches, ceil_least, rounded_least}
 use Rattle.mesh_atoms.proofs.codes.codes.rounded_up.Goals as goal
 

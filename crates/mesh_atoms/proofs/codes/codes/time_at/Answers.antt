@@ -1,6 +1,5 @@
 -- Two octets further, the pair before did not reach.
-use Rattle.std.proofs.Common.{◌≡◌, ℕ, ◌+◌, ◌*◌, drop, subst, ◌∙◌, arith}
-use Rattle.mesh_atoms.specs.Codes.Codes.{time_at_distance}
+use Rattle.mesh_atoms.proofs.Common.{◌≡◌, ℕ, ◌+◌, ◌*◌, drop, subst, ◌∙◌, arith, time_at_distance}
 use Rattle.mesh_atoms.proofs.CodesLemmas.CodeLaws.{time_further}
 use Rattle.mesh_atoms.proofs.codes.codes.time_at.Goals as goal
 

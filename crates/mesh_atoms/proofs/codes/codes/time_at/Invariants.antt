@@ -1,5 +1,4 @@
-use Rattle.std.proofs.Common.{◌≡◌, ◌*◌, drop}
-use Rattle.mesh_atoms.specs.Codes.Codes.{time_at_distance}
+use Rattle.mesh_atoms.proofs.Common.{◌≡◌, ◌*◌, drop, time_at_distance}
 use Rattle.mesh_atoms.proofs.codes.codes.time_at.Given as goal
 
 abbrev pub invariant-loop-pair : goal.invariant-loop-pair

@@ -1,6 +1,5 @@
 -- Code 254 bounds the times, and rounding up stays at or below it.
-use Rattle.std.proofs.Common.{◌<◌, inl, inr, refl, arith}
-use Rattle.mesh_atoms.specs.Codes.Codes.{time_value}
+use Rattle.mesh_atoms.proofs.Common.{◌<◌, inl, inr, refl, arith, time_value}
 use Rattle.mesh_atoms.proofs.CodesLemmas.CodeLaws.{sent_most}
 use Rattle.mesh_atoms.proofs.codes.codes.time_code_at_least.Goals as goal
 

@@ -1,9 +1,4 @@
-use Rattle.std.proofs.Common.{◌≡◌, ◌<◌, sym, ◌∙◌, ap, arith, length, map, List}
-use Rattle.std.specs.Prelude.{Some, slice_index_or}
-use Rattle.std.proofs.lemmas.List.{length-map}
-use Rattle.std.proofs.lemmas.Option.{slice_get-get_or}
-use Rattle.mesh_atoms.specs.declared.addr.Addr4.{Addr4}
-use Rattle.mesh_atoms.specs.declared.settings.Interface.{Interface}
+use Rattle.mesh_atoms.proofs.Common.{◌≡◌, ◌<◌, sym, ◌∙◌, ap, arith, length, map, List, Some, slice_index_or, length-map, slice_get-get_or, Addr4, Interface}
 use Rattle.mesh_atoms.proofs.settings.RouterSettings.originator.Goals as goal
 
 pub returns-clause-is : goal.returns-clause-is

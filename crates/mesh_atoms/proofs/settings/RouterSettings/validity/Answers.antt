@@ -1,7 +1,4 @@
-use Rattle.std.proofs.Common.{◌≡◌, ◌++◌, ◌∷◌, [], List, ℕ, ap, sym, subst, ◌∙◌, arith}
-use Rattle.std.proofs.lemmas.List.{drop_all}
-use Rattle.mesh_atoms.specs.declared.settings.NearHold.{NearHold}
-use Rattle.mesh_atoms.specs.Validity.{IsTimeValue, Everywhere, IsValidity, Far}
+use Rattle.mesh_atoms.proofs.Common.{◌≡◌, ◌++◌, ◌∷◌, [], List, ℕ, ap, sym, subst, ◌∙◌, arith, drop_all, NearHold, IsTimeValue, Everywhere, IsValidity, Far}
 use Rattle.mesh_atoms.proofs.TimeValues.{next_size, next_sent, next_value}
 use Rattle.mesh_atoms.proofs.settings.RouterSettings.validity.Goals as goal
 

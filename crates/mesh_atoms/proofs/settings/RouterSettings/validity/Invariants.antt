@@ -1,5 +1,4 @@
-use Rattle.std.proofs.Common.{◌≡◌, ◌*◌, ◌++◌, ℕ, List, drop, length}
-use Rattle.mesh_atoms.specs.Validity.{IsTimeValue, IsValidity}
+use Rattle.mesh_atoms.proofs.Common.{◌≡◌, ◌*◌, ◌++◌, ℕ, List, drop, length, IsTimeValue, IsValidity}
 use Rattle.mesh_atoms.proofs.settings.RouterSettings.validity.Given as goal
 
 -- what stands is the front of such a value, whatever follows it

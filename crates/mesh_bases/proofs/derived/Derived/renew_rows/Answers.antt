@@ -1,6 +1,4 @@
-use Rattle.std.proofs.Common.{sym, subst, List}
-use Rattle.mesh_atoms.specs.declared.tc.TcRow.{TcRow}
-use Rattle.mesh_atoms.specs.Advertised.{AreTcRows}
+use Rattle.mesh_bases.proofs.Common.{sym, subst, List, TcRow, AreTcRows}
 use Rattle.mesh_bases.proofs.derived.Derived.renew_rows.Goals as goal
 
 pub returns-clause-rows : goal.returns-clause-rows

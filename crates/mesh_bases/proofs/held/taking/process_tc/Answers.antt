@@ -1,10 +1,4 @@
-use Rattle.std.proofs.Common.{subst, ap, List, length}
-use Rattle.mesh_atoms.specs.declared.settings.Times.{Times}
-use Rattle.mesh_atoms.specs.declared.settings.RouterSettings.{RouterSettings}
-use Rattle.mesh_atoms.specs.State.{Bases}
-use Rattle.mesh_flood.specs.Noting.{AfterNote}
-use Rattle.mesh_machine.specs.declared.frame.Frame.{Frame}
-use Rattle.mesh_machine.specs.Messages.{ConsidersForwarding, forwarding}
+use Rattle.mesh_bases.proofs.Common.{subst, ap, List, length, Times, RouterSettings, Bases, AfterNote, Frame, ConsidersForwarding, forwarding}
 use Rattle.mesh_bases.proofs.HeldLemmas.Fates.{tc_processed, done_does, spelled_hop}
 use Rattle.mesh_bases.proofs.held.taking.process_tc.Goals as goal
 

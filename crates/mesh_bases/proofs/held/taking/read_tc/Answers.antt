@@ -1,6 +1,5 @@
-use Rattle.std.proofs.Common.{refl}
+use Rattle.mesh_bases.proofs.Common.{refl, Taken_in, Passed_by}
 use Rattle.mesh_topo.specs.Answers.{answer_of}
-use Rattle.mesh_bases.specs.Held.Reading.{Taken_in, Passed_by}
 use Rattle.mesh_bases.proofs.HeldLemmas.Quiet.{advertised_equal}
 use Rattle.mesh_bases.proofs.held.taking.read_tc.Goals as goal
 

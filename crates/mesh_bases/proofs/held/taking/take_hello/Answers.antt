@@ -1,4 +1,4 @@
-use Rattle.std.proofs.Common.{arith, refl}
+use Rattle.mesh_bases.proofs.Common.{arith, refl}
 use Rattle.mesh_bases.proofs.HeldLemmas.Fates.{hello_taken}
 use Rattle.mesh_bases.proofs.HeldLemmas.Quiet.{not_true}
 use Rattle.mesh_bases.proofs.held.taking.take_hello.Goals as goal

@@ -1,11 +1,4 @@
-use Rattle.std.proofs.Common.{arith, refl, sym, subst, ap, [], List, length, false}
-use Rattle.std.proofs.lemmas.List.{append-nil}
-use Rattle.mesh_atoms.specs.declared.settings.Times.{Times}
-use Rattle.mesh_atoms.specs.declared.settings.RouterSettings.{RouterSettings}
-use Rattle.mesh_atoms.specs.State.{Bases}
-use Rattle.mesh_flood.specs.Noting.{AfterNote}
-use Rattle.mesh_machine.specs.declared.frame.Frame.{Frame}
-use Rattle.mesh_machine.specs.Messages.{ConsidersForwarding, forwarding, Other_left}
+use Rattle.mesh_bases.proofs.Common.{arith, refl, sym, subst, ap, [], List, length, false, append-nil, Times, RouterSettings, Bases, AfterNote, Frame, ConsidersForwarding, forwarding, Other_left}
 use Rattle.mesh_bases.proofs.HeldLemmas.Fates.{other_taken, spelled_hop}
 use Rattle.mesh_bases.proofs.held.taking.take_other.Goals as goal
 

@@ -1,4 +1,4 @@
-use Rattle.mesh_packet.specs.Fields.{fields_of_packet}
+use Rattle.mesh_bases.proofs.Common.{fields_of_packet}
 use Rattle.mesh_bases.proofs.reading.content.messages_of.Goals as goal
 
 pub returns : goal.returns

@@ -1,4 +1,4 @@
-use Rattle.std.proofs.Common.{arith}
+use Rattle.mesh_bases.proofs.Common.{arith}
 use Rattle.mesh_bases.proofs.reading.content.read_content.Goals as goal
 use Rattle.mesh_bases.proofs.ReadingLemmas.Faults.{if_ok_always}
 

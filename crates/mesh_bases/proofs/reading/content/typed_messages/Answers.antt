@@ -1,11 +1,5 @@
-use Rattle.std.proofs.Common.{◌≡◌, List, Option, Some, arith, ap, map, subst, ◌∙◌}
-use Rattle.std.specs.Prelude.{option_map, slice_get}
-use Rattle.std.proofs.lemmas.List.{length-map, take_all}
-use Rattle.std.proofs.lemmas.Option.{slice_get-map}
-use Rattle.mesh_machine.proofs.hello.Collect.{item_at, taken_more}
+use Rattle.mesh_bases.proofs.Common.{◌≡◌, List, Option, Some, arith, ap, map, subst, ◌∙◌, option_map, slice_get, length-map, take_all, slice_get-map, item_at, taken_more, MessageFields, fields_of_message, AreReadAs}
 use Rattle.mesh_packet.specs.declared.packet.Message.{Message}
-use Rattle.mesh_packet.specs.Fields.{MessageFields, fields_of_message}
-use Rattle.mesh_bases.specs.Reading.Content.{AreReadAs}
 use Rattle.mesh_bases.proofs.ReadingLemmas.Messages.{read_snoc}
 use Rattle.mesh_bases.proofs.reading.content.typed_messages.Goals as goal
 

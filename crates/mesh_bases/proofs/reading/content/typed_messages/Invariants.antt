@@ -1,6 +1,4 @@
-use Rattle.std.proofs.Common.{map, take}
-use Rattle.mesh_packet.specs.Fields.{fields_of_message}
-use Rattle.mesh_bases.specs.Reading.Content.{AreReadAs}
+use Rattle.mesh_bases.proofs.Common.{map, take, fields_of_message, AreReadAs}
 use Rattle.mesh_bases.proofs.reading.content.typed_messages.Given as goal
 
 abbrev pub invariant-loop-i : goal.invariant-loop-i

@@ -1,5 +1,4 @@
-use Rattle.std.proofs.Common.{refl, sym, None}
-use Rattle.mesh_wire.specs.TcRules.{AddressWidth}
+use Rattle.mesh_bases.proofs.Common.{refl, sym, None, AddressWidth}
 use Rattle.mesh_machine.proofs.Originators.{not_other}
 use Rattle.mesh_bases.proofs.reading.heading.heading_of_tc.Goals as goal
 

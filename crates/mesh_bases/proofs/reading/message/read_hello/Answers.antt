@@ -1,4 +1,4 @@
-use Rattle.mesh_bases.specs.Reading.Message.{Hello_breaks}
+use Rattle.mesh_bases.proofs.Common.{Hello_breaks}
 use Rattle.mesh_bases.proofs.ReadingLemmas.Faults.{if_broken_more}
 use Rattle.mesh_bases.proofs.reading.message.read_hello.Goals as goal
 

@@ -1,4 +1,4 @@
-use Rattle.mesh_bases.specs.Reading.Message.{Tc_breaks}
+use Rattle.mesh_bases.proofs.Common.{Tc_breaks}
 use Rattle.mesh_bases.proofs.ReadingLemmas.Faults.{if_broken_more}
 use Rattle.mesh_bases.proofs.reading.message.read_tc.Goals as goal
 

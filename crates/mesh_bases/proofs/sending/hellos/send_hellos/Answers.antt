@@ -1,10 +1,4 @@
-use Rattle.std.proofs.Common.{◌≡◌, ◌++◌, ◌∷◌, [], ◌+◌, ℕ, List, length, refl, sym, ap, subst, arith, ◌∙◌}
-use Rattle.std.proofs.lemmas.List.{append-nil, append_assoc, length_push}
-use Rattle.std.proofs.lemmas.Option.{none-some}
-use Rattle.mesh_atoms.specs.declared.settings.RouterSettings.{RouterSettings}
-use Rattle.mesh_atoms.specs.Hello.{IsHelloNow}
-use Rattle.mesh_machine.specs.declared.frame.Frame.{Frame}
-use Rattle.mesh_machine.specs.Sending.{IsHelloFrame, Hellos_early, Hellos_due}
+use Rattle.mesh_bases.proofs.Common.{◌≡◌, ◌++◌, ◌∷◌, [], ◌+◌, ℕ, List, length, refl, sym, ap, subst, arith, ◌∙◌, append-nil, append_assoc, length_push, none-some, RouterSettings, IsHelloNow, Frame, IsHelloFrame, Hellos_early, Hellos_due}
 use Rattle.mesh_bases.proofs.SendingLemmas.Written.{one_frame_more}
 use Rattle.mesh_bases.proofs.sending.hellos.send_hellos.Goals as goal
 

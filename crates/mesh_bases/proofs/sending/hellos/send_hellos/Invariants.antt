@@ -1,8 +1,4 @@
-use Rattle.std.proofs.Common.{◌≡◌, ◌++◌, ℕ, List, length, Some}
-use Rattle.std.specs.Prelude.{slice_get}
-use Rattle.mesh_atoms.specs.State.{State}
-use Rattle.mesh_machine.specs.declared.frame.Frame.{Frame}
-use Rattle.mesh_machine.specs.Sending.{IsHelloFrame}
+use Rattle.mesh_bases.proofs.Common.{◌≡◌, ◌++◌, ℕ, List, length, Some, slice_get, State, Frame, IsHelloFrame}
 use Rattle.mesh_bases.proofs.sending.hellos.send_hellos.Given as goal
 
 abbrev pub invariant-loop-iface : goal.invariant-loop-iface

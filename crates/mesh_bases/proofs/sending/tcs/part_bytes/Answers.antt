@@ -1,14 +1,7 @@
-use Rattle.std.proofs.Common.{◌≡◌, List, length, sym, ap, subst, arith, ◌∙◌}
-use Rattle.std.specs.List.{AllPairs}
-use Rattle.mesh_atoms.specs.declared.tc.TcRow.{TcRow}
-use Rattle.mesh_atoms.specs.Nodes.{IsBefore}
-use Rattle.mesh_atoms.specs.Writable.{AreOneType, HaveTypeWhole}
-use Rattle.mesh_topo.specs.Advertised.Spans.{part_of}
-use Rattle.mesh_machine.specs.Sending.{IsTcOfRows}
+use Rattle.mesh_bases.proofs.Common.{◌≡◌, List, length, sym, ap, subst, arith, ◌∙◌, AllPairs, TcRow, IsBefore, AreOneType, HaveTypeWhole, part_of, IsTcOfRows, if_ok_weaker}
 use Rattle.mesh_bases.proofs.SendingLemmas.PartRows.{part_length, part_ordered, part_one_type, part_whole}
 use Rattle.mesh_bases.proofs.SendingLemmas.Written.{rows_one_type, rows_whole}
 use Rattle.mesh_bases.proofs.sending.tcs.part_bytes.Goals as goal
-use Rattle.mesh_atoms.proofs.Options.{if_ok_weaker}
 
 pub rows_of-rows-requires : goal.rows_of-rows-requires
 rows_of-rows-requires c = let within = c.requires.within in let same = ap (λ (rows : List TcRow). length rows) c.as_slice.ensures in omega (arith, within, same)

@@ -1,10 +1,5 @@
-use Rattle.std.proofs.Common.{◌≡◌, ℕ, List, length, map, sym, subst}
-use Rattle.std.proofs.lemmas.List.{length-map}
-use Rattle.mesh_atoms.specs.declared.tc.TcRow.{TcRow}
-use Rattle.mesh_atoms.specs.Advertised.{AreParts}
+use Rattle.mesh_bases.proofs.Common.{◌≡◌, ℕ, List, length, map, sym, subst, length-map, TcRow, AreParts, PartSpan, part_of}
 use Rattle.mesh_atoms.specs.Validity.{IsValidity}
-use Rattle.mesh_topo.specs.declared.advertised.spans.PartSpan.{PartSpan}
-use Rattle.mesh_topo.specs.Advertised.Spans.{part_of}
 use Rattle.mesh_bases.proofs.SendingLemmas.PartRows.{runs_within, has_before}
 use Rattle.mesh_bases.proofs.sending.tcs.send_parts.Goals as goal
 

@@ -1,16 +1,5 @@
-use Rattle.std.proofs.Common.{◌≡◌, ◌+◌, ◌%◌, ◌++◌, ◌∷◌, [], ℕ, List, length, map, drop, get_or, refl, sym, ap, subst, arith, ◌∙◌}
-use Rattle.std.specs.Prelude.{Bool, nat_eq}
-use Rattle.std.proofs.lemmas.List.{append-nil, append_assoc, length-map}
-use Rattle.std.proofs.lemmas.Option.{slice_get-get_or}
+use Rattle.mesh_bases.proofs.Common.{◌≡◌, ◌+◌, ◌%◌, ◌++◌, ◌∷◌, [], ℕ, List, length, map, drop, get_or, refl, sym, ap, subst, arith, ◌∙◌, Bool, nat_eq, append-nil, append_assoc, length-map, slice_get-get_or, RouterSettings, TcRow, PartSpan, part_of, Derived, Frame, on_each, SendsParts, No_part, First_part}
 use Rattle.std.proofs.Math.ListN.{drop_of_length-le}
-use Rattle.mesh_atoms.specs.declared.settings.RouterSettings.{RouterSettings}
-use Rattle.mesh_atoms.specs.declared.tc.TcRow.{TcRow}
-use Rattle.mesh_topo.specs.declared.advertised.spans.PartSpan.{PartSpan}
-use Rattle.mesh_topo.specs.Advertised.Spans.{part_of}
-use Rattle.mesh_bases.specs.declared.derived.Derived.{Derived}
-use Rattle.mesh_machine.specs.declared.frame.Frame.{Frame}
-use Rattle.mesh_machine.specs.Frames.{on_each}
-use Rattle.mesh_machine.specs.Sending.{SendsParts, No_part, First_part}
 use Rattle.mesh_bases.proofs.SendingLemmas.PartRows.{parts_behind, next_number}
 use Rattle.mesh_bases.proofs.sending.tcs.send_spans.Goals as goal
 

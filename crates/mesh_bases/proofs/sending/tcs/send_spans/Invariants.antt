@@ -1,10 +1,4 @@
-use Rattle.std.proofs.Common.{◌≡◌, ◌+◌, ◌%◌, ◌++◌, List, length, map, drop}
-use Rattle.std.specs.Prelude.{nat_eq}
-use Rattle.mesh_atoms.specs.State.{State}
-use Rattle.mesh_topo.specs.Advertised.Spans.{part_of}
-use Rattle.mesh_bases.specs.Sending.Sent.{HasRowsOf}
-use Rattle.mesh_machine.specs.declared.frame.Frame.{Frame}
-use Rattle.mesh_machine.specs.Sending.{SendsParts}
+use Rattle.mesh_bases.proofs.Common.{◌≡◌, ◌+◌, ◌%◌, ◌++◌, List, length, map, drop, nat_eq, State, part_of, HasRowsOf, Frame, SendsParts}
 use Rattle.mesh_bases.proofs.sending.tcs.send_spans.Given as goal
 
 abbrev pub invariant-loop-i : goal.invariant-loop-i

@@ -1,13 +1,5 @@
 use Rattle.std.proofs.lemmas.Result.{on_ok_weaker}
-use Rattle.std.proofs.Common.{◌≡◌, ℕ, ◌+◌, ◌%◌, List, length, [], true, inl, inr, sym, ap, subst, arith, ◌∙◌}
-use Rattle.std.specs.Prelude.{nat_eq}
-use Rattle.std.proofs.lemmas.List.{append-nil}
-use Rattle.std.proofs.lemmas.Bool.{cases_Bool}
-use Rattle.mesh_atoms.specs.declared.settings.RouterSettings.{RouterSettings}
-use Rattle.mesh_atoms.specs.declared.tc.TcRow.{TcRow}
-use Rattle.mesh_bases.specs.declared.derived.Derived.{Derived}
-use Rattle.mesh_bases.specs.Sending.Sent.{HasRowsOf}
-use Rattle.mesh_machine.specs.Sending.{SendsParts, Tcs_early, Tcs_silent, Tcs_due}
+use Rattle.mesh_bases.proofs.Common.{◌≡◌, ℕ, ◌+◌, ◌%◌, List, length, [], true, inl, inr, sym, ap, subst, arith, ◌∙◌, nat_eq, append-nil, cases_Bool, RouterSettings, TcRow, Derived, HasRowsOf, SendsParts, Tcs_early, Tcs_silent, Tcs_due}
 use Rattle.mesh_bases.proofs.SendingLemmas.PartRows.{has_before}
 use Rattle.mesh_bases.proofs.sending.tcs.send_tcs.Goals as goal
 

@@ -1,9 +1,4 @@
-use Rattle.std.proofs.Common.{List, refl, sym, subst, ◌∙◌}
-use Rattle.std.specs.Prelude.{AllPairs}
-use Rattle.mesh_atoms.specs.declared.settings.RouterSettings.{RouterSettings}
-use Rattle.mesh_atoms.specs.declared.tc.TcRow.{TcRow}
-use Rattle.mesh_atoms.specs.Nodes.{IsBefore}
-use Rattle.mesh_atoms.specs.State.{IsOriginator}
+use Rattle.mesh_bases.proofs.Common.{List, refl, sym, subst, ◌∙◌, AllPairs, RouterSettings, TcRow, IsBefore, IsOriginator}
 use Rattle.mesh_bases.proofs.SendingLemmas.Written.{sent_if_some}
 use Rattle.mesh_bases.proofs.sending.tcs.tc_of_rows.Goals as goal
 

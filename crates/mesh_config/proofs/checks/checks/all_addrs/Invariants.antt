@@ -1,6 +1,4 @@
-use Rattle.std.proofs.Common.{◌≡◌, take}
-use Rattle.std.specs.List.{flat_map}
-use Rattle.mesh_config.specs.Checks.Compared.{router_addrs}
+use Rattle.mesh_config.proofs.Common.{◌≡◌, take, flat_map, router_addrs}
 use Rattle.mesh_config.proofs.checks.checks.all_addrs.Given as goal
 
 abbrev pub invariant-loop-router : goal.invariant-loop-router

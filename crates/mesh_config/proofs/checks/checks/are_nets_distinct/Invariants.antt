@@ -1,7 +1,4 @@
-use Rattle.std.proofs.Common.{◌≡◌, drop}
-use Rattle.std.specs.List.{list_all}
-use Rattle.mesh_atoms.specs.Settings.{are_distinct}
-use Rattle.mesh_config.specs.Checks.Compared.{same_attached}
+use Rattle.mesh_config.proofs.Common.{◌≡◌, drop, list_all, are_distinct, same_attached}
 use Rattle.mesh_config.proofs.checks.checks.are_nets_distinct.Given as goal
 
 abbrev pub invariant-loop-router : goal.invariant-loop-router

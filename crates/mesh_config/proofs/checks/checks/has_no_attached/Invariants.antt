@@ -1,7 +1,4 @@
-use Rattle.std.proofs.Common.{◌≡◌, drop, not}
-use Rattle.std.specs.List.{list_all, list_any}
-use Rattle.mesh_atoms.specs.Settings.{is_host}
-use Rattle.mesh_config.specs.Checks.Compared.{attaches_no_host}
+use Rattle.mesh_config.proofs.Common.{◌≡◌, drop, not, list_all, list_any, is_host, attaches_no_host}
 use Rattle.mesh_config.proofs.checks.checks.has_no_attached.Given as goal
 
 abbrev pub invariant-loop-attached : goal.invariant-loop-attached

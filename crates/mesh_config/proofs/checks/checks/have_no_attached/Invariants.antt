@@ -1,6 +1,4 @@
-use Rattle.std.proofs.Common.{◌≡◌, drop}
-use Rattle.std.specs.List.{list_all}
-use Rattle.mesh_config.specs.Checks.Compared.{attaches_no_host}
+use Rattle.mesh_config.proofs.Common.{◌≡◌, drop, list_all, attaches_no_host}
 use Rattle.mesh_config.proofs.checks.checks.have_no_attached.Given as goal
 
 abbrev pub invariant-loop-router : goal.invariant-loop-router

@@ -1,6 +1,4 @@
-use Rattle.std.proofs.Common.{◌≡◌, drop}
-use Rattle.std.specs.List.{list_any}
-use Rattle.mesh_atoms.specs.Settings.{is_host}
+use Rattle.mesh_config.proofs.Common.{◌≡◌, drop, list_any, is_host}
 use Rattle.mesh_config.proofs.checks.checks.is_host_among.Given as goal
 
 abbrev pub invariant-loop-addr : goal.invariant-loop-addr

@@ -1,6 +1,4 @@
-use Rattle.std.proofs.Common.{sym, ap, subst, Option}
-use Rattle.mesh_config.specs.Keys.Values.{SaysNothing}
-use Rattle.mesh_config.specs.Keys.Faults.{Fault, ValueOrFault, first}
+use Rattle.mesh_config.proofs.Common.{sym, ap, subst, Option, SaysNothing, Fault, ValueOrFault, first}
 use Rattle.mesh_config.proofs.ChecksLemmas.Links.{duplicates_same}
 use Rattle.mesh_config.proofs.checks.checks.no_duplicates.Goals as goal
 

@@ -1,4 +1,4 @@
-use Rattle.std.proofs.Common.{◌≡◌, ◌++◌, take}
+use Rattle.mesh_config.proofs.Common.{◌≡◌, ◌++◌, take}
 use Rattle.mesh_config.proofs.checks.checks.put_addrs.Given as goal
 
 abbrev pub invariant-loop-addr : goal.invariant-loop-addr

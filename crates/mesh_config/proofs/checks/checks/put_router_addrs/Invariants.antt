@@ -1,5 +1,4 @@
-use Rattle.std.proofs.Common.{◌≡◌, ◌++◌, take}
-use Rattle.std.specs.List.{flat_map}
+use Rattle.mesh_config.proofs.Common.{◌≡◌, ◌++◌, take, flat_map}
 use Rattle.mesh_config.proofs.checks.checks.put_router_addrs.Given as goal
 
 abbrev pub invariant-loop-interface : goal.invariant-loop-interface

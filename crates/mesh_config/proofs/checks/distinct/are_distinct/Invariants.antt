@@ -1,5 +1,4 @@
-use Rattle.std.proofs.Common.{◌≡◌, drop}
-use Rattle.mesh_atoms.specs.Settings.{are_distinct}
+use Rattle.mesh_config.proofs.Common.{◌≡◌, drop, are_distinct}
 use Rattle.mesh_config.proofs.checks.distinct.are_distinct.Given as goal
 
 abbrev pub invariant-loop-at : goal.invariant-loop-at

@@ -1,5 +1,4 @@
-use Rattle.std.proofs.Common.{◌≡◌, drop}
-use Rattle.std.specs.List.{list_any}
+use Rattle.mesh_config.proofs.Common.{◌≡◌, drop, list_any}
 use Rattle.mesh_config.proofs.checks.distinct.is_among.Given as goal
 
 abbrev pub invariant-loop-other : goal.invariant-loop-other

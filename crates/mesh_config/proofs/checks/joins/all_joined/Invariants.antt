@@ -1,8 +1,4 @@
-use Rattle.std.proofs.Common.{◌≡◌, [], drop, take, map, length}
-use Rattle.mesh_config.specs.Checks.Checks.{joins}
-use Rattle.mesh_config.specs.Checks.Compared.{stated_identifiers, arc_places, ends_of}
-use Rattle.mesh_config.specs.Stated.Scenario.{stated_arc_fields}
-use Rattle.mesh_config.specs.Checks.Compared.{arc_fields}
+use Rattle.mesh_config.proofs.Common.{◌≡◌, [], drop, take, map, length, joins, stated_identifiers, arc_places, ends_of, stated_arc_fields, arc_fields}
 use Rattle.mesh_config.proofs.ChecksLemmas.JoinLaws.{after_front}
 use Rattle.mesh_config.proofs.checks.joins.all_joined.Given as goal
 

@@ -1,4 +1,4 @@
-use Rattle.std.proofs.Common.{◌∙◌, sym}
+use Rattle.mesh_config.proofs.Common.{◌∙◌, sym}
 use Rattle.mesh_config.proofs.ChecksLemmas.Links.{place_same}
 use Rattle.mesh_config.proofs.checks.joins.find_place.Goals as goal
 

@@ -1,5 +1,4 @@
-use Rattle.std.proofs.lemmas.Iterator.Adapters.{position_from-zero}
-use Rattle.mesh_atoms.specs.Settings.{name_eq}
+use Rattle.mesh_config.proofs.Common.{position_from-zero, name_eq}
 use Rattle.mesh_config.proofs.checks.joins.iface_named.Goals as goal
 
 pub loop-at-init : goal.loop-at-init

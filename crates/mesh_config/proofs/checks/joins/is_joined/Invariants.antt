@@ -1,8 +1,4 @@
-use Rattle.std.proofs.Common.{◌≡◌, drop, map}
-use Rattle.std.specs.List.{list_any}
-use Rattle.mesh_atoms.specs.Settings.{ends_eq}
-use Rattle.mesh_config.specs.Checks.Checks.{ends}
-use Rattle.mesh_config.specs.Checks.Compared.{ends_of}
+use Rattle.mesh_config.proofs.Common.{◌≡◌, drop, map, list_any, ends_eq, ends, ends_of}
 use Rattle.mesh_config.proofs.checks.joins.is_joined.Given as goal
 
 abbrev pub invariant-loop-arc : goal.invariant-loop-arc

@@ -1,6 +1,4 @@
-use Rattle.std.proofs.Common.{◌≡◌, drop, position}
-use Rattle.std.specs.List.{position_from}
-use Rattle.mesh_atoms.specs.Settings.{name_eq}
+use Rattle.mesh_config.proofs.Common.{◌≡◌, drop, position, position_from, name_eq}
 use Rattle.mesh_config.proofs.checks.joins.router_named.Given as goal
 
 abbrev pub invariant-loop-at : goal.invariant-loop-at

@@ -1,7 +1,4 @@
-use Rattle.std.proofs.Common.{◌∙◌, ℕ, List, length, position, ap, refl, sym}
-use Rattle.std.proofs.lemmas.Option.{slice_get_read}
-use Rattle.mesh_atoms.specs.Settings.{name_eq}
-use Rattle.mesh_config.specs.declared.stated.stated.StatedInterface.{StatedInterface}
+use Rattle.mesh_config.proofs.Common.{◌∙◌, ℕ, List, length, position, ap, refl, sym, slice_get_read, name_eq, StatedInterface}
 use Rattle.mesh_config.proofs.ChecksLemmas.Links.{place_found}
 use Rattle.mesh_config.proofs.checks.joins.stated_place.Goals as goal
 

@@ -1,9 +1,4 @@
-use Rattle.std.proofs.Common.{◌≡◌, drop, map, length, true}
-use Rattle.std.specs.List.{list_all}
-use Rattle.toml.specs.View.{view}
-use Rattle.mesh_atoms.specs.Settings.{is_addressed}
-use Rattle.mesh_config.specs.Keys.Values.{all_of, text}
-use Rattle.mesh_atoms.specs.Literals.{address_of}
+use Rattle.mesh_config.proofs.Common.{◌≡◌, drop, map, length, true, list_all, view, is_addressed, all_of, text, address_of}
 use Rattle.mesh_config.proofs.KeysLemmas.Elements.{with_front}
 use Rattle.mesh_config.proofs.keys.arrays.all_addresses.Given as goal
 

@@ -1,11 +1,4 @@
-use Rattle.std.proofs.Common.{List, ℕ, ◌∷◌, [], ◌+◌, ◌∙◌, map, drop, sym, ap}
-use Rattle.std.proofs.lemmas.List.{map-append}
-use Rattle.toml.specs.View.{view}
-use Rattle.mesh_atoms.specs.declared.addr.Addr4.{Addr4}
-use Rattle.mesh_atoms.specs.Literals.{endpoint_of}
-use Rattle.mesh_atoms.proofs.Lists.{length_pushed}
-use Rattle.mesh_config.specs.Keys.Ports.{port_of}
-use Rattle.mesh_config.specs.Keys.Values.{all_of, text}
+use Rattle.mesh_config.proofs.Common.{List, ℕ, ◌∷◌, [], ◌+◌, ◌∙◌, map, drop, sym, ap, map-append, view, Addr4, endpoint_of, length_pushed, port_of, all_of, text}
 use Rattle.mesh_config.proofs.KeysLemmas.Elements.{with_front, turned_more}
 use Rattle.mesh_config.proofs.keys.arrays.all_endpoints.Goals as goal
 

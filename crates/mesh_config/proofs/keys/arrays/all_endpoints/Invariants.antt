@@ -1,8 +1,4 @@
-use Rattle.std.proofs.Common.{◌≡◌, drop, map, length}
-use Rattle.toml.specs.View.{view}
-use Rattle.mesh_config.specs.Keys.Values.{all_of, text}
-use Rattle.mesh_atoms.specs.Literals.{endpoint_of}
-use Rattle.mesh_config.specs.Keys.Ports.{port_of}
+use Rattle.mesh_config.proofs.Common.{◌≡◌, drop, map, length, view, all_of, text, endpoint_of, port_of}
 use Rattle.mesh_config.proofs.KeysLemmas.Elements.{with_front}
 use Rattle.mesh_config.proofs.keys.arrays.all_endpoints.Given as goal
 

@@ -1,4 +1,4 @@
-use Rattle.toml.proofs.Views.{table_get}
+use Rattle.mesh_config.proofs.Common.{table_get}
 use Rattle.mesh_config.proofs.keys.values.found.Goals as goal
 
 pub returns : goal.returns

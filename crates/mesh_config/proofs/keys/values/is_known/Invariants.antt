@@ -1,6 +1,4 @@
-use Rattle.std.proofs.Common.{◌≡◌, drop}
-use Rattle.std.specs.List.{list_any}
-use Rattle.mesh_atoms.specs.Settings.{name_eq}
+use Rattle.mesh_config.proofs.Common.{◌≡◌, drop, list_any, name_eq}
 use Rattle.mesh_config.proofs.keys.values.is_known.Given as goal
 
 abbrev pub invariant-loop-other : goal.invariant-loop-other

@@ -1,9 +1,4 @@
-use Rattle.std.proofs.Common.{◌≡◌, ◌∙◌, Some, List, ℕ, Bool}
-use Rattle.std.specs.List.{list_any}
-use Rattle.toml.specs.View.{table_view}
-use Rattle.toml.proofs.Views.{Entry}
-use Rattle.mesh_atoms.specs.Settings.{name_eq}
-use Rattle.mesh_config.specs.Keys.Values.{first_unknown}
+use Rattle.mesh_config.proofs.Common.{◌≡◌, ◌∙◌, Some, List, ℕ, Bool, list_any, table_view, Entry, name_eq, first_unknown}
 use Rattle.mesh_config.proofs.KeysLemmas.Keys.{passes_known, finds_unknown}
 use Rattle.mesh_config.proofs.keys.values.known_keys.Goals as goal
 

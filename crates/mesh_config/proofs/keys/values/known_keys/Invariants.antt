@@ -1,8 +1,4 @@
-use Rattle.std.proofs.Common.{◌≡◌}
-use Rattle.toml.specs.View.{members_view, table_view}
-use Rattle.std.specs.List.{list_any}
-use Rattle.mesh_atoms.specs.Settings.{name_eq}
-use Rattle.mesh_config.specs.Keys.Values.{first_unknown}
+use Rattle.mesh_config.proofs.Common.{◌≡◌, members_view, table_view, list_any, name_eq, first_unknown}
 use Rattle.mesh_config.proofs.keys.values.known_keys.Given as goal
 
 abbrev pub invariant-loop-key : goal.invariant-loop-key

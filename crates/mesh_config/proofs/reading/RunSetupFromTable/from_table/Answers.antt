@@ -1,7 +1,4 @@
-use Rattle.std.proofs.Common.{Option, codes, refl, sym, ◌∙◌, subst}
-use Rattle.toml.specs.View.{table_view}
-use Rattle.mesh_config.specs.Keys.Faults.{Fault, FailsAt}
-use Rattle.mesh_config.specs.RunSettings.{senders_checked}
+use Rattle.mesh_config.proofs.Common.{Option, codes, refl, sym, ◌∙◌, subst, table_view, Fault, FailsAt, senders_checked}
 use Rattle.mesh_config.proofs.RunLaws.{same_count, sound_senders, last_passed, setup_same, setup_says}
 use Rattle.mesh_config.proofs.reading.RunSetupFromTable.from_table.Goals as goal
 

@@ -1,4 +1,4 @@
-use Rattle.toml.specs.View.{table_view}
+use Rattle.mesh_config.proofs.Common.{table_view}
 use Rattle.mesh_config.proofs.Told.{built_answers}
 use Rattle.mesh_config.proofs.reading.ScenarioFromTable.from_table.Goals as goal
 

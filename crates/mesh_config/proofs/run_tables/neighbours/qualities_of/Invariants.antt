@@ -1,4 +1,4 @@
-use Rattle.std.proofs.Common.{◌≡◌, take, map}
+use Rattle.mesh_config.proofs.Common.{◌≡◌, take, map}
 use Rattle.mesh_config.proofs.run_tables.neighbours.qualities_of.Given as goal
 
 abbrev pub invariant-loop-neighbour : goal.invariant-loop-neighbour

@@ -1,7 +1,4 @@
-use Rattle.std.proofs.Common.{◌∙◌, codes}
-use Rattle.mesh_atoms.proofs.Lists.{length_pushed}
-use Rattle.mesh_config.specs.Stated.Router.{InterfaceIs}
-use Rattle.mesh_config.specs.RunTables.Run.{run_interface_visits, PortSays, CostsAre}
+use Rattle.mesh_config.proofs.Common.{◌∙◌, codes, length_pushed, InterfaceIs, run_interface_visits, PortSays, CostsAre}
 use Rattle.mesh_config.proofs.StatedLemmas.Elements.{tables_fail, tables_pass, tables_said}
 use Rattle.mesh_config.proofs.run_tables.run.all_interfaces.Goals as goal
 

@@ -1,8 +1,4 @@
-use Rattle.std.proofs.Common.{◌≡◌, drop, take, map, codes}
-use Rattle.toml.specs.View.{view}
-use Rattle.mesh_config.specs.Keys.Faults.{first}
-use Rattle.mesh_config.specs.Stated.Tables.{tables_visits}
-use Rattle.mesh_config.specs.RunTables.Run.{run_interface_visits, RunInterfacesAre, HasOfEach}
+use Rattle.mesh_config.proofs.Common.{◌≡◌, drop, take, map, codes, view, first, tables_visits, run_interface_visits, RunInterfacesAre, HasOfEach}
 use Rattle.mesh_config.proofs.run_tables.run.all_interfaces.Given as goal
 
 abbrev pub invariant-loop-value : goal.invariant-loop-value

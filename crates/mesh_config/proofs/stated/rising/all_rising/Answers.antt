@@ -1,7 +1,6 @@
 use Rattle.mesh_config.proofs.StatedLemmas.Elements.{tables_said}
 use Rattle.mesh_config.proofs.StatedLemmas.RisingTables.{rising_fail, rising_pass}
-use Rattle.std.proofs.Common.{◌∙◌}
-use Rattle.mesh_atoms.proofs.Lists.{length_pushed}
+use Rattle.mesh_config.proofs.Common.{◌∙◌, length_pushed}
 use Rattle.mesh_config.proofs.stated.rising.all_rising.Goals as goal
 
 pub returns-in-Err-clause-answer : goal.returns-in-Err-clause-answer

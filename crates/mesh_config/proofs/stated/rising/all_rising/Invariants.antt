@@ -1,7 +1,4 @@
-use Rattle.std.proofs.Common.{◌≡◌, length, drop, take, map}
-use Rattle.toml.specs.View.{view}
-use Rattle.mesh_config.specs.Keys.Faults.{first}
-use Rattle.mesh_config.specs.Stated.Tables.{rising_visits, Each}
+use Rattle.mesh_config.proofs.Common.{◌≡◌, length, drop, take, map, view, first, rising_visits, Each}
 use Rattle.mesh_config.proofs.stated.rising.all_rising.Given as goal
 
 abbrev pub invariant-loop-value : goal.invariant-loop-value

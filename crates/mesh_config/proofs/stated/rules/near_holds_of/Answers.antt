@@ -1,5 +1,4 @@
-use Rattle.std.proofs.Common.{map}
-use Rattle.toml.specs.View.{view}
+use Rattle.mesh_config.proofs.Common.{map, view}
 use Rattle.mesh_config.proofs.StatedLemmas.Ordered.{near_holds_ascend}
 use Rattle.mesh_config.proofs.stated.rules.near_holds_of.Goals as goal
 

@@ -1,6 +1,4 @@
-use Rattle.toml.specs.View.{table_view}
-use Rattle.mesh_config.specs.Stated.Times.{times_visits, TimesIs}
-use Rattle.mesh_config.specs.Stated.Scenario.{times_table}
+use Rattle.mesh_config.proofs.Common.{table_view, times_visits, TimesIs, times_table}
 use Rattle.mesh_config.proofs.KeysLemmas.Parts.{part_answers}
 use Rattle.mesh_config.proofs.stated.scenario.times_of.Goals as goal
 

@@ -1,5 +1,4 @@
-use Rattle.std.proofs.Common.{map}
-use Rattle.toml.specs.View.{view}
+use Rattle.mesh_config.proofs.Common.{map, view}
 use Rattle.mesh_config.proofs.StatedLemmas.Ordered.{steps_ascend}
 use Rattle.mesh_config.proofs.stated.steps.steps_of.Goals as goal
 

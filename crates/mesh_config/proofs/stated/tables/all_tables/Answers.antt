@@ -1,6 +1,5 @@
 use Rattle.mesh_config.proofs.StatedLemmas.Elements.{tables_fail, tables_pass, tables_said}
-use Rattle.std.proofs.Common.{◌∙◌}
-use Rattle.mesh_atoms.proofs.Lists.{length_pushed}
+use Rattle.mesh_config.proofs.Common.{◌∙◌, length_pushed}
 use Rattle.mesh_config.proofs.stated.tables.all_tables.Goals as goal
 
 pub returns-in-Err-clause-answer : goal.returns-in-Err-clause-answer

@@ -1,6 +1,4 @@
-use Rattle.std.proofs.Common.{sym, subst}
-use Rattle.mesh_atoms.specs.Sound.{Sound}
-use Rattle.mesh_core.specs.Holding.{CoreValue}
+use Rattle.mesh_core.proofs.Common.{sym, subst, Sound, CoreValue}
 use Rattle.mesh_core.proofs.deferred.DeferredCore.into_core.Goals as goal
 
 pub invariant_of-result : goal.invariant_of-result

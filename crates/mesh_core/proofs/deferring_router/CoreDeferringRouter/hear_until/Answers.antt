@@ -1,7 +1,4 @@
-use Rattle.std.proofs.Common.{length, refl, subst, sym, ◌<◌, ◌≤◌}
-use Rattle.mesh_atoms.specs.Sound.{Sound}
-use Rattle.mesh_core.specs.Event.Holding.{state_of}
-use Rattle.mesh_core.specs.Holding.{CoreValue}
+use Rattle.mesh_core.proofs.Common.{length, refl, subst, sym, ◌<◌, ◌≤◌, Sound, state_of, CoreValue}
 use Rattle.mesh_core.proofs.EventLemmas.Wholes.{current_of, sound_but}
 use Rattle.mesh_core.proofs.Spent.{where_whole}
 use Rattle.mesh_core.proofs.Until.{hear_until, sound_whole}

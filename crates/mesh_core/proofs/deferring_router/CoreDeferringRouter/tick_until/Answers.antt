@@ -1,9 +1,4 @@
-use Rattle.std.proofs.Common.{List, OnOk}
-use Rattle.std.specs.Prelude.{All}
-use Rattle.std.proofs.lemmas.Result.{on_ok_weaker}
-use Rattle.mesh_machine.specs.declared.frame.Frame.{Frame}
-use Rattle.mesh_machine.specs.Machine.{Tick, Step}
-use Rattle.mesh_machine.specs.Sendable.{IsSendable}
+use Rattle.mesh_core.proofs.Common.{List, OnOk, All, on_ok_weaker, Frame, Tick, Step, IsSendable}
 use Rattle.mesh_core.proofs.Emptied.{alone}
 use Rattle.mesh_core.proofs.Kept.{kept_whole}
 use Rattle.mesh_core.proofs.deferring_router.CoreDeferringRouter.tick_until.Goals as goal

@@ -1,6 +1,4 @@
-use Rattle.std.proofs.Common.{length, subst, sym, ◌<◌, ◌≤◌}
-use Rattle.std.proofs.lemmas.Bool.{le-leb}
-use Rattle.mesh_core.specs.Holding.{CoreValue}
+use Rattle.mesh_core.proofs.Common.{length, subst, sym, ◌<◌, ◌≤◌, le-leb, CoreValue}
 use Rattle.mesh_core.proofs.Spent.{where_whole}
 use Rattle.mesh_core.proofs.Until.{hear_until}
 use Rattle.mesh_core.proofs.deferring_router.DeferredCoreDeferringRouter.hear_until.Goals as goal

@@ -1,5 +1,4 @@
-use Rattle.std.proofs.Common.{refl}
-use Rattle.std.proofs.lemmas.Bool.{le-leb}
+use Rattle.mesh_core.proofs.Common.{refl, le-leb}
 use Rattle.mesh_core.proofs.Spent.{where_whole}
 use Rattle.mesh_core.proofs.Until.{tick_until}
 use Rattle.mesh_core.proofs.deferring_router.DeferredCoreDeferringRouter.tick_until.Goals as goal

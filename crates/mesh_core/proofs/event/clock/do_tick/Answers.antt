@@ -1,12 +1,4 @@
-use Rattle.std.proofs.lemmas.Result.{on_ok_weaker}
-use Rattle.std.proofs.Common.{◌++◌, length, arith, refl, sym, ap, subst, List, ◌∙◌}
-use Rattle.std.proofs.lemmas.List.{append_assoc}
-use Rattle.mesh_atoms.specs.declared.tc.TcRow.{TcRow}
-use Rattle.mesh_atoms.specs.Advertised.{AreTcRows}
-use Rattle.mesh_atoms.specs.State.{State}
-use Rattle.mesh_bases.specs.declared.derived.Derived.{Derived}
-use Rattle.mesh_machine.specs.declared.frame.Frame.{Frame}
-use Rattle.mesh_core.specs.Event.Holding.{state_of}
+use Rattle.mesh_core.proofs.Common.{on_ok_weaker, ◌++◌, length, arith, refl, sym, ap, subst, List, ◌∙◌, append_assoc, TcRow, AreTcRows, State, Derived, Frame, state_of}
 use Rattle.mesh_nhdp.proofs.TcCounts.{tc_rows_few}
 use Rattle.mesh_core.proofs.EventLemmas.Derivations.{before_event, derived_after, has_own, rows_at_end, rows_but_for}
 use Rattle.mesh_core.proofs.EventLemmas.Wholes.{bases_but}

@@ -1,7 +1,4 @@
-use Rattle.std.proofs.lemmas.Result.{on_ok_weaker}
-use Rattle.std.proofs.Common.{◌++◌, List, ap, ◌∙◌}
-use Rattle.mesh_core.specs.Event.Holding.{state_of}
-use Rattle.mesh_machine.specs.declared.frame.Frame.{Frame}
+use Rattle.mesh_core.proofs.Common.{on_ok_weaker, ◌++◌, List, ap, ◌∙◌, state_of, Frame}
 use Rattle.mesh_core.proofs.EventLemmas.Ticking.{ticks_to}
 use Rattle.mesh_core.proofs.event.clock.tick.Goals as goal
 

@@ -1,5 +1,4 @@
-use Rattle.std.proofs.Common.{refl, ap}
-use Rattle.mesh_bases.specs.declared.derived.Derived.{Derived}
+use Rattle.mesh_core.proofs.Common.{refl, ap, Derived}
 use Rattle.mesh_core.proofs.EventLemmas.Endings.{ends_each}
 use Rattle.mesh_core.proofs.event.ending.end_event.Goals as goal
 

@@ -1,5 +1,4 @@
-use Rattle.std.proofs.Common.{inl, inr, refl}
-use Rattle.mesh_bases.proofs.RowMoments.{some_or_none}
+use Rattle.mesh_core.proofs.Common.{inl, inr, refl, some_or_none}
 use Rattle.mesh_core.proofs.event.ending.renew_rows.Goals as goal
 
 pub returns-then-is_same-clause-rows : goal.returns-then-is_same-clause-rows

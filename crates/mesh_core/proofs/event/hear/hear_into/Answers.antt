@@ -1,5 +1,4 @@
-use Rattle.std.proofs.Common.{◌∙◌}
-use Rattle.mesh_core.specs.Event.Holding.{state_of}
+use Rattle.mesh_core.proofs.Common.{◌∙◌, state_of}
 use Rattle.mesh_core.proofs.EventLemmas.Hearing.{alone_to}
 use Rattle.mesh_core.proofs.event.hear.hear_into.Goals as goal
 

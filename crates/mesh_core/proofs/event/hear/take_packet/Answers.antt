@@ -1,11 +1,5 @@
-use Rattle.std.proofs.Common.{◌++◌, List, arith, refl, ap, ◌∙◌}
-use Rattle.mesh_atoms.specs.State.{State}
-use Rattle.mesh_machine.specs.declared.fate.Fate.{Fate}
+use Rattle.mesh_core.proofs.Common.{◌++◌, List, arith, refl, ap, ◌∙◌, State, Fate, Frame, HearsPacket, state_of, KeepsWanted}
 use Rattle.mesh_machine.specs.declared.fate.Heard.TheVariants as heard
-use Rattle.mesh_machine.specs.declared.frame.Frame.{Frame}
-use Rattle.mesh_machine.specs.Machine.{HearsPacket}
-use Rattle.mesh_core.specs.Event.Holding.{state_of}
-use Rattle.mesh_core.specs.Event.Outdated.{KeepsWanted}
 use Rattle.mesh_core.proofs.EventLemmas.Derivations.{before_event, has_own}
 use Rattle.mesh_core.proofs.EventLemmas.Hearing.{packet_to}
 use Rattle.mesh_core.proofs.EventLemmas.Wholes.{bases_but}

@@ -1,4 +1,4 @@
-use Rattle.mesh_core.specs.Event.Holding.{state_of}
+use Rattle.mesh_core.proofs.Common.{state_of}
 use Rattle.mesh_core.proofs.EventLemmas.Wholes.{whole_but}
 use Rattle.mesh_core.proofs.router.Core.defer.Goals as goal
 

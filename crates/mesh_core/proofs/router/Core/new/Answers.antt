@@ -1,5 +1,4 @@
-use Rattle.mesh_machine.proofs.Opening.{opening_sound}
-use Rattle.mesh_core.specs.Holding.{CoreValue}
+use Rattle.mesh_core.proofs.Common.{opening_sound, CoreValue}
 use Rattle.mesh_core.proofs.router.Core.new.Goals as goal
 use Rattle.mesh_atoms.proofs.Options.{if_ok_weaker}
 

@@ -1,8 +1,4 @@
-use Rattle.std.proofs.Common.{List}
-use Rattle.std.specs.Prelude.{All}
-use Rattle.mesh_machine.specs.declared.frame.Frame.{Frame}
-use Rattle.mesh_machine.specs.Machine.{Hear, Step}
-use Rattle.mesh_machine.specs.Sendable.{IsSendable}
+use Rattle.mesh_core.proofs.Common.{List, All, Frame, Hear, Step, IsSendable}
 use Rattle.mesh_core.proofs.Emptied.{alone}
 use Rattle.mesh_core.proofs.router_core.CoreRouterCore.hear_frame.Goals as goal
 

@@ -1,9 +1,4 @@
-use Rattle.std.proofs.Common.{List, OnOk, arith}
-use Rattle.std.specs.Prelude.{All}
-use Rattle.std.proofs.lemmas.Result.{on_ok_weaker}
-use Rattle.mesh_machine.specs.declared.frame.Frame.{Frame}
-use Rattle.mesh_machine.specs.Machine.{Tick, Step}
-use Rattle.mesh_machine.specs.Sendable.{IsSendable}
+use Rattle.mesh_core.proofs.Common.{List, OnOk, arith, All, on_ok_weaker, Frame, Tick, Step, IsSendable}
 use Rattle.mesh_core.proofs.Emptied.{alone}
 use Rattle.mesh_core.proofs.router_core.CoreRouterCore.tick_at.Goals as goal
 

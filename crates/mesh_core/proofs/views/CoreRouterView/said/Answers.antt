@@ -1,7 +1,4 @@
-use Rattle.std.proofs.Common.{ℕ, sym, ap, subst, ◌∙◌}
-use Rattle.mesh_atoms.specs.Sound.{SoundNeighbourhood}
-use Rattle.mesh_atoms.specs.State.{Neighbourhood}
-use Rattle.mesh_core.specs.Holding.{CoreValue}
+use Rattle.mesh_core.proofs.Common.{ℕ, sym, ap, subst, ◌∙◌, SoundNeighbourhood, Neighbourhood, CoreValue}
 use Rattle.mesh_core.proofs.views.CoreRouterView.said.Goals as goal
 
 pub said_of-requires : goal.said_of-requires

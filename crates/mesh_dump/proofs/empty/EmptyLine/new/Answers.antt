@@ -1,6 +1,4 @@
-use Rattle.std.proofs.Common.{List, ℕ, ◌++◌, codes, refl, sym, ap, arith}
-use Rattle.std.proofs.lemmas.Fmt.{decimal_digit}
-use Rattle.mesh_dump.specs.Empty.{empty_line}
+use Rattle.mesh_dump.proofs.Common.{List, ℕ, ◌++◌, codes, refl, sym, ap, arith, decimal_digit, empty_line}
 use Rattle.mesh_dump.proofs.empty.EmptyLine.new.Goals as goal
 
 pub invariant_of-result : goal.invariant_of-result

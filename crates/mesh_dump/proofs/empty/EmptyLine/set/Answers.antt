@@ -1,6 +1,4 @@
-use Rattle.std.proofs.Common.{◌≡◌, ℕ, ◌-◌, ◌≤◌, length, drop, ◌∙◌, arith}
-use Rattle.std.proofs.lemmas.Fmt.{length-decimal-le}
-use Rattle.std.proofs.lemmas.List.{length-take-le, length-drop}
+use Rattle.mesh_dump.proofs.Common.{◌≡◌, ℕ, ◌-◌, ◌≤◌, length, drop, ◌∙◌, arith, length-decimal-le, length-take-le, length-drop}
 use Rattle.mesh_dump.proofs.EmptyLines.{laid}
 use Rattle.mesh_dump.proofs.empty.EmptyLine.set.Goals as goal
 

@@ -1,7 +1,4 @@
-use Rattle.std.proofs.Common.{◌≡◌, ◌+◌, ◌*◌, ◌∷◌, [], ◌++◌, length, take, get_or, arith, append_assoc, length-take}
-use Rattle.std.proofs.lemmas.List.{take_more}
-use Rattle.mesh_emulate.specs.declared.making.pairs.RouterPair.{RouterPair}
-use Rattle.mesh_emulate.specs.Making.Scenario.{AreMadeArcs}
+use Rattle.mesh_emulate.proofs.Common.{◌≡◌, ◌+◌, ◌*◌, ◌∷◌, [], ◌++◌, length, take, get_or, arith, append_assoc, length-take, take_more, RouterPair, AreMadeArcs}
 use Rattle.mesh_emulate.proofs.MakingLemmas.Growing.{arcs_more}
 use Rattle.mesh_emulate.proofs.making.arcs.arcs_of.Goals as goal
 

@@ -1,5 +1,4 @@
-use Rattle.std.proofs.Common.{take}
-use Rattle.mesh_emulate.specs.Making.Scenario.{AreMadeArcs}
+use Rattle.mesh_emulate.proofs.Common.{take, AreMadeArcs}
 use Rattle.mesh_emulate.proofs.making.arcs.arcs_of.Given as goal
 
 abbrev pub invariant-loop-i : goal.invariant-loop-i

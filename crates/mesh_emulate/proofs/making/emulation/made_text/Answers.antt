@@ -1,8 +1,5 @@
-use Rattle.std.proofs.Common.{◌≡◌}
-use Rattle.std.proofs.lemmas.Result.{IfOk-weaker}
-use Rattle.mesh_emulate.specs.Making.Made.{IsMadeText, MadeEmulation}
+use Rattle.mesh_emulate.proofs.Common.{◌≡◌, IfOk-weaker, IsMadeText, MadeEmulation, WholeRun}
 use Rattle.mesh_emulate.proofs.MakingLemmas.Telling.{emulated}
-use Rattle.mesh_texts.specs.Runs.{WholeRun}
 use Rattle.mesh_emulate.proofs.making.emulation.made_text.Goals as goal
 
 pub returns : goal.returns

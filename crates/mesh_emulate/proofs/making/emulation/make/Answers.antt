@@ -1,6 +1,4 @@
-use Rattle.std.proofs.Common.{◌≡◌, sym}
-use Rattle.mesh_io.proofs.Pieces.{one_put, one_cut}
-use Rattle.mesh_emulate.specs.Making.Made.{MadeEmulation}
+use Rattle.mesh_emulate.proofs.Common.{◌≡◌, sym, one_put, one_cut, MadeEmulation}
 use Rattle.mesh_emulate.proofs.making.emulation.make.Goals as goal
 
 pub returns-in-Ok-write_all-clause-leaves : goal.returns-in-Ok-write_all-clause-leaves

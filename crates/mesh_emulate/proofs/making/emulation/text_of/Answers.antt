@@ -1,6 +1,4 @@
-use Rattle.std.proofs.Common.{arith}
-use Rattle.std.proofs.lemmas.List.{length-map}
-use Rattle.std.proofs.lemmas.Result.{IfOk-weaker}
+use Rattle.mesh_emulate.proofs.Common.{arith, length-map, IfOk-weaker}
 use Rattle.mesh_radio.specs.Value.{states_of}
 use Rattle.mesh_emulate.proofs.MakingLemmas.Telling.{ends_with, at_end, few_states, made_text_is}
 use Rattle.mesh_emulate.proofs.making.emulation.text_of.Goals as goal

@@ -1,5 +1,4 @@
-use Rattle.std.proofs.Common.{sym}
-use Rattle.mesh_emulate.specs.Making.Pairs.{grid_pairs_of}
+use Rattle.mesh_emulate.proofs.Common.{sym, grid_pairs_of}
 use Rattle.mesh_emulate.proofs.MakingLemmas.Growing.{flat_more}
 use Rattle.mesh_emulate.proofs.making.pairs.grid_pairs.Goals as goal
 

@@ -1,6 +1,4 @@
-use Rattle.std.proofs.Common.{◌≡◌}
-use Rattle.std.specs.List.{flat_map, range_with_len}
-use Rattle.mesh_emulate.specs.Making.Pairs.{grid_pairs_of}
+use Rattle.mesh_emulate.proofs.Common.{◌≡◌, flat_map, range_with_len, grid_pairs_of}
 use Rattle.mesh_emulate.proofs.making.pairs.grid_pairs.Given as goal
 
 abbrev pub invariant-loop-i : goal.invariant-loop-i

@@ -1,4 +1,4 @@
-use Rattle.std.proofs.Common.{◌∙◌, sym}
+use Rattle.mesh_emulate.proofs.Common.{◌∙◌, sym}
 use Rattle.mesh_emulate.proofs.MakingLemmas.Growing.{drawn_more}
 use Rattle.mesh_emulate.proofs.making.pairs.random_pairs.Goals as goal
 

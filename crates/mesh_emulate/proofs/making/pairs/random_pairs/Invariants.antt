@@ -1,5 +1,4 @@
-use Rattle.std.proofs.Common.{◌≡◌, ◌+◌, ◌-◌, ◌*◌}
-use Rattle.mesh_emulate.specs.Making.Pairs.{more_pairs, random_pairs}
+use Rattle.mesh_emulate.proofs.Common.{◌≡◌, ◌+◌, ◌-◌, ◌*◌, more_pairs, random_pairs}
 use Rattle.mesh_emulate.proofs.making.pairs.random_pairs.Given as goal
 
 -- what stands, with the pairs that are still drawn, is the whole

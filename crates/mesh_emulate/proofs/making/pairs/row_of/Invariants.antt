@@ -1,4 +1,4 @@
-use Rattle.std.proofs.Common.{◌≤◌, ◌<◌, ◌*◌, ℕ}
+use Rattle.mesh_emulate.proofs.Common.{◌≤◌, ◌<◌, ◌*◌, ℕ}
 use Rattle.mesh_emulate.proofs.making.pairs.row_of.Given as goal
 
 -- no lesser number has a square that is no less

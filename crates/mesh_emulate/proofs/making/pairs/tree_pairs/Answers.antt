@@ -1,6 +1,4 @@
-use Rattle.std.proofs.Common.{◌+◌, ◌%◌, ℕ, sym, arith}
-use Rattle.std.proofs.lemmas.List.FromFn.{map-range_with_len_more}
-use Rattle.mesh_emulate.specs.Making.Pairs.{pair, word}
+use Rattle.mesh_emulate.proofs.Common.{◌+◌, ◌%◌, ℕ, sym, arith, map-range_with_len_more, pair, word}
 use Rattle.mesh_emulate.proofs.making.pairs.tree_pairs.Goals as goal
 
 pub loop-i-preserved : goal.loop-i-preserved

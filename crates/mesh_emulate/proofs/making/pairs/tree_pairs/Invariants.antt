@@ -1,6 +1,4 @@
-use Rattle.std.proofs.Common.{◌≡◌, ◌+◌, ◌%◌, map}
-use Rattle.std.specs.List.{range_with_len}
-use Rattle.mesh_emulate.specs.Making.Pairs.{pair, word}
+use Rattle.mesh_emulate.proofs.Common.{◌≡◌, ◌+◌, ◌%◌, map, range_with_len, pair, word}
 use Rattle.mesh_emulate.proofs.making.pairs.tree_pairs.Given as goal
 
 abbrev pub invariant-loop-i : goal.invariant-loop-i

@@ -1,5 +1,4 @@
-use Rattle.std.proofs.Common.{map, take}
-use Rattle.mesh_emulate.specs.Making.Routes.{metrics_of, IsGreatest}
+use Rattle.mesh_emulate.proofs.Common.{map, take, metrics_of, IsGreatest}
 use Rattle.mesh_emulate.proofs.making.routes.greatest_of.Given as goal
 
 abbrev pub invariant-loop-router : goal.invariant-loop-router

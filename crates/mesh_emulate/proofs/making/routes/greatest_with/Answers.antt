@@ -1,6 +1,4 @@
-use Rattle.std.proofs.Common.{◌≡◌, ◌++◌, ◌∷◌, [], ◌+◌, ◌∙◌, ℕ, List, map, take, ap, sym, append_assoc}
-use Rattle.std.proofs.lemmas.List.{map-append, take_all, take_more}
-use Rattle.mesh_atoms.specs.declared.graphs.Route.{Route}
+use Rattle.mesh_emulate.proofs.Common.{◌≡◌, ◌++◌, ◌∷◌, [], ◌+◌, ◌∙◌, ℕ, List, map, take, ap, sym, append_assoc, map-append, take_all, take_more, Route}
 use Rattle.mesh_emulate.proofs.making.routes.greatest_with.Goals as goal
 
 pub loop-route-preserved : goal.loop-route-preserved

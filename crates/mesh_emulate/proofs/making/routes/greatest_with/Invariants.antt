@@ -1,5 +1,4 @@
-use Rattle.std.proofs.Common.{ℕ, List, ◌++◌, map, take}
-use Rattle.mesh_emulate.specs.Making.Routes.{IsGreatest}
+use Rattle.mesh_emulate.proofs.Common.{ℕ, List, ◌++◌, map, take, IsGreatest}
 use Rattle.mesh_emulate.proofs.making.routes.greatest_with.Given as goal
 
 abbrev pub invariant-loop-route : goal.invariant-loop-route

@@ -1,5 +1,4 @@
-use Rattle.std.proofs.Common.{◌≡◌, ◌*◌, ◌-◌, ◌^◌, ◌≤◌, length, map, take}
-use Rattle.mesh_emulate.specs.Making.Routes.{metrics_of}
+use Rattle.mesh_emulate.proofs.Common.{◌≡◌, ◌*◌, ◌-◌, ◌^◌, ◌≤◌, length, map, take, metrics_of}
 use Rattle.mesh_emulate.proofs.making.routes.route_count.Given as goal
 
 -- memory has room for fewer than 2^58 routes of each

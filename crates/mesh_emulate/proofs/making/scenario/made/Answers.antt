@@ -1,13 +1,8 @@
-use Rattle.std.proofs.Common.{◌≡◌, ◌≤◌, ◌∙◌, refl, ap, arith, length, List, []}
-use Rattle.mesh_config.specs.Checks.Compared.{stated_duplicates}
-use Rattle.mesh_config.proofs.Sounds.{sound_routers}
-use Rattle.mesh_config.specs.Senders.{with_steps}
+use Rattle.mesh_emulate.proofs.Common.{◌≡◌, ◌≤◌, ◌∙◌, refl, ap, arith, length, List, [], stated_duplicates, sound_routers, with_steps, StatedRouter, first}
 use Rattle.mesh_emulate.proofs.MakingLemmas.Apart.{pairs_apart}
 use Rattle.mesh_emulate.proofs.MakingLemmas.ArcEnds.{arcs_few, arcs_distinct}
 use Rattle.mesh_emulate.proofs.MakingLemmas.MadeOnes.{made_routers, made_count, made_arcs, made_senders, made_qualities}
 use Rattle.mesh_emulate.proofs.MakingLemmas.StatedOnes.{stated_clear, stated_addrs}
-use Rattle.mesh_config.specs.declared.stated.stated.StatedRouter.{StatedRouter}
-use Rattle.mesh_config.specs.Keys.Faults.{first}
 use Rattle.mesh_emulate.proofs.making.scenario.made.Goals as goal
 
 pub arcs_of-requires-clause-few : goal.arcs_of-requires-clause-few

@@ -1,6 +1,4 @@
-use Rattle.std.proofs.Common.{◌≡◌, ◌∷◌, [], ◌+◌, length, length-append, arith}
-use Rattle.mesh_config.proofs.Builds.{each_more}
-use Rattle.mesh_emulate.specs.Making.Stated.{IsStated}
+use Rattle.mesh_emulate.proofs.Common.{◌≡◌, ◌∷◌, [], ◌+◌, length, length-append, arith, each_more, IsStated}
 use Rattle.mesh_emulate.proofs.making.stated.stated_routers.Goals as goal
 
 pub loop-i-preserved : goal.loop-i-preserved

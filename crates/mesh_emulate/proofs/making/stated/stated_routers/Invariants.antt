@@ -1,5 +1,4 @@
-use Rattle.std.proofs.Common.{◌≡◌, length}
-use Rattle.mesh_emulate.specs.Making.Stated.{AreStated}
+use Rattle.mesh_emulate.proofs.Common.{◌≡◌, length, AreStated}
 use Rattle.mesh_emulate.proofs.making.stated.stated_routers.Given as goal
 
 abbrev pub invariant-loop-i : goal.invariant-loop-i

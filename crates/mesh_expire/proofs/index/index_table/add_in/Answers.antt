@@ -1,5 +1,4 @@
-use Rattle.std.proofs.Common.{Some, None, subst}
-use Rattle.mesh_expire.specs.Index.Moments.{until_of, SetsMoment}
+use Rattle.mesh_expire.proofs.Common.{Some, None, subst, until_of, SetsMoment}
 use Rattle.mesh_expire.proofs.IndexLemmas.Moments.{comes_in, told, tells_set, goes_out, set_once, set_twice}
 use Rattle.mesh_expire.proofs.Places.{absent}
 use Rattle.mesh_expire.proofs.index.index_table.add_in.Goals as goal

@@ -1,10 +1,4 @@
-use Rattle.mesh_atoms.proofs.Options.{on_err_of}
-use Rattle.std.proofs.Common.{Some, sym, ap, subst, arith, length, ◌≡◌, ◌+◌, ◌∙◌}
-use Rattle.std.specs.Prelude.{OnOk, OnErr}
-use Rattle.std.proofs.lemmas.Map.{length-set_value}
-use Rattle.std.proofs.lemmas.Map.Steps.{set_value_same}
-use Rattle.mesh_atoms.specs.Base.{SetsOnly}
-use Rattle.mesh_expire.specs.Index.Moments.{until_of, SetsMoment}
+use Rattle.mesh_expire.proofs.Common.{on_err_of, Some, sym, ap, subst, arith, length, ◌≡◌, ◌+◌, ◌∙◌, OnOk, OnErr, length-set_value, set_value_same, SetsOnly, until_of, SetsMoment}
 use Rattle.mesh_expire.proofs.Laws.{sets-changed_at}
 use Rattle.mesh_expire.proofs.IndexLemmas.Moments.{written, told, tells_set}
 use Rattle.mesh_expire.proofs.index.index_table.put_in.Goals as goal

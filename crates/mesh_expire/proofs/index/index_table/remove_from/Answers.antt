@@ -1,5 +1,4 @@
-use Rattle.std.proofs.Common.{None, sym, subst}
-use Rattle.mesh_expire.specs.Index.Moments.{until_of, SetsMoment}
+use Rattle.mesh_expire.proofs.Common.{None, sym, subst, until_of, SetsMoment}
 use Rattle.mesh_expire.proofs.IndexLemmas.Moments.{tells_set, told, goes_out}
 use Rattle.mesh_expire.proofs.index.index_table.remove_from.Goals as goal
 

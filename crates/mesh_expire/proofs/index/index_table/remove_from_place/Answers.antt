@@ -1,5 +1,4 @@
-use Rattle.std.proofs.Common.{refl, sym}
-use Rattle.std.proofs.lemmas.Option.{slice_get_within}
+use Rattle.mesh_expire.proofs.Common.{refl, sym, slice_get_within}
 use Rattle.mesh_expire.proofs.IndexLemmas.Moments.{goes_from_place}
 use Rattle.mesh_expire.proofs.index.index_table.remove_from_place.Goals as goal
 

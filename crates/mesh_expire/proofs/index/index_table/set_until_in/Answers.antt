@@ -1,7 +1,4 @@
-use Rattle.mesh_atoms.proofs.Options.{on_err_of}
-use Rattle.std.proofs.Common.{Some, is_some, refl, sym, ap, subst, ◌∙◌}
-use Rattle.std.proofs.lemmas.Map.Steps.{set_value_same}
-use Rattle.mesh_expire.specs.Index.Moments.{until_of, SetsMoment}
+use Rattle.mesh_expire.proofs.Common.{on_err_of, Some, is_some, refl, sym, ap, subst, ◌∙◌, set_value_same, until_of, SetsMoment}
 use Rattle.mesh_expire.proofs.Laws.{changed_at-absent, sets-changed_at}
 use Rattle.mesh_expire.proofs.IndexLemmas.Moments.{written, told, tells_set}
 use Rattle.mesh_expire.proofs.index.index_table.set_until_in.Goals as goal

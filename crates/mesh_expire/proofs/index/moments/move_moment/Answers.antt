@@ -1,7 +1,4 @@
-use Rattle.std.proofs.Common.{Some, ap, subst, ◌∙◌}
-use Rattle.std.proofs.lemmas.Bool.{ne_eqb}
-use Rattle.std.proofs.lemmas.Result.{on_ok_weaker}
-use Rattle.mesh_expire.specs.Index.Moments.{SetsMoment}
+use Rattle.mesh_expire.proofs.Common.{Some, ap, subst, ◌∙◌, ne_eqb, on_ok_weaker, SetsMoment}
 use Rattle.mesh_expire.proofs.IndexLemmas.Moments.{comes_in, moves_in}
 use Rattle.mesh_expire.proofs.index.moments.move_moment.Goals as goal
 

@@ -1,5 +1,4 @@
-use Rattle.std.proofs.Common.{◌≡◌, drop}
-use Rattle.mesh_expire.specs.Index.Moments.{times_in}
+use Rattle.mesh_expire.proofs.Common.{◌≡◌, drop, times_in}
 use Rattle.mesh_expire.proofs.index.moments.place_of.Given as goal
 
 abbrev pub invariant-loop-i : goal.invariant-loop-i

@@ -1,8 +1,4 @@
-use Rattle.std.proofs.Common.{Some, cond, is_some, sym, ap, ◌∙◌}
-use Rattle.std.specs.Ordering.{nat_cmp}
-use Rattle.std.specs.BTreeMap.{get, is_at}
-use Rattle.std.proofs.lemmas.Map.Steps.{set_value_same}
-use Rattle.std.proofs.lemmas.Result.{on_ok_weaker, on_err_weaker}
+use Rattle.mesh_expire.proofs.Common.{Some, cond, is_some, sym, ap, ◌∙◌, nat_cmp, get, is_at, set_value_same, on_ok_weaker, on_err_weaker}
 use Rattle.mesh_expire.proofs.IndexLemmas.Moments.{puts_behind}
 use Rattle.mesh_expire.proofs.index.moments.put_key.Goals as goal
 

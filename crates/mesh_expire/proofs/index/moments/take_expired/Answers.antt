@@ -1,6 +1,4 @@
-use Rattle.std.proofs.Common.{◌<◌, [], sym, subst}
-use Rattle.std.specs.Prelude.{unwrap_or}
-use Rattle.mesh_expire.specs.Index.Moments.{times_in}
+use Rattle.mesh_expire.proofs.Common.{◌<◌, [], sym, subst, unwrap_or, times_in}
 use Rattle.mesh_expire.proofs.IndexLemmas.Moments.{first_stands, takes_only}
 use Rattle.mesh_expire.proofs.index.moments.take_expired.Goals as goal
 

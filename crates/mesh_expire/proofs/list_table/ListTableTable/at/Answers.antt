@@ -1,5 +1,4 @@
-use Rattle.std.proofs.Common.{length, refl, sym}
-use Rattle.std.proofs.lemmas.Option.{slice_get_read, slice_get_past}
+use Rattle.mesh_expire.proofs.Common.{length, refl, sym, slice_get_read, slice_get_past}
 use Rattle.mesh_expire.proofs.list_table.ListTableTable.at.Goals as goal
 
 pub returns-in-Some : goal.returns-in-Some

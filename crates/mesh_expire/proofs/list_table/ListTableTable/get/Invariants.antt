@@ -1,5 +1,4 @@
-use Rattle.std.proofs.Common.{◌≡◌, drop}
-use Rattle.mesh_atoms.specs.Base.{find}
+use Rattle.mesh_expire.proofs.Common.{◌≡◌, drop, find}
 use Rattle.mesh_expire.proofs.list_table.ListTableTable.get.Given as goal
 
 abbrev pub invariant-loop-entry : goal.invariant-loop-entry

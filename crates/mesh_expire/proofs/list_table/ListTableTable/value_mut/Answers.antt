@@ -1,5 +1,4 @@
-use Rattle.std.proofs.Common.{arith, refl, sym, ap}
-use Rattle.std.specs.Prelude.{option_map}
+use Rattle.mesh_expire.proofs.Common.{arith, refl, sym, ap, option_map}
 use Rattle.mesh_expire.proofs.Laws.{changed_at-absent, distinct-changed_at}
 use Rattle.mesh_expire.proofs.Places.{changes, within}
 use Rattle.mesh_expire.proofs.list_table.ListTableTable.value_mut.Goals as goal

@@ -1,5 +1,4 @@
-use Rattle.std.proofs.Common.{refl, sym, ap, ◌∙◌}
-use Rattle.std.specs.Prelude.{option_map}
+use Rattle.mesh_expire.proofs.Common.{refl, sym, ap, ◌∙◌, option_map}
 use Rattle.mesh_expire.proofs.Laws.{changed_at-absent}
 use Rattle.mesh_expire.proofs.IndexLemmas.Moments.{written}
 use Rattle.mesh_expire.proofs.Sweeping.{not_before_changed}

@@ -1,7 +1,4 @@
-use Rattle.std.proofs.Common.{refl, arith}
-use Rattle.mesh_atoms.specs.Live.{LiveNoted}
-use Rattle.mesh_atoms.specs.State.{NotedMessages}
-use Rattle.mesh_flood.specs.Noting.{AreWithin}
+use Rattle.mesh_flood.proofs.Common.{refl, arith, LiveNoted, NotedMessages, AreWithin}
 use Rattle.mesh_flood.proofs.Soundness.{sound_after_expiry, within_of}
 use Rattle.mesh_flood.proofs.flood.Flood.expire.Goals as goal
 

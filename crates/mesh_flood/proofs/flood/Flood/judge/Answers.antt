@@ -1,9 +1,4 @@
-use Rattle.std.proofs.Common.{◌≡◌, ◌<◌, length, sym, subst}
-use Rattle.mesh_atoms.specs.declared.tuples.FloodKey.{FloodKey}
-use Rattle.mesh_atoms.specs.declared.tuples.Noted.{Noted}
-use Rattle.mesh_atoms.specs.Base.{Base}
-use Rattle.mesh_flood.specs.Noting.{HeldSets}
-use Rattle.mesh_flood.specs.Verdict.{process_of, forward_of, forward_by}
+use Rattle.mesh_flood.proofs.Common.{◌≡◌, ◌<◌, length, sym, subst, FloodKey, Noted, Base, HeldSets, process_of, forward_of, forward_by}
 use Rattle.mesh_flood.proofs.Room.{base_there, is_flooded_by}
 use Rattle.mesh_flood.proofs.flood.Flood.judge.Goals as goal
 

@@ -1,11 +1,5 @@
-use Rattle.std.proofs.Common.{◌≡◌, ◌∙◌, ℕ, [], length, refl}
-use Rattle.mesh_expire.proofs.Laws.{distinct_none}
-use Rattle.std.specs.Prelude.{Result, Ok, Err, IfOk, IsErrAnd}
+use Rattle.mesh_flood.proofs.Common.{◌≡◌, ◌∙◌, ℕ, [], length, refl, distinct_none, Result, Ok, Err, IfOk, IsErrAnd, RouterSettings, SoundNoted, base_of, flood_eq, HeldSets}
 use Rattle.std.specs.declared.alloc.AllocError.{AllocError}
-use Rattle.mesh_atoms.specs.declared.settings.RouterSettings.{RouterSettings}
-use Rattle.mesh_atoms.specs.Sound.{SoundNoted}
-use Rattle.mesh_atoms.specs.Base.{base_of, flood_eq}
-use Rattle.mesh_flood.specs.Noting.{HeldSets}
 use Rattle.mesh_flood.proofs.Soundness.{none_sound}
 use Rattle.mesh_flood.proofs.flood.Flood.new.Goals as goal
 

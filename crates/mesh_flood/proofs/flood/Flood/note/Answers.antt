@@ -1,14 +1,5 @@
-use Rattle.std.proofs.Common.{◌≡◌, ◌+◌, ◌<◌, ◌≤◌, [], length, Bool, false, Option, refl, sym, ap, subst, ◌∙◌}
-use Rattle.std.specs.Prelude.{IsTrue, OnOk, slice_set}
-use Rattle.std.proofs.lemmas.List.{length-set, get_or-set_other}
+use Rattle.mesh_flood.proofs.Common.{◌≡◌, ◌+◌, ◌<◌, ◌≤◌, [], length, Bool, false, Option, refl, sym, ap, subst, ◌∙◌, IsTrue, OnOk, slice_set, length-set, get_or-set_other, Addr4, FloodKey, Noted, Base, HasDistinctKeys, base_of, find, flood_eq, NotedMessages, HeldSets, Notes, AfterNote, AreWithin, process_of, forward_of, is_full, key_of, is_received, is_forwarded}
 use Rattle.std.proofs.lemmas.Result.{on_ok_weaker}
-use Rattle.mesh_atoms.specs.declared.addr.Addr4.{Addr4}
-use Rattle.mesh_atoms.specs.declared.tuples.FloodKey.{FloodKey}
-use Rattle.mesh_atoms.specs.declared.tuples.Noted.{Noted}
-use Rattle.mesh_atoms.specs.Base.{Base, HasDistinctKeys, base_of, find, flood_eq}
-use Rattle.mesh_atoms.specs.State.{NotedMessages}
-use Rattle.mesh_flood.specs.Noting.{HeldSets, Notes, AfterNote, AreWithin}
-use Rattle.mesh_flood.specs.Verdict.{process_of, forward_of, is_full, key_of, is_received, is_forwarded}
 use Rattle.mesh_flood.proofs.Soundness.{sound_by_times, within_of}
 use Rattle.mesh_flood.proofs.Room.{has_room_processed, has_room_received, has_room_forwarded, each_set, noted_at, base_there, on_ok_if, on_ok_both}
 use Rattle.mesh_flood.proofs.flood.Flood.note.Goals as goal

@@ -1,6 +1,4 @@
-use Rattle.std.proofs.Common.{◌≡◌, Option, None, subst, sym}
-use Rattle.std.specs.Prelude.{IsSome, IsTrue, false}
-use Rattle.std.proofs.lemmas.Bool.{false≢true}
+use Rattle.mesh_flood.proofs.Common.{◌≡◌, Option, None, subst, sym, IsSome, IsTrue, false, false≢true}
 use Rattle.mesh_flood.proofs.set.FloodSet.has_key.Goals as goal
 
 nothing : {A : Type 0} (o : Option A) → None ≡ o → IsSome o → IsTrue false

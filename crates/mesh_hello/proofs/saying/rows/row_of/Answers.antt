@@ -1,5 +1,4 @@
-use Rattle.std.proofs.Common.{◌∙◌}
-use Rattle.mesh_expire.specs.Table.{entry_of}
+use Rattle.mesh_hello.proofs.Common.{◌∙◌, entry_of}
 use Rattle.mesh_hello.proofs.SayingLemmas.OneRow.{row_of, lent_some, link_by}
 use Rattle.mesh_hello.proofs.saying.rows.row_of.Goals as goal
 

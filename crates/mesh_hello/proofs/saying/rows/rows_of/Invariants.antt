@@ -1,9 +1,4 @@
-use Rattle.std.proofs.Common.{◌≡◌, map, take}
-use Rattle.std.specs.Prelude.{Contains}
-use Rattle.mesh_atoms.specs.declared.addr.Addr4.{Addr4}
-use Rattle.mesh_atoms.specs.declared.hello.HelloRow.{HelloRow}
-use Rattle.mesh_atoms.specs.Base.{host}
-use Rattle.mesh_hello.specs.Saying.Said.{IsHelloRowOf}
+use Rattle.mesh_hello.proofs.Common.{◌≡◌, map, take, Contains, Addr4, HelloRow, host, IsHelloRowOf}
 use Rattle.mesh_hello.proofs.saying.rows.rows_of.Given as goal
 
 abbrev pub invariant-loop-addr : goal.invariant-loop-addr

@@ -1,5 +1,4 @@
-use Rattle.std.proofs.Common.{◌≡◌, ◌++◌, drop}
-use Rattle.std.specs.List.{flat_map}
+use Rattle.mesh_hello.proofs.Common.{◌≡◌, ◌++◌, drop, flat_map}
 use Rattle.mesh_hello.proofs.saying.said_addresses.put_own.Given as goal
 
 abbrev pub invariant-loop-face : goal.invariant-loop-face

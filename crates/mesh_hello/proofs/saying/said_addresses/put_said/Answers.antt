@@ -1,6 +1,5 @@
-use Rattle.std.proofs.Common.{sym, arith}
+use Rattle.mesh_hello.proofs.Common.{sym, arith, none_within}
 use Rattle.mesh_hello.proofs.Places.{put_next}
-use Rattle.mesh_atoms.proofs.Lists.{none_within}
 use Rattle.mesh_hello.proofs.saying.said_addresses.put_said.Goals as goal
 use Rattle.mesh_hello.proofs.saying.said_addresses.put_said.Goals.{in-Some+in_ok-extend_from_slice, in_default}
 

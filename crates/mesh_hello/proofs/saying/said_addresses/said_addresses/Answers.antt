@@ -1,5 +1,4 @@
-use Rattle.std.proofs.Common.{ap, ◌∙◌, ◌++◌}
-use Rattle.std.specs.Map.{keys_of}
+use Rattle.mesh_hello.proofs.Common.{ap, ◌∙◌, ◌++◌, keys_of}
 use Rattle.mesh_hello.proofs.Places.{same_in_turn}
 use Rattle.mesh_hello.proofs.saying.said_addresses.said_addresses.Goals as goal
 

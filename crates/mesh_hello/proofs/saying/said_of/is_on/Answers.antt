@@ -1,4 +1,4 @@
-use Rattle.std.proofs.Common.{sym}
+use Rattle.mesh_hello.proofs.Common.{sym}
 use Rattle.mesh_hello.proofs.SayingLemmas.Parts.{on_by}
 use Rattle.mesh_hello.proofs.saying.said_of.is_on.Goals as goal
 

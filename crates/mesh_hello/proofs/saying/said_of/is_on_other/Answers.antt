@@ -1,6 +1,4 @@
-use Rattle.std.proofs.Common.{arith, below_more}
-use Rattle.std.proofs.lemmas.Bool.{false≢true, iff_false}
-use Rattle.std.proofs.lemmas.Option.{slice_get_within}
+use Rattle.mesh_hello.proofs.Common.{arith, below_more, false≢true, iff_false, slice_get_within}
 use Rattle.mesh_hello.proofs.saying.said_of.is_on_other.Goals as goal
 use Rattle.mesh_hello.proofs.saying.said_of.is_on_other.Goals.{else-place-iface-via-then-place-iface+else-is_on, else-place-iface-via-else-place-iface}
 

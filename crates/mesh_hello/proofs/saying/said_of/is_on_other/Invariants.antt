@@ -1,5 +1,4 @@
-use Rattle.std.proofs.Common.{ℕ, ◌<◌, ◌≢◌}
-use Rattle.mesh_atoms.specs.State.{HasAddressOn}
+use Rattle.mesh_hello.proofs.Common.{ℕ, ◌<◌, ◌≢◌, HasAddressOn}
 use Rattle.mesh_hello.proofs.saying.said_of.is_on_other.Given as goal
 
 abbrev pub invariant-loop-place : goal.invariant-loop-place

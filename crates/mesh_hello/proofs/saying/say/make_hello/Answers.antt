@@ -1,4 +1,4 @@
-use Rattle.std.proofs.Common.{refl}
+use Rattle.mesh_hello.proofs.Common.{refl}
 use Rattle.mesh_hello.proofs.SayingLemmas.Message.{hello_is, rows_before, said_same}
 use Rattle.mesh_hello.proofs.saying.say.make_hello.Goals as goal
 

@@ -1,4 +1,4 @@
-use Rattle.std.proofs.Common.{Contains, refl, sym, subst}
+use Rattle.mesh_hello.proofs.Common.{Contains, refl, sym, subst}
 use Rattle.mesh_hello.proofs.told.mine.has_own_row.Goals as goal
 
 pub returns-then-is_row_of : goal.returns-then-is_row_of

@@ -1,6 +1,4 @@
-use Rattle.std.proofs.Common.{◌≡◌, ℕ, ◌<◌, get_or}
-use Rattle.mesh_atoms.specs.declared.hello.HelloRow.{HelloRow}
-use Rattle.mesh_hello.specs.Told.Mine.{Bears, IsMyRow}
+use Rattle.mesh_hello.proofs.Common.{◌≡◌, ℕ, ◌<◌, get_or, HelloRow, Bears, IsMyRow}
 use Rattle.mesh_hello.proofs.told.mine.has_own_row.Given as goal
 
 abbrev pub invariant-loop-row : goal.invariant-loop-row

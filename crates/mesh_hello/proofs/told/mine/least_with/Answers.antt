@@ -1,5 +1,4 @@
-use Rattle.std.proofs.Common.{refl, inl, inr}
-use Rattle.mesh_nbrs.proofs.Summaries.{least_same}
+use Rattle.mesh_hello.proofs.Common.{refl, inl, inr, least_same}
 use Rattle.mesh_hello.proofs.told.mine.least_with.Goals as goal
 
 pub returns-then-is_row_of : goal.returns-then-is_row_of

@@ -1,5 +1,4 @@
-use Rattle.std.proofs.Common.{Contains, refl, sym, subst, inl}
-use Rattle.mesh_atoms.proofs.Lookups.{same_addr}
+use Rattle.mesh_hello.proofs.Common.{Contains, refl, sym, subst, inl, same_addr}
 use Rattle.mesh_hello.proofs.told.mine.metric_from.Goals as goal
 
 pub returns-then-eq : goal.returns-then-eq

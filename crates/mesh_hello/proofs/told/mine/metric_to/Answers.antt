@@ -1,10 +1,4 @@
-use Rattle.std.proofs.Common.{◌≡◌, length, slice_get, Some, ap, subst, inl, inr, arith}
-use Rattle.mesh_atoms.specs.declared.hello.HelloRow.{HelloRow}
-use Rattle.mesh_atoms.specs.declared.codes.metric.Metric.{Metric}
-use Rattle.mesh_atoms.specs.Words.{IsLeastMetric}
-use Rattle.mesh_atoms.specs.State.{HasAddressOn}
-use Rattle.mesh_nbrs.proofs.Summaries.{least_same, least_joined}
-use Rattle.mesh_hello.specs.Told.Mine.{IsMyRow}
+use Rattle.mesh_hello.proofs.Common.{◌≡◌, length, slice_get, Some, ap, subst, inl, inr, arith, HelloRow, Metric, IsLeastMetric, HasAddressOn, least_same, least_joined, IsMyRow}
 use Rattle.mesh_hello.proofs.Collect.{SomeBelow, below_later, below_here, below_cases, below_contains, item_at}
 use Rattle.mesh_hello.proofs.ToldLemmas.Mines.{row_of}
 use Rattle.mesh_hello.proofs.told.mine.metric_to.Goals as goal

@@ -1,6 +1,4 @@
-use Rattle.std.proofs.Common.{◌≡◌, Some}
-use Rattle.mesh_atoms.specs.Words.{IsLeastMetric}
-use Rattle.mesh_hello.specs.Told.Mine.{IsMyRow}
+use Rattle.mesh_hello.proofs.Common.{◌≡◌, Some, IsLeastMetric, IsMyRow}
 use Rattle.mesh_hello.proofs.Collect.{SomeBelow}
 use Rattle.mesh_hello.proofs.told.mine.metric_to.Given as goal
 

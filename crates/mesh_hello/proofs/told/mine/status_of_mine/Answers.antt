@@ -1,6 +1,4 @@
-use Rattle.std.proofs.Common.{refl}
-use Rattle.std.proofs.lemmas.Bool.{false≢true}
-use Rattle.mesh_atoms.specs.declared.hello.LinkStatus.TheVariants.{Symmetric, Heard}
+use Rattle.mesh_hello.proofs.Common.{refl, false≢true, Symmetric, Heard}
 use Rattle.mesh_hello.proofs.ToldLemmas.Mines.{tells_me, is_lost, is_unknown}
 use Rattle.mesh_hello.proofs.told.mine.status_of_mine.Goals as goal
 

@@ -1,4 +1,4 @@
-use Rattle.std.proofs.Common.{sym, refl}
+use Rattle.mesh_hello.proofs.Common.{sym, refl}
 use Rattle.mesh_hello.proofs.told.receive.has_local_of.Goals as goal
 
 pub returns-then-is_local_of : goal.returns-then-is_local_of

@@ -1,6 +1,4 @@
-use Rattle.std.proofs.Common.{◌≡◌, ℕ, ◌<◌, get_or}
-use Rattle.std.specs.Prelude.{Contains}
-use Rattle.mesh_hello.specs.Told.Receive.{IsLocalWith}
+use Rattle.mesh_hello.proofs.Common.{◌≡◌, ℕ, ◌<◌, get_or, Contains, IsLocalWith}
 use Rattle.mesh_hello.proofs.told.receive.has_local_of.Given as goal
 
 abbrev pub invariant-loop-row : goal.invariant-loop-row

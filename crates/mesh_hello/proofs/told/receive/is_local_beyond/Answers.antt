@@ -1,5 +1,4 @@
-use Rattle.std.proofs.Common.{◌≢◌}
-use Rattle.mesh_atoms.specs.declared.addr.Addr4.{Addr4}
+use Rattle.mesh_hello.proofs.Common.{◌≢◌, Addr4}
 use Rattle.mesh_hello.proofs.ToldLemmas.Local.{local_with, beyond}
 use Rattle.mesh_hello.proofs.told.receive.is_local_beyond.Goals as goal
 

@@ -1,4 +1,4 @@
-use Rattle.std.specs.Prelude.{Contains}
+use Rattle.mesh_hello.proofs.Common.{Contains}
 use Rattle.mesh_hello.proofs.ToldLemmas.Local.{local_with, local_without}
 use Rattle.mesh_hello.proofs.told.receive.is_local_of.Goals as goal
 

@@ -1,4 +1,4 @@
-use Rattle.std.proofs.Common.{rules}
+use Rattle.mesh_hello.proofs.Common.{rules}
 use Rattle.mesh_hello.proofs.ToldLemmas.Local.{local_row}
 use Rattle.mesh_hello.proofs.told.receive.local_host.Goals as goal
 

@@ -1,5 +1,5 @@
 use Rattle.mesh_hello.proofs.ToldLemmas.Local.{fault_own, fault_nameless, fault_none}
-use Rattle.std.proofs.lemmas.Bool.{iff_false}
+use Rattle.mesh_hello.proofs.Common.{iff_false}
 use Rattle.mesh_hello.proofs.told.receive.receive_fault.Goals as goal
 
 pub returns-then-is_own : goal.returns-then-is_own

@@ -1,4 +1,4 @@
-use Rattle.std.proofs.Common.{sym}
+use Rattle.mesh_hello.proofs.Common.{sym}
 use Rattle.mesh_hello.proofs.told.receive.sending.Goals as goal
 
 pub returns-in-Some : goal.returns-in-Some

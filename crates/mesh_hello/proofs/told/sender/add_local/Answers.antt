@@ -1,4 +1,4 @@
-use Rattle.std.proofs.Common.{refl}
+use Rattle.mesh_hello.proofs.Common.{refl}
 use Rattle.mesh_hello.proofs.ToldLemmas.Senders.{adds_local}
 use Rattle.mesh_hello.proofs.told.sender.add_local.Goals as goal
 

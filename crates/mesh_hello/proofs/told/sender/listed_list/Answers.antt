@@ -1,4 +1,4 @@
-use Rattle.std.proofs.Common.{◌++◌, ◌∙◌, ap}
+use Rattle.mesh_hello.proofs.Common.{◌++◌, ◌∙◌, ap}
 use Rattle.mesh_hello.proofs.Collect.{iff_on}
 use Rattle.mesh_hello.proofs.ToldLemmas.Senders.{lists_all}
 use Rattle.mesh_hello.proofs.told.sender.listed_list.Goals as goal

@@ -1,7 +1,4 @@
-use Rattle.std.proofs.Common.{◌≡◌, ◌↔◌, length, Contains, slice_get, Some, ap, subst, arith}
-use Rattle.mesh_atoms.specs.declared.addr.Addr4.{Addr4}
-use Rattle.mesh_atoms.specs.declared.hello.HelloRow.{HelloRow}
-use Rattle.mesh_hello.specs.Told.Sender.{IsLocalAddress}
+use Rattle.mesh_hello.proofs.Common.{◌≡◌, ◌↔◌, length, Contains, slice_get, Some, ap, subst, arith, Addr4, HelloRow, IsLocalAddress}
 use Rattle.mesh_hello.proofs.Collect.{SomeBelow, gathers_more, item_at}
 use Rattle.mesh_hello.proofs.ToldLemmas.Senders.{tells_local}
 use Rattle.mesh_hello.proofs.told.sender.local_addresses.Goals as goal

@@ -1,7 +1,4 @@
-use Rattle.std.proofs.Common.{◌↔◌}
-use Rattle.std.specs.Prelude.{Contains}
-use Rattle.mesh_atoms.specs.declared.addr.Addr4.{Addr4}
-use Rattle.mesh_hello.specs.Told.Sender.{IsLocalAddress}
+use Rattle.mesh_hello.proofs.Common.{◌↔◌, Contains, Addr4, IsLocalAddress}
 use Rattle.mesh_hello.proofs.Collect.{SomeBelow}
 use Rattle.mesh_hello.proofs.told.sender.local_addresses.Given as goal
 

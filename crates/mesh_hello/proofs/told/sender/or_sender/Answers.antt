@@ -1,4 +1,4 @@
-use Rattle.std.proofs.Common.{arith}
+use Rattle.mesh_hello.proofs.Common.{arith}
 use Rattle.mesh_hello.proofs.ToldLemmas.Senders.{or_sender_some}
 use Rattle.mesh_hello.proofs.told.sender.or_sender.Goals as goal
 

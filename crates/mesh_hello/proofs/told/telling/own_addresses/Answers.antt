@@ -1,6 +1,4 @@
-use Rattle.std.proofs.Common.{◌≡◌, ◌↔◌, ◌++◌, ◌∙◌, length, Contains, slice_get, Some, ap, subst, arith}
-use Rattle.mesh_atoms.specs.declared.addr.Addr4.{Addr4}
-use Rattle.mesh_atoms.specs.declared.settings.Interface.{Interface}
+use Rattle.mesh_hello.proofs.Common.{◌≡◌, ◌↔◌, ◌++◌, ◌∙◌, length, Contains, slice_get, Some, ap, subst, arith, Addr4, Interface}
 use Rattle.mesh_hello.proofs.Collect.{SomeBelow, gathers_more, item_at, adds_all, iff_on}
 use Rattle.mesh_hello.proofs.ToldLemmas.Mines.{all_interfaces}
 use Rattle.mesh_hello.proofs.told.telling.own_addresses.Goals as goal

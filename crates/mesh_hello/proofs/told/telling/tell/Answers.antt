@@ -1,14 +1,7 @@
-use Rattle.std.proofs.Common.{◌≡◌, ◌<◌, ◌⊎◌, ◌↔◌, List, length, Contains, slice_get, Some, None, IsTrue, refl, inl, ap, sym, subst, arith}
-use Rattle.mesh_atoms.specs.declared.addr.Addr4.{Addr4}
-use Rattle.mesh_atoms.specs.declared.hello.LocalIf.TheVariants.{This}
-use Rattle.mesh_atoms.specs.declared.settings.Interface.{Interface}
-use Rattle.mesh_atoms.specs.HelloTold.{TellsLocal, IsHandedIn}
-use Rattle.mesh_atoms.specs.State.{HasAddress, HasAddressOn}
+use Rattle.mesh_hello.proofs.Common.{◌≡◌, ◌<◌, ◌⊎◌, ◌↔◌, List, length, Contains, slice_get, Some, None, IsTrue, refl, inl, ap, sym, subst, arith, Addr4, This, Interface, TellsLocal, IsHandedIn, HasAddress, HasAddressOn, same_some, on_interface}
 use Rattle.mesh_hello.proofs.Collect.{item_at, iff_on}
 use Rattle.mesh_hello.proofs.ToldLemmas.Mines.{row_of, sending_some, more_some}
 use Rattle.mesh_hello.proofs.told.telling.tell.Goals as goal
-use Rattle.mesh_atoms.proofs.Options.{same_some}
-use Rattle.mesh_atoms.proofs.Values.{on_interface}
 
 pub first_of-requires : goal.first_of-requires
 first_of-requires c = subst (λ (xs : List Addr4). 0 < length xs) (sym c.as_slice-2.ensures)

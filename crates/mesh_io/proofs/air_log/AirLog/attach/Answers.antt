@@ -1,8 +1,4 @@
-use Rattle.std.proofs.Common.{◌≡◌, ◌+◌, List, length, sym, ap, ◌∙◌, arith}
-use Rattle.std.proofs.lemmas.List.{append-nil, length-append}
-use Rattle.mesh_atoms.specs.declared.addr.Endpoint.{Endpoint}
-use Rattle.mesh_io.specs.Airs.Report.{Attached_to}
-use Rattle.mesh_io.specs.MemAir.{LogState}
+use Rattle.mesh_io.proofs.Common.{◌≡◌, ◌+◌, List, length, sym, ap, ◌∙◌, arith, append-nil, length-append, Endpoint, Attached_to, LogState}
 use Rattle.mesh_io.proofs.Stores.{told_on, lying_at, grew_nothing, log_with, roomy_on}
 use Rattle.mesh_io.proofs.air_log.AirLog.attach.Goals as goal
 

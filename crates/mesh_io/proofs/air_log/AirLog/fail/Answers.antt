@@ -1,6 +1,4 @@
-use Rattle.std.proofs.Common.{◌≡◌, refl, sym, ap, arith}
-use Rattle.std.proofs.lemmas.List.{append-nil}
-use Rattle.mesh_io.specs.MemAir.{LogState}
+use Rattle.mesh_io.proofs.Common.{◌≡◌, refl, sym, ap, arith, append-nil, LogState}
 use Rattle.mesh_io.proofs.Stores.{told_on, grew_nothing, log_with, roomy_on}
 use Rattle.mesh_io.proofs.air_log.AirLog.fail.Goals as goal
 

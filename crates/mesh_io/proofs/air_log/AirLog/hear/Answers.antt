@@ -1,5 +1,4 @@
-use Rattle.std.proofs.Common.{◌≡◌, ap, arith}
-use Rattle.mesh_io.specs.MemAir.{LogState}
+use Rattle.mesh_io.proofs.Common.{◌≡◌, ap, arith, LogState}
 use Rattle.mesh_io.proofs.Stores.{roomy_on}
 use Rattle.mesh_io.proofs.air_log.AirLog.hear.Goals as goal
 

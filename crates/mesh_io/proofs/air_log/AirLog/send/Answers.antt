@@ -1,7 +1,4 @@
-use Rattle.std.proofs.Common.{◌≡◌, ℕ, ◌+◌, List, length, sym, ap, ◌∙◌, arith}
-use Rattle.std.proofs.lemmas.List.{append-nil, length-append}
-use Rattle.mesh_io.specs.Airs.Report.{Handed}
-use Rattle.mesh_io.specs.MemAir.{LogState}
+use Rattle.mesh_io.proofs.Common.{◌≡◌, ℕ, ◌+◌, List, length, sym, ap, ◌∙◌, arith, append-nil, length-append, Handed, LogState}
 use Rattle.mesh_io.proofs.Stores.{told_on, lying_at, grew_nothing, log_with, roomy_on}
 use Rattle.mesh_io.proofs.air_log.AirLog.send.Goals as goal
 

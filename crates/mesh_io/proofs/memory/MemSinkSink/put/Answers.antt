@@ -1,4 +1,4 @@
-use Rattle.std.proofs.Common.{◌≡◌, ℕ, refl, sym, arith}
+use Rattle.mesh_io.proofs.Common.{◌≡◌, ℕ, refl, sym, arith}
 use Rattle.mesh_io.specs.declared.sinks.Put.{Put}
 use Rattle.mesh_io.specs.declared.sinks.Put.TheVariants.{Took, Failed}
 use Rattle.mesh_io.proofs.memory.MemSinkSink.put.Goals as goal

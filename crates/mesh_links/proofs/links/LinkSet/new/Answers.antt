@@ -1,5 +1,4 @@
-use Rattle.mesh_atoms.specs.Base.{link_eq}
-use Rattle.mesh_expire.proofs.Laws.{distinct_none}
+use Rattle.mesh_links.proofs.Common.{link_eq, distinct_none}
 use Rattle.mesh_links.proofs.links.LinkSet.new.Goals as goal
 
 pub invariant_of-result : goal.invariant_of-result

@@ -1,5 +1,4 @@
-use Rattle.mesh_atoms.specs.Base.{addr_eq}
-use Rattle.mesh_expire.proofs.Laws.{distinct_none}
+use Rattle.mesh_nbrs.proofs.Common.{addr_eq, distinct_none}
 use Rattle.mesh_nbrs.proofs.losts.LostSet.new.Goals as goal
 
 pub invariant_of-result : goal.invariant_of-result

@@ -1,13 +1,6 @@
-use Rattle.std.proofs.Common.{◌≡◌, ℕ, Bool, true, false, cond, List, Contains, Option, Some, None, refl, ◌∙◌}
-use Rattle.std.specs.Prelude.{◌&&◌, not}
-use Rattle.std.specs.List.{list_any}
-use Rattle.indexmap.specs.IndexSet.{contains}
-use Rattle.mesh_atoms.specs.declared.addr.Addr4.{Addr4}
+use Rattle.mesh_nbrs.proofs.Common.{◌≡◌, ℕ, Bool, true, false, cond, List, Contains, Option, Some, None, refl, ◌∙◌, ◌&&◌, not, list_any, contains, Addr4, addr_eq, addr_equiv, same_addr, on_ok_weaker}
 use Rattle.mesh_atoms.specs.declared.tuples.Lost.{Lost}
-use Rattle.mesh_atoms.specs.Base.{addr_eq}
 use Rattle.mesh_atoms.specs.Live.{SettlesLost, Back, Gone, Stays}
-use Rattle.mesh_atoms.proofs.Lookups.{addr_equiv, same_addr}
-use Rattle.std.proofs.lemmas.Result.{on_ok_weaker}
 use Rattle.mesh_nbrs.proofs.Listed.{contains_of, unlisted_of, listed_where}
 use Rattle.mesh_nbrs.proofs.losts.LostSet.settle_lost.Goals as goal
 

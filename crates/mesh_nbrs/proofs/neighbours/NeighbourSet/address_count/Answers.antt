@@ -1,6 +1,4 @@
-use Rattle.std.specs.Map.{keys_of}
-use Rattle.std.proofs.lemmas.Map.Entries.{length-keys_of}
-use Rattle.std.proofs.Common.{◌∙◌, sym}
+use Rattle.mesh_nbrs.proofs.Common.{keys_of, length-keys_of, ◌∙◌, sym}
 use Rattle.mesh_nbrs.proofs.Owning.{held_by}
 use Rattle.mesh_nbrs.proofs.neighbours.NeighbourSet.address_count.Goals as goal
 

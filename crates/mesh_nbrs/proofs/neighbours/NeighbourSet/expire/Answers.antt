@@ -1,4 +1,4 @@
-use Rattle.std.proofs.lemmas.Result.{on_ok_weaker}
+use Rattle.mesh_nbrs.proofs.Common.{on_ok_weaker}
 use Rattle.mesh_nbrs.proofs.ByAddress.{kept_noted}
 use Rattle.mesh_nbrs.proofs.Owning.{owned_kept}
 use Rattle.mesh_nbrs.proofs.Summaries.{restored}

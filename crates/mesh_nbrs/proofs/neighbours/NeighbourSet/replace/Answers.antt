@@ -1,6 +1,4 @@
-use Rattle.std.proofs.Common.{Some, ap, arith, ◌∙◌}
-use Rattle.mesh_atoms.specs.declared.tuples.Neighbour.{Neighbour}
-use Rattle.mesh_atoms.proofs.Lookups.{addr_equiv, same_addr}
+use Rattle.mesh_nbrs.proofs.Common.{Some, ap, arith, ◌∙◌, Neighbour, addr_equiv, same_addr}
 use Rattle.mesh_nbrs.proofs.Sets.{set_there, set_elsewhere}
 use Rattle.mesh_nbrs.proofs.Spoken.{others_kept, only_this}
 use Rattle.mesh_nbrs.proofs.neighbours.NeighbourSet.replace.Goals as goal

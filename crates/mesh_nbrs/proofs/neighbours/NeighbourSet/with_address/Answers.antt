@@ -1,4 +1,4 @@
-use Rattle.std.proofs.Common.{sym}
+use Rattle.mesh_nbrs.proofs.Common.{sym}
 use Rattle.mesh_nbrs.proofs.Owning.{none_with, noted_stands, noted_at, sole, if_none_holds}
 use Rattle.mesh_nbrs.proofs.neighbours.NeighbourSet.with_address.Goals as goal
 

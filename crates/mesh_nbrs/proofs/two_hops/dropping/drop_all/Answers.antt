@@ -1,4 +1,4 @@
-use Rattle.std.proofs.Common.{◌-◌, refl, sym, ◌∙◌, arith}
+use Rattle.mesh_nbrs.proofs.Common.{◌-◌, refl, sym, ◌∙◌, arith}
 use Rattle.mesh_nbrs.proofs.Dropping.{starts, stays, takes, all_dropped}
 use Rattle.mesh_nbrs.proofs.two_hops.dropping.drop_all.Goals as goal
 

@@ -1,8 +1,6 @@
-use Rattle.std.proofs.Common.{◌≡◌, Bool, ◌&&◌, Option, Some, eqb, ap, ◌∙◌, Decides}
+use Rattle.mesh_nbrs.proofs.Common.{◌≡◌, Bool, ◌&&◌, Option, Some, eqb, ap, ◌∙◌, Decides, Metric, TwoHop}
 use Rattle.std.specs.Option.{option_eq}
 use Rattle.std.proofs.lemmas.Bool.Decides.{Decides-and, Decides-like}
-use Rattle.mesh_atoms.specs.declared.codes.metric.Metric.{Metric}
-use Rattle.mesh_atoms.specs.declared.tuples.TwoHop.{TwoHop}
 use Rattle.mesh_atoms.proofs.Rows.{metrics, options}
 use Rattle.mesh_nbrs.proofs.two_hops.two_hops.is_tuple.Goals as goal
 

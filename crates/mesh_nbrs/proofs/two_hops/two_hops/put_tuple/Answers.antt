@@ -1,8 +1,4 @@
-use Rattle.std.proofs.Common.{ℕ, sym, ◌∙◌}
-use Rattle.mesh_atoms.specs.declared.tuples.TwoHop.{TwoHop}
-use Rattle.mesh_atoms.proofs.Lookups.{two_hop_equiv}
-use Rattle.mesh_atoms.proofs.Options.{on_err_of}
-use Rattle.mesh_expire.proofs.Laws.{renewed, renewed-none}
+use Rattle.mesh_nbrs.proofs.Common.{ℕ, sym, ◌∙◌, TwoHop, two_hop_equiv, on_err_of, renewed, renewed-none}
 use Rattle.mesh_nbrs.proofs.KnownLinks.{links_put, links_more}
 use Rattle.mesh_nbrs.proofs.two_hops.two_hops.put_tuple.Goals as goal
 

@@ -1,7 +1,4 @@
-use Rattle.std.proofs.Common.{subst}
-use Rattle.std.specs.Prelude.{List}
-use Rattle.mesh_atoms.specs.declared.tuples.LinkKey.{LinkKey}
-use Rattle.mesh_nhdp.specs.Calls.{DropsEnded}
+use Rattle.mesh_nhdp.proofs.Common.{subst, List, LinkKey, DropsEnded}
 use Rattle.mesh_nhdp.proofs.interfaces.ExpiryChange.change.Goals as goal
 
 pub returns : goal.returns

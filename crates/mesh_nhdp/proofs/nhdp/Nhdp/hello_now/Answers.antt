@@ -1,9 +1,5 @@
-use Rattle.std.proofs.Common.{◌∙◌, ap, refl}
-use Rattle.std.proofs.lemmas.Result.{IfOk-weaker}
-use Rattle.mesh_atoms.specs.State.{Neighbourhood}
-use Rattle.mesh_nhdp.specs.NhdpState.{NhdpState}
+use Rattle.mesh_nhdp.proofs.Common.{◌∙◌, ap, refl, IfOk-weaker, Neighbourhood, NhdpState, few_rows}
 use Rattle.mesh_nhdp.proofs.InterfaceTables.{apart_held, seen_held}
-use Rattle.mesh_hello.proofs.SayingLemmas.RowCounts.{few_rows}
 use Rattle.mesh_hello.proofs.SayingLemmas.OwnRows.{own_rows}
 use Rattle.mesh_nhdp.proofs.nhdp.Nhdp.hello_now.Goals as goal
 

@@ -1,5 +1,4 @@
-use Rattle.std.proofs.lemmas.Option.{none-some}
-use Rattle.mesh_links.specs.Links.{Unlinked}
+use Rattle.mesh_nhdp.proofs.Common.{none-some, Unlinked}
 use Rattle.mesh_nhdp.proofs.nhdp.Nhdp.symmetric_of.Goals as goal
 
 pub returns-in-None : goal.returns-in-None

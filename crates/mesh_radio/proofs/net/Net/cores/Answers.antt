@@ -1,4 +1,4 @@
-use Rattle.std.proofs.Common.{refl}
+use Rattle.mesh_radio.proofs.Common.{refl}
 use Rattle.mesh_radio.proofs.net.Net.cores.Goals as goal
 
 pub returns : goal.returns

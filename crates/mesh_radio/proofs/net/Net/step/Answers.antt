@@ -1,5 +1,4 @@
-use Rattle.std.proofs.Common.{◌≡◌, ap, refl}
-use Rattle.mesh_radio.specs.Value.{NetValue, states_of}
+use Rattle.mesh_radio.proofs.Common.{◌≡◌, ap, refl, NetValue, states_of}
 use Rattle.mesh_radio.proofs.Happenings.{told_step, told_named, told_packets, sound_unless_spent}
 use Rattle.mesh_radio.proofs.net.Net.step.Goals as goal
 

@@ -1,10 +1,4 @@
-use Rattle.std.proofs.Common.{◌≡◌, ◌≤◌, sym, ◌∙◌, subst, length, Some}
-use Rattle.std.specs.Prelude.{slice_get}
-use Rattle.std.proofs.lemmas.List.{take_all}
-use Rattle.std.proofs.lemmas.Option.{slice_get_within, get_or_from_slice_get}
-use Rattle.mesh_machine.specs.declared.frame.Frame.{Frame}
-use Rattle.mesh_machine.specs.Sendable.{IsSendable}
-use Rattle.mesh_machine.proofs.Places.{none_past}
+use Rattle.mesh_radio.proofs.Common.{◌≡◌, ◌≤◌, sym, ◌∙◌, subst, length, Some, slice_get, take_all, slice_get_within, get_or_from_slice_get, Frame, IsSendable, none_past}
 use Rattle.mesh_radio.proofs.TrafficLemmas.Sending.{sent_more, one_sent, one_taken, all_sent}
 use Rattle.mesh_radio.proofs.traffic.traffic.send_all.Goals as goal
 use Rattle.mesh_radio.proofs.traffic.traffic.send_all.Goals.{else-loop-i-test, then-loop-i-test+in_default}

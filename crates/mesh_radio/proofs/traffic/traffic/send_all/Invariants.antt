@@ -1,6 +1,4 @@
-use Rattle.std.specs.Prelude.{map}
-use Rattle.mesh_radio.specs.Occurrences.{emission_of}
-use Rattle.mesh_radio.specs.Traffic.Traffic.{traffic_of}
+use Rattle.mesh_radio.proofs.Common.{map, emission_of, traffic_of}
 use Rattle.mesh_radio.proofs.TrafficLemmas.Sending.{Sending}
 use Rattle.mesh_radio.proofs.traffic.traffic.send_all.Given as goal
 

@@ -1,8 +1,4 @@
-use Rattle.std.proofs.Common.{ℕ, ◌+◌, List, sym, ◌∙◌, ap, refl, true≢false}
-use Rattle.std.proofs.lemmas.List.{drop_all}
-use Rattle.mesh_machine.specs.Traffic.{with_delivery}
-use Rattle.mesh_radio.specs.Traffic.Traffic.{traffic_of}
-use Rattle.mesh_machine.proofs.Spreading.{on_lost, on_carried, all_spread}
+use Rattle.mesh_radio.proofs.Common.{ℕ, ◌+◌, List, sym, ◌∙◌, ap, refl, true≢false, drop_all, with_delivery, traffic_of, on_lost, on_carried, all_spread}
 use Rattle.mesh_radio.proofs.traffic.traffic.spread.Goals as goal
 use Rattle.mesh_radio.proofs.traffic.traffic.spread.Goals.{then-loses+in_ok-push, else-loses+in_ok-share+in_ok-put}
 

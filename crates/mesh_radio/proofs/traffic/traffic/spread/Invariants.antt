@@ -1,5 +1,4 @@
-use Rattle.mesh_radio.specs.Traffic.Traffic.{traffic_of}
-use Rattle.mesh_machine.proofs.Spreading.{Spreading}
+use Rattle.mesh_radio.proofs.Common.{traffic_of, Spreading}
 use Rattle.mesh_radio.proofs.traffic.traffic.spread.Given as goal
 
 abbrev pub invariant-loop-number : goal.invariant-loop-number

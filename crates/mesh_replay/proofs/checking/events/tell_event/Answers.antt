@@ -1,6 +1,4 @@
-use Rattle.std.proofs.Common.{subst}
-use Rattle.mesh_atoms.proofs.Options.{if_ok_weaker}
-use Rattle.mesh_replay.specs.Checking.RelayLines.{TellsRelays}
+use Rattle.mesh_replay.proofs.Common.{subst, if_ok_weaker, TellsRelays}
 use Rattle.mesh_replay.proofs.CheckingLemmas.Opened.{event_not, event_told, in_again, lines_again, sound_again}
 use Rattle.mesh_replay.proofs.checking.events.tell_event.Goals as goal
 

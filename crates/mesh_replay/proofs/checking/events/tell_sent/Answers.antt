@@ -1,7 +1,4 @@
-use Rattle.std.proofs.Common.{◌++◌, map}
-use Rattle.mesh_trace.specs.Positions.Standing.{Sent}
-use Rattle.mesh_replay.specs.Checking.Kept.{tc_items}
-use Rattle.mesh_atoms.proofs.Options.{if_ok_weaker}
+use Rattle.mesh_replay.proofs.Common.{◌++◌, map, Sent, tc_items, if_ok_weaker}
 use Rattle.mesh_replay.proofs.CheckingLemmas.Telling.{tells_append, tells_not_behind, tells_where}
 use Rattle.mesh_replay.proofs.checking.events.tell_sent.Goals as goal
 

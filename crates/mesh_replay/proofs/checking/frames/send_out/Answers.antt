@@ -1,7 +1,4 @@
-use Rattle.std.proofs.Common.{List, ℕ, map, [], subst}
-use Rattle.mesh_atoms.proofs.Options.{if_ok_weaker}
-use Rattle.mesh_trace.specs.Positions.Standing.{Lost}
-use Rattle.mesh_replay.specs.Checking.Cases.{AnyState, TellsItems}
+use Rattle.mesh_replay.proofs.Common.{List, ℕ, map, [], subst, if_ok_weaker, Lost, AnyState, TellsItems}
 use Rattle.mesh_replay.proofs.checking.frames.send_out.Goals as goal
 
 pub returns : goal.returns

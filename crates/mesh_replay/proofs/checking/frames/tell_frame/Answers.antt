@@ -1,7 +1,4 @@
-use Rattle.std.proofs.Common.{◌≡◌, ℕ, List, rules, subst}
-use Rattle.mesh_atoms.proofs.Options.{if_ok_weaker}
-use Rattle.mesh_trace.specs.machine.declared.frame.Frame.{Frame}
-use Rattle.mesh_replay.specs.Checking.Texts.{TakesText, sent_text}
+use Rattle.mesh_replay.proofs.Common.{◌≡◌, ℕ, List, rules, subst, if_ok_weaker, Frame, TakesText, sent_text}
 use Rattle.mesh_replay.proofs.FramesLemmas.Items.{sent_told, sent_not}
 use Rattle.mesh_replay.proofs.checking.frames.tell_frame.Goals as goal
 

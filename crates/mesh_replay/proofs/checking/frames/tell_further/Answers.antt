@@ -1,4 +1,4 @@
-use Rattle.std.proofs.Common.{◌<◌, length, arith}
+use Rattle.mesh_replay.proofs.Common.{◌<◌, length, arith}
 use Rattle.mesh_replay.proofs.CheckingLemmas.Telling.{tells_more, tells_nowhere, tells_stop, tells_to}
 use Rattle.mesh_replay.proofs.FramesLemmas.Items.{each_done, each_more}
 use Rattle.mesh_replay.proofs.checking.frames.tell_further.Goals as goal

@@ -1,7 +1,4 @@
-use Rattle.std.specs.Prelude.{map, drop, length, true}
-use Rattle.mesh_trace.specs.machine.Frames.{on_each}
-use Rattle.mesh_trace.specs.Positions.Standing.{Sent}
-use Rattle.mesh_replay.specs.Checking.Cases.{AnyState, TellsItems}
+use Rattle.mesh_replay.proofs.Common.{map, drop, length, true, on_each, Sent, AnyState, TellsItems}
 use Rattle.mesh_replay.proofs.checking.frames.tell_further.Given as goal
 
 abbrev pub invariant-loop-iface : goal.invariant-loop-iface

@@ -1,6 +1,4 @@
-use Rattle.std.proofs.Common.{ap, map}
-use Rattle.std.proofs.lemmas.List.{drop_all, drop_more}
-use Rattle.mesh_trace.specs.Positions.Standing.{Lost}
+use Rattle.mesh_replay.proofs.Common.{ap, map, drop_all, drop_more, Lost}
 use Rattle.mesh_replay.proofs.CheckingLemmas.Telling.{tells_more, tells_nowhere, tells_stop, tells_to}
 use Rattle.mesh_replay.proofs.FramesLemmas.Items.{loss_told}
 use Rattle.mesh_replay.proofs.checking.frames.tell_losses.Goals as goal

@@ -1,6 +1,4 @@
-use Rattle.std.specs.Prelude.{map, drop, true}
-use Rattle.mesh_trace.specs.Positions.Standing.{Lost}
-use Rattle.mesh_replay.specs.Checking.Cases.{AnyState, TellsItems}
+use Rattle.mesh_replay.proofs.Common.{map, drop, true, Lost, AnyState, TellsItems}
 use Rattle.mesh_replay.proofs.checking.frames.tell_losses.Given as goal
 
 abbrev pub invariant-loop-arc : goal.invariant-loop-arc

@@ -1,8 +1,4 @@
-use Rattle.std.proofs.Common.{◌≡◌, rules, arith, None, ap, map}
-use Rattle.std.specs.Prelude.{slice_get}
-use Rattle.std.proofs.lemmas.List.{drop_all}
-use Rattle.mesh_trace.specs.Positions.Standing.{Sent}
-use Rattle.mesh_trace.proofs.machine.Places.{none_past}
+use Rattle.mesh_replay.proofs.Common.{◌≡◌, rules, arith, None, ap, map, slice_get, drop_all, Sent, none_past}
 use Rattle.mesh_replay.proofs.CheckingLemmas.Telling.{tells_more, tells_nowhere, tells_stop, tells_to}
 use Rattle.mesh_replay.proofs.FramesLemmas.Items.{frames_from}
 use Rattle.mesh_replay.proofs.checking.frames.tell_outbox.Goals as goal

@@ -1,6 +1,4 @@
-use Rattle.std.specs.Prelude.{map, drop, true}
-use Rattle.mesh_trace.specs.Positions.Standing.{Sent}
-use Rattle.mesh_replay.specs.Checking.Cases.{AnyState, TellsItems}
+use Rattle.mesh_replay.proofs.Common.{map, drop, true, Sent, AnyState, TellsItems}
 use Rattle.mesh_replay.proofs.checking.frames.tell_outbox.Given as goal
 
 abbrev pub invariant-loop-i : goal.invariant-loop-i

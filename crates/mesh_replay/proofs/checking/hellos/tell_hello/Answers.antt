@@ -1,5 +1,4 @@
-use Rattle.std.proofs.Common.{◌≡◌, List, ℕ, rules, ◌∙◌, ap, Some}
-use Rattle.mesh_atoms.proofs.Options.{if_ok_weaker}
+use Rattle.mesh_replay.proofs.Common.{◌≡◌, List, ℕ, rules, ◌∙◌, ap, Some, if_ok_weaker}
 use Rattle.mesh_replay.proofs.FramesLemmas.Items.{hello_told, hello_not}
 use Rattle.mesh_replay.proofs.checking.hellos.tell_hello.Goals as goal
 

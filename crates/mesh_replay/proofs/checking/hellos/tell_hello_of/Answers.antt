@@ -1,6 +1,4 @@
-use Rattle.std.proofs.Common.{sym, subst}
-use Rattle.mesh_atoms.proofs.Options.{if_ok_weaker}
-use Rattle.mesh_replay.specs.Checking.Sending.{HasHello}
+use Rattle.mesh_replay.proofs.Common.{sym, subst, if_ok_weaker, HasHello}
 use Rattle.mesh_replay.proofs.CheckingLemmas.Telling.{tells_where}
 use Rattle.mesh_replay.proofs.checking.hellos.tell_hello_of.Goals as goal
 

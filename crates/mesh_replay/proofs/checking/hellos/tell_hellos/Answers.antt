@@ -1,5 +1,4 @@
-use Rattle.std.proofs.Common.{length, ap, arith}
-use Rattle.mesh_atoms.specs.declared.settings.RouterSettings.{RouterSettings}
+use Rattle.mesh_replay.proofs.Common.{length, ap, arith, RouterSettings}
 use Rattle.mesh_replay.proofs.CheckingLemmas.Telling.{tells_more, tells_nowhere, tells_stop, tells_to}
 use Rattle.mesh_replay.proofs.FramesLemmas.Items.{hellos_done, hellos_more}
 use Rattle.mesh_replay.proofs.checking.hellos.tell_hellos.Goals as goal

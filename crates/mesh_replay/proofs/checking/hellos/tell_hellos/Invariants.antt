@@ -1,8 +1,4 @@
-use Rattle.std.proofs.Common.{◌≡◌, map, drop, true}
-use Rattle.std.specs.List.{enumerate_from}
-use Rattle.mesh_trace.specs.Positions.Standing.{Hello}
-use Rattle.mesh_replay.specs.Checking.Cases.{TellsItems}
-use Rattle.mesh_replay.specs.Checking.Kept.{hello_items}
+use Rattle.mesh_replay.proofs.Common.{◌≡◌, map, drop, true, enumerate_from, Hello, TellsItems, hello_items}
 use Rattle.mesh_replay.proofs.checking.hellos.tell_hellos.Given as goal
 
 abbrev pub invariant-loop-iface : goal.invariant-loop-iface

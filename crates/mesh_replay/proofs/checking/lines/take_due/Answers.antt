@@ -1,5 +1,4 @@
-use Rattle.std.proofs.Common.{◌++◌, refl, ◌∙◌, ap, List, ℕ}
-use Rattle.mesh_replay.specs.Checking.Texts.{text_of}
+use Rattle.mesh_replay.proofs.Common.{◌++◌, refl, ◌∙◌, ap, List, ℕ, text_of}
 use Rattle.mesh_replay.proofs.CheckingLemmas.Texts.{takes_text}
 use Rattle.mesh_replay.proofs.checking.lines.take_due.Goals as goal
 

@@ -1,5 +1,4 @@
-use Rattle.std.proofs.Common.{refl}
-use Rattle.mesh_trace.proofs.machine.Arcs.{arc_ends}
+use Rattle.mesh_replay.proofs.Common.{refl, arc_ends}
 use Rattle.mesh_replay.proofs.CheckingLemmas.Opened.{read_at}
 use Rattle.mesh_replay.proofs.checking.next.hearing_of.Goals as goal
 

@@ -1,7 +1,4 @@
-use Rattle.std.proofs.Common.{◌<◌, ◌≤◌, All}
-use Rattle.std.specs.Prelude.{min}
-use Rattle.mesh_trace.specs.machine.Traffic.{Delivery}
-use Rattle.mesh_replay.specs.Traffic.Air.{delivery_of}
+use Rattle.mesh_replay.proofs.Common.{◌<◌, ◌≤◌, All, min, Delivery, delivery_of}
 use Rattle.mesh_replay.proofs.SceneLemmas.Ticks.{found_next, hearing_next, taken_arc, taken_progress}
 use Rattle.mesh_replay.proofs.checking.next.next_of.Goals as goal
 

@@ -1,8 +1,4 @@
-use Rattle.std.proofs.Common.{◌≡◌, ℕ, List, sym, ◌∙◌, ap, subst, Some, Option}
-use Rattle.std.specs.Prelude.{IfSome}
-use Rattle.std.proofs.lemmas.Bool.{false≢true}
-use Rattle.hex.specs.Hex.{encode_lower}
-use Rattle.mesh_atoms.proofs.Options.{if_ok_weaker}
+use Rattle.mesh_replay.proofs.Common.{◌≡◌, ℕ, List, sym, ◌∙◌, ap, subst, Some, Option, IfSome, false≢true, encode_lower, if_ok_weaker}
 use Rattle.mesh_replay.proofs.FramesLemmas.Items.{only_octets, no_octets}
 use Rattle.mesh_replay.proofs.checking.octets.octets_in.Goals as goal
 use Rattle.mesh_replay.proofs.checking.octets.octets_in.Goals.{then-is_lower, else-is_lower}

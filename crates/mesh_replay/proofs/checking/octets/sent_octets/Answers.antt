@@ -1,8 +1,4 @@
-use Rattle.std.proofs.Common.{List, ℕ}
-use Rattle.hex.specs.Hex.{encode_lower}
-use Rattle.mesh_atoms.proofs.Options.{if_ok_weaker}
-use Rattle.mesh_texts.specs.Lines.Marks.{face_name}
-use Rattle.mesh_replay.specs.Checking.Sending.{sent_front}
+use Rattle.mesh_replay.proofs.Common.{List, ℕ, encode_lower, if_ok_weaker, face_name, sent_front}
 use Rattle.mesh_replay.proofs.CheckingLemmas.Texts.{reads_none, reads_some}
 use Rattle.mesh_replay.proofs.FramesLemmas.Items.{sent_parts}
 use Rattle.mesh_replay.proofs.checking.octets.sent_octets.Goals as goal

@@ -1,7 +1,4 @@
-use Rattle.std.proofs.Common.{sym, subst}
-use Rattle.std.specs.Prelude.{◌↔◌, IfOk, IsTrue}
-use Rattle.mesh_replay.specs.declared.checking.octets.DueMessage.{DueMessage}
-use Rattle.mesh_replay.specs.Checking.Sending.{WritesSent}
+use Rattle.mesh_replay.proofs.Common.{sym, subst, ◌↔◌, IfOk, IsTrue, DueMessage, WritesSent}
 use Rattle.mesh_replay.proofs.checking.octets.spells.Goals as goal
 
 pub returns-in-Hello : goal.returns-in-Hello

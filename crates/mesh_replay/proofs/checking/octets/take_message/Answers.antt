@@ -1,6 +1,4 @@
-use Rattle.std.proofs.Common.{◌≡◌, List, ℕ, subst}
-use Rattle.std.specs.Prelude.{◌↔◌, IsTrue}
-use Rattle.mesh_replay.specs.Checking.Sending.{WritesSent}
+use Rattle.mesh_replay.proofs.Common.{◌≡◌, List, ℕ, subst, ◌↔◌, IsTrue, WritesSent}
 use Rattle.mesh_replay.proofs.CheckingLemmas.Texts.{takes_none, takes_not, takes_one}
 use Rattle.mesh_replay.proofs.FramesLemmas.Items.{written_octets}
 use Rattle.mesh_replay.proofs.checking.octets.take_message.Goals as goal

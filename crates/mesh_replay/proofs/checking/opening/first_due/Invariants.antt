@@ -1,5 +1,4 @@
-use Rattle.std.specs.Prelude.{map}
-use Rattle.mesh_trace.proofs.machine.FirstDue.{IsFirstOf}
+use Rattle.mesh_replay.proofs.Common.{map, IsFirstOf}
 use Rattle.mesh_replay.proofs.checking.opening.first_due.Given as goal
 
 abbrev pub invariant-loop-router : goal.invariant-loop-router

@@ -1,4 +1,4 @@
-use Rattle.std.proofs.Common.{refl}
+use Rattle.mesh_replay.proofs.Common.{refl}
 use Rattle.mesh_replay.proofs.checking.opening.opening_net.Goals as goal
 
 pub returns : goal.returns

@@ -1,4 +1,4 @@
-use Rattle.std.proofs.Common.{◌≡◌, arith, length}
+use Rattle.mesh_replay.proofs.Common.{◌≡◌, arith, length}
 use Rattle.mesh_replay.proofs.SceneLemmas.Beginning.{none_opening, opening_more}
 use Rattle.mesh_replay.proofs.checking.opening.routers_of.Goals as goal
 

@@ -1,5 +1,4 @@
-use Rattle.std.specs.Prelude.{map}
-use Rattle.mesh_replay.specs.Checking.Opening.{AreAtOpeningUpTo}
+use Rattle.mesh_replay.proofs.Common.{map, AreAtOpeningUpTo}
 use Rattle.mesh_replay.proofs.checking.opening.routers_of.Given as goal
 
 abbrev pub invariant-loop-one : goal.invariant-loop-one

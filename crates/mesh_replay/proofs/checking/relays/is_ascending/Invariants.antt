@@ -1,5 +1,4 @@
-use Rattle.std.proofs.Common.{ℕ, ◌<◌, length, get_or}
-use Rattle.mesh_atoms.specs.declared.addr.Addr4.{Addr4}
+use Rattle.mesh_replay.proofs.Common.{ℕ, ◌<◌, length, get_or, Addr4}
 use Rattle.mesh_replay.proofs.checking.relays.is_ascending.Given as goal
 
 abbrev pub invariant-loop-i : goal.invariant-loop-i

@@ -1,6 +1,4 @@
-use Rattle.std.proofs.Common.{subst}
-use Rattle.std.specs.Prelude.{◌↔◌, IsTrue}
-use Rattle.mesh_replay.specs.Checking.RelayLines.{MayTell}
+use Rattle.mesh_replay.proofs.Common.{subst, ◌↔◌, IsTrue, MayTell}
 use Rattle.mesh_replay.proofs.CheckingLemmas.Texts.{takes_none, takes_not, takes_one}
 use Rattle.mesh_replay.proofs.RelaysLemmas.Chosen.{all_wide, are_wide}
 use Rattle.mesh_replay.proofs.checking.relays.other_relays.Goals as goal

@@ -1,7 +1,4 @@
-use Rattle.std.proofs.Common.{refl, ◌∙◌, ap, ◌++◌, List, ℕ}
-use Rattle.mesh_atoms.proofs.Options.{if_ok_weaker}
-use Rattle.mesh_texts.specs.Lines.Marks.{relays_text}
-use Rattle.mesh_replay.specs.Checking.Texts.{front_text}
+use Rattle.mesh_replay.proofs.Common.{refl, ◌∙◌, ap, ◌++◌, List, ℕ, if_ok_weaker, relays_text, front_text}
 use Rattle.mesh_replay.proofs.CheckingLemmas.Texts.{reads_none, reads_some}
 use Rattle.mesh_replay.proofs.checking.relays.relays_next.Goals as goal
 

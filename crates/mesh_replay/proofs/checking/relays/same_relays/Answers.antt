@@ -1,7 +1,4 @@
-use Rattle.std.proofs.Common.{List, Some, sym, ◌∙◌, ap}
-use Rattle.mesh_atoms.specs.declared.addr.Addr4.{Addr4}
-use Rattle.mesh_replay.specs.Checking.RelayLines.{again}
-use Rattle.mesh_replay.specs.Checking.Texts.{told_text}
+use Rattle.mesh_replay.proofs.Common.{List, Some, sym, ◌∙◌, ap, Addr4, again, told_text}
 use Rattle.mesh_replay.proofs.CheckingLemmas.Texts.{takes_nothing, takes_other}
 use Rattle.mesh_replay.proofs.checking.relays.same_relays.Goals as goal
 

@@ -1,6 +1,4 @@
-use Rattle.std.proofs.Common.{◌≡◌, ◌<◌, ℕ, length, ap, subst, arith}
-use Rattle.mesh_atoms.specs.declared.settings.RouterSettings.{RouterSettings}
-use Rattle.mesh_replay.specs.Checking.RelayLines.{HasTold}
+use Rattle.mesh_replay.proofs.Common.{◌≡◌, ◌<◌, ℕ, length, ap, subst, arith, RouterSettings, HasTold}
 use Rattle.mesh_replay.proofs.RelaysLemmas.Telling.{stops_flooding, told_more, told_nothing}
 use Rattle.mesh_replay.proofs.checking.relays.tell_flooding.Goals as goal
 

@@ -1,4 +1,4 @@
-use Rattle.mesh_replay.specs.Checking.RelayLines.{HasTold}
+use Rattle.mesh_replay.proofs.Common.{HasTold}
 use Rattle.mesh_replay.proofs.checking.relays.tell_flooding.Given as goal
 
 abbrev pub invariant-loop-iface : goal.invariant-loop-iface

@@ -1,5 +1,4 @@
-use Rattle.std.proofs.Common.{refl, subst}
-use Rattle.mesh_replay.specs.Checking.RelayLines.{TellsFlooding}
+use Rattle.mesh_replay.proofs.Common.{refl, subst, TellsFlooding}
 use Rattle.mesh_replay.proofs.RelaysLemmas.Telling.{stops_routing, told_all}
 use Rattle.mesh_replay.proofs.checking.relays.tell_relays.Goals as goal
 

@@ -1,6 +1,4 @@
-use Rattle.mesh_atoms.proofs.Options.{if_ok_weaker}
-use Rattle.mesh_trace.proofs.SpellingLemmas.Pairs.{is_nothing}
-use Rattle.mesh_replay.specs.Checking.RelayLines.{MayTell}
+use Rattle.mesh_replay.proofs.Common.{if_ok_weaker, is_nothing, MayTell}
 use Rattle.mesh_replay.proofs.CheckingLemmas.Texts.{takes_later, takes_so}
 use Rattle.mesh_replay.proofs.RelaysLemmas.Chosen.{again_may}
 use Rattle.mesh_replay.proofs.checking.relays.told_relays.Goals as goal

@@ -1,6 +1,4 @@
-use Rattle.std.proofs.Common.{◌∙◌, inl, inr, refl}
-use Rattle.std.proofs.lemmas.Bool.{false≢true}
-use Rattle.mesh_bases.proofs.RowMoments.{some_or_none}
+use Rattle.mesh_replay.proofs.Common.{◌∙◌, inl, inr, refl, false≢true, some_or_none}
 use Rattle.mesh_replay.proofs.checking.renewal.begin.Goals as goal
 
 pub returns-then-quiet : goal.returns-then-quiet

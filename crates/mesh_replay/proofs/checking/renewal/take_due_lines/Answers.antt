@@ -1,7 +1,4 @@
-use Rattle.std.proofs.Common.{ℕ, ◌∙◌, ap, refl, subst, sym}
-use Rattle.mesh_trace.specs.Positions.Due.{TcsDue}
-use Rattle.mesh_bases.specs.declared.derived.Derived.{Derived}
-use Rattle.mesh_replay.specs.Checking.Kept.{state_of, tc_items}
+use Rattle.mesh_replay.proofs.Common.{ℕ, ◌∙◌, ap, refl, subst, sym, TcsDue, Derived, state_of, tc_items}
 use Rattle.mesh_replay.proofs.checking.renewal.take_due_lines.Goals as goal
 
 pub returns : goal.returns

@@ -1,5 +1,4 @@
-use Rattle.std.proofs.Common.{◌∙◌, arith, sym}
-use Rattle.mesh_trace.specs.Positions.Due.{Hellos_early, Hellos_due}
+use Rattle.mesh_replay.proofs.Common.{◌∙◌, arith, sym, Hellos_early, Hellos_due}
 use Rattle.mesh_replay.proofs.checking.renewal.take_hellos.Goals as goal
 
 pub returns-then-derived-clause-due : goal.returns-then-derived-clause-due

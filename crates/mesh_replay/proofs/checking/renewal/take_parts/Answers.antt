@@ -1,9 +1,5 @@
-use Rattle.std.proofs.Common.{◌+◌, ◌%◌, ◌≤◌, ◌∙◌, ℕ, arith, refl, sym, ap, subst}
-use Rattle.std.proofs.lemmas.Bool.{false≢true}
-use Rattle.mesh_atoms.specs.declared.settings.RouterSettings.{RouterSettings}
+use Rattle.mesh_replay.proofs.Common.{◌+◌, ◌%◌, ◌≤◌, ◌∙◌, ℕ, arith, refl, sym, ap, subst, false≢true, RouterSettings, Tcs_early, Tcs_silent, state_of}
 use Rattle.mesh_bases.proofs.SendingLemmas.PartRows.{runs_within}
-use Rattle.mesh_trace.specs.Positions.Due.{Tcs_early, Tcs_silent}
-use Rattle.mesh_replay.specs.Checking.Kept.{state_of}
 use Rattle.mesh_replay.proofs.RouterLemmas.Following.{tcs_due}
 use Rattle.mesh_replay.proofs.checking.renewal.take_parts.Goals as goal
 

@@ -1,6 +1,5 @@
-use Rattle.std.proofs.Common.{List, ℕ, subst, ◌∙◌}
+use Rattle.mesh_replay.proofs.Common.{List, ℕ, subst, ◌∙◌, Refused}
 use Rattle.mesh_bases.specs.Reading.Content.{IsContentOf}
-use Rattle.mesh_trace.specs.Positions.Due.{Refused}
 use Rattle.mesh_replay.proofs.CheckingLemmas.Opened.{refused_ends}
 use Rattle.mesh_replay.proofs.checking.step.hear_frame.Goals as goal
 

@@ -1,7 +1,4 @@
-use Rattle.std.proofs.Common.{List, ℕ, subst, ◌∙◌}
-use Rattle.mesh_atoms.proofs.Options.{if_ok_weaker}
-use Rattle.mesh_trace.specs.Positions.Due.{HearsBy}
-use Rattle.mesh_replay.specs.Checking.Kept.{event_items}
+use Rattle.mesh_replay.proofs.Common.{List, ℕ, subst, ◌∙◌, if_ok_weaker, HearsBy, event_items}
 use Rattle.mesh_replay.proofs.CheckingLemmas.Opened.{begun_by}
 use Rattle.mesh_replay.proofs.checking.step.hear_packet.Goals as goal
 

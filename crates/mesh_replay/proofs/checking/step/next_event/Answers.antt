@@ -1,8 +1,4 @@
-use Rattle.std.proofs.Common.{[], ap, map, subst}
-use Rattle.mesh_trace.specs.declared.reading.Reader.{Reader}
-use Rattle.mesh_replay.specs.declared.checking.case.Progress.{Progress}
-use Rattle.mesh_replay.specs.Checking.Going.{at, FitsOrStops}
-use Rattle.mesh_replay.specs.Checking.Scenes.{net_of}
+use Rattle.mesh_replay.proofs.Common.{[], ap, map, subst, Reader, Progress, at, FitsOrStops, net_of}
 use Rattle.mesh_replay.proofs.SceneLemmas.Ticks.{comes_of, sound_after}
 use Rattle.mesh_replay.proofs.checking.step.next_event.Goals as goal
 

@@ -1,8 +1,4 @@
-use Rattle.std.proofs.Common.{map, refl, subst, arith, List, ℕ}
-use Rattle.std.proofs.lemmas.List.{length-map, map-set}
-use Rattle.mesh_atoms.proofs.Lists.{item_at}
-use Rattle.mesh_atoms.proofs.Options.{if_ok_weaker}
-use Rattle.mesh_replay.specs.Checking.Texts.{TakesText}
+use Rattle.mesh_replay.proofs.Common.{map, refl, subst, arith, List, ℕ, length-map, map-set, item_at, if_ok_weaker, TakesText}
 use Rattle.mesh_replay.proofs.CheckingLemmas.Opened.{next_begins, next_comes, next_not, next_on, next_within, read_at, routers_kept, router_within, settings_same, state_at}
 use Rattle.mesh_replay.proofs.checking.step.take_event.Goals as goal
 

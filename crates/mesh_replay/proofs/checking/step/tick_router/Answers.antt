@@ -1,5 +1,4 @@
-use Rattle.std.proofs.Common.{refl}
-use Rattle.mesh_atoms.proofs.Options.{if_ok_weaker}
+use Rattle.mesh_replay.proofs.Common.{refl, if_ok_weaker}
 use Rattle.mesh_replay.proofs.CheckingLemmas.Opened.{begun_by}
 use Rattle.mesh_replay.proofs.checking.step.tick_router.Goals as goal
 

@@ -1,4 +1,4 @@
-use Rattle.mesh_atoms.proofs.Options.{if_ok_weaker}
+use Rattle.mesh_replay.proofs.Common.{if_ok_weaker}
 use Rattle.mesh_replay.proofs.FramesLemmas.Items.{tc_named}
 use Rattle.mesh_replay.proofs.checking.tcs.tell_span.Goals as goal
 

@@ -1,8 +1,4 @@
-use Rattle.std.proofs.Common.{ap, List, get_or, arith}
-use Rattle.std.proofs.lemmas.List.{drop_all}
-use Rattle.std.proofs.lemmas.Option.{slice_get-get_or}
-use Rattle.mesh_topo.specs.declared.advertised.spans.PartSpan.{PartSpan}
-use Rattle.mesh_replay.specs.Checking.Kept.{span_items}
+use Rattle.mesh_replay.proofs.Common.{ap, List, get_or, arith, drop_all, slice_get-get_or, PartSpan, span_items}
 use Rattle.mesh_replay.proofs.CheckingLemmas.Telling.{tells_more, tells_nowhere, tells_stop, tells_to}
 use Rattle.mesh_replay.proofs.FramesLemmas.Items.{spans_more}
 use Rattle.mesh_replay.proofs.checking.tcs.tell_spans.Goals as goal

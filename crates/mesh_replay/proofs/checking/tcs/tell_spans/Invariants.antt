@@ -1,7 +1,4 @@
-use Rattle.std.specs.Prelude.{drop, true}
-use Rattle.mesh_replay.specs.Checking.Cases.{TellsItems}
-use Rattle.mesh_replay.specs.Checking.Kept.{span_items}
-use Rattle.mesh_replay.specs.Checking.Sending.{HasAnsn}
+use Rattle.mesh_replay.proofs.Common.{drop, true, TellsItems, span_items, HasAnsn}
 use Rattle.mesh_replay.proofs.checking.tcs.tell_spans.Given as goal
 
 abbrev pub invariant-loop-span : goal.invariant-loop-span

@@ -1,5 +1,4 @@
-use Rattle.std.proofs.Common.{◌≡◌, ℕ, List, Some, rules, ◌∙◌, ap}
-use Rattle.mesh_atoms.proofs.Options.{if_ok_weaker}
+use Rattle.mesh_replay.proofs.Common.{◌≡◌, ℕ, List, Some, rules, ◌∙◌, ap, if_ok_weaker}
 use Rattle.mesh_replay.proofs.CheckingLemmas.Telling.{tells_not, tells_on, tells_where}
 use Rattle.mesh_replay.proofs.FramesLemmas.Items.{tc_told, tc_not}
 use Rattle.mesh_replay.proofs.checking.tcs.tell_tc.Goals as goal

@@ -1,10 +1,4 @@
-use Rattle.std.proofs.Common.{ℕ, ◌∙◌, refl, sym, ap, List, length}
-use Rattle.std.specs.Prelude.{nat_eq}
-use Rattle.mesh_atoms.specs.declared.tc.TcRow.{TcRow}
-use Rattle.mesh_atoms.specs.State.{State}
-use Rattle.mesh_atoms.proofs.Options.{if_ok_weaker}
-use Rattle.mesh_topo.specs.declared.advertised.spans.PartSpan.{PartSpan}
-use Rattle.mesh_replay.specs.Checking.Kept.{span_items}
+use Rattle.mesh_replay.proofs.Common.{ℕ, ◌∙◌, refl, sym, ap, List, length, nat_eq, TcRow, State, if_ok_weaker, PartSpan, span_items}
 use Rattle.mesh_replay.proofs.CheckingLemmas.Telling.{tells_as, tells_where}
 use Rattle.mesh_replay.proofs.checking.tcs.tell_tcs.Goals as goal
 

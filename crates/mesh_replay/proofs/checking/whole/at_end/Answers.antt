@@ -1,5 +1,4 @@
-use Rattle.std.proofs.Common.{◌≢◌, ◌∙◌, length, arith, refl, sym}
-use Rattle.std.proofs.lemmas.Bool.{false≢true}
+use Rattle.mesh_replay.proofs.Common.{◌≢◌, ◌∙◌, length, arith, refl, sym, false≢true}
 use Rattle.mesh_replay.proofs.SceneLemmas.Answering.{whole_if_done, longer_if_not}
 use Rattle.mesh_replay.proofs.checking.whole.at_end.Goals as goal
 

@@ -1,6 +1,4 @@
-use Rattle.std.proofs.Common.{map}
-use Rattle.mesh_trace.specs.machine.Net.{NetState}
-use Rattle.mesh_replay.specs.Checking.Scenes.{net_of}
+use Rattle.mesh_replay.proofs.Common.{map, NetState, net_of}
 use Rattle.mesh_replay.proofs.SceneLemmas.Answering.{read_on, read_to_end, stopped}
 use Rattle.mesh_replay.proofs.checking.whole.check.Goals as goal
 

@@ -1,6 +1,4 @@
-use Rattle.std.specs.Prelude.{map}
-use Rattle.mesh_replay.specs.Checking.Reached.{HasRead}
-use Rattle.mesh_replay.specs.Checking.Scenes.{IsSoundScene, net_of}
+use Rattle.mesh_replay.proofs.Common.{map, HasRead, IsSoundScene, net_of}
 use Rattle.mesh_replay.proofs.checking.whole.check.Given as goal
 
 -- the lines of the events so far lead here

@@ -1,5 +1,4 @@
-use Rattle.mesh_atoms.proofs.Options.{if_ok_weaker}
-use Rattle.mesh_trace.specs.Reading.Lines.{lines_of}
+use Rattle.mesh_replay.proofs.Common.{if_ok_weaker, lines_of}
 use Rattle.mesh_replay.proofs.SceneLemmas.Answering.{no_exactly, yes_exactly}
 use Rattle.mesh_replay.proofs.checking.whole.replay.Goals as goal
 

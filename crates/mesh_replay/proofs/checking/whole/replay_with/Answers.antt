@@ -1,6 +1,4 @@
-use Rattle.std.proofs.Common.{List, map, subst}
-use Rattle.mesh_atoms.specs.declared.settings.RouterSettings.{RouterSettings}
-use Rattle.mesh_replay.specs.Checking.Opening.{AreAtOpening}
+use Rattle.mesh_replay.proofs.Common.{List, map, subst, RouterSettings, AreAtOpening}
 use Rattle.mesh_replay.proofs.SceneLemmas.Beginning.{opening_sound, opening_read, some_router}
 use Rattle.mesh_replay.proofs.checking.whole.replay_with.Goals as goal
 

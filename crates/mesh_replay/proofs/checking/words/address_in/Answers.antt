@@ -1,8 +1,4 @@
-use Rattle.std.proofs.Common.{sym, ◌∙◌, ap, Some}
-use Rattle.std.proofs.lemmas.Bool.Decides.{Decides-eqb, not_from_Decides}
-use Rattle.std.proofs.lemmas.Slice.Eq.{slice_eq-Decides}
-use Rattle.mesh_atoms.specs.declared.addr.Addr4.{Addr4}
-use Rattle.mesh_atoms.specs.Literals.{address_of}
+use Rattle.mesh_replay.proofs.Common.{sym, ◌∙◌, ap, Some, Decides-eqb, not_from_Decides, slice_eq-Decides, Addr4, address_of}
 use Rattle.mesh_replay.proofs.RelaysLemmas.Words.{address_read, zero_read, not_zero}
 use Rattle.mesh_replay.proofs.checking.words.address_in.Goals as goal
 

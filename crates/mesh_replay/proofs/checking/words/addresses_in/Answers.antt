@@ -1,5 +1,4 @@
-use Rattle.std.proofs.Common.{List, ap, subst, sym, refl, length, Some}
-use Rattle.mesh_atoms.specs.declared.addr.Addr4.{Addr4}
+use Rattle.mesh_replay.proofs.Common.{List, ap, subst, sym, refl, length, Some, Addr4}
 use Rattle.mesh_replay.proofs.RelaysLemmas.Words.{IsLeft, all_left, one_less, none_wrong, none_left, has_octets, has_none}
 use Rattle.mesh_replay.proofs.checking.words.addresses_in.Goals as goal
 

@@ -1,6 +1,4 @@
-use Rattle.std.proofs.Common.{◌≡◌, ◌<◌, ◌^◌, All, List, length}
-use Rattle.mesh_atoms.specs.declared.addr.Addr4.{Addr4}
-use Rattle.mesh_texts.specs.Lines.Marks.{spaced}
+use Rattle.mesh_replay.proofs.Common.{◌≡◌, ◌<◌, ◌^◌, All, List, length, Addr4, spaced}
 use Rattle.mesh_replay.proofs.RelaysLemmas.Words.{IsLeft}
 use Rattle.mesh_replay.proofs.checking.words.addresses_in.Given as goal
 

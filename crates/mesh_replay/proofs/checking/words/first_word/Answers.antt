@@ -1,4 +1,4 @@
-use Rattle.std.proofs.Common.{◌∙◌, arith}
+use Rattle.mesh_replay.proofs.Common.{◌∙◌, arith}
 use Rattle.mesh_replay.proofs.RelaysLemmas.Words.{word_before, word_alone}
 use Rattle.mesh_replay.proofs.checking.words.first_word.Goals as goal
 

@@ -1,8 +1,4 @@
-use Rattle.std.proofs.Common.{◌≡◌, List, Some, sym, ◌∙◌, ap}
-use Rattle.std.proofs.lemmas.Bool.Decides.{Decides-eqb, not_from_Decides}
-use Rattle.std.proofs.lemmas.Slice.Eq.{slice_eq-Decides}
-use Rattle.mesh_atoms.specs.declared.addr.Addr4.{Addr4}
-use Rattle.mesh_texts.specs.Lines.Marks.{relays_text}
+use Rattle.mesh_replay.proofs.Common.{◌≡◌, List, Some, sym, ◌∙◌, ap, Decides-eqb, not_from_Decides, slice_eq-Decides, Addr4, relays_text}
 use Rattle.mesh_replay.proofs.RelaysLemmas.Words.{none_alone, none_text, spaced_text}
 use Rattle.mesh_replay.proofs.checking.words.relays_in.Goals as goal
 

@@ -1,5 +1,4 @@
-use Rattle.std.proofs.Common.{codes}
-use Rattle.mesh_replay.specs.Command.Replays.{IsRefusedInput, Long_scenario}
+use Rattle.mesh_replay.proofs.Common.{codes, IsRefusedInput, Long_scenario}
 use Rattle.mesh_replay.proofs.CommandLemmas.Refusing.{refused_so, settings_refused}
 use Rattle.mesh_replay.proofs.command.answer.answer_to.Goals as goal
 

@@ -1,4 +1,4 @@
-use Rattle.mesh_replay.specs.Command.Replays.{answer_line}
+use Rattle.mesh_replay.proofs.Common.{answer_line}
 use Rattle.mesh_replay.proofs.command.answer.put_answer.Goals as goal
 
 pub returns-in-Yes : goal.returns-in-Yes

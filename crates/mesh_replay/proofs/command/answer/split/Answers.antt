@@ -1,5 +1,4 @@
-use Rattle.std.proofs.Common.{codes}
-use Rattle.mesh_replay.specs.Command.Replays.{IsRefusedInput, No_trace}
+use Rattle.mesh_replay.proofs.Common.{codes, IsRefusedInput, No_trace}
 use Rattle.mesh_replay.proofs.CommandLemmas.Refusing.{refused_so}
 use Rattle.mesh_replay.proofs.command.answer.split.Goals as goal
 

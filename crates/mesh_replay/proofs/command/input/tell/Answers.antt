@@ -1,6 +1,5 @@
-use Rattle.std.proofs.Common.{ℕ, List, ◌++◌, ap, ◌∙◌}
+use Rattle.mesh_replay.proofs.Common.{ℕ, List, ◌++◌, ap, ◌∙◌, IsAnswerText, answer_line}
 use Rattle.mesh_io.proofs.Pieces.{one_put, one_cut}
-use Rattle.mesh_replay.specs.Command.Replays.{IsAnswerText, answer_line}
 use Rattle.mesh_replay.proofs.command.input.tell.Goals as goal
 
 pub returns-in-Ok-write_all-clause-leaves : goal.returns-in-Ok-write_all-clause-leaves

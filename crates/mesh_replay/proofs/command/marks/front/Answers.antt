@@ -1,5 +1,4 @@
-use Rattle.std.proofs.Common.{rules, length, inr, ap, ◌∙◌, arith}
-use Rattle.mesh_replay.specs.Command.Marks.{IsMarkLine}
+use Rattle.mesh_replay.proofs.Common.{rules, length, inr, ap, ◌∙◌, arith, IsMarkLine}
 use Rattle.mesh_replay.proofs.CommandLemmas.Rules.{pass_none, pass_line, cut_there, cut_at_end}
 use Rattle.mesh_replay.proofs.command.marks.front.Goals as goal
 

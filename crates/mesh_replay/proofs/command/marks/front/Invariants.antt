@@ -1,7 +1,5 @@
-use Rattle.std.proofs.Common.{◌≡◌, length}
-use Rattle.mesh_replay.specs.Command.Marks.{IsMarkLine, word_of}
+use Rattle.mesh_replay.proofs.Common.{◌≡◌, length, IsMarkLine, word_of, lines_from, IsReaderOf}
 use Rattle.mesh_replay.proofs.CommandLemmas.Rules.{Passed}
-use Rattle.mesh_trace.specs.Reading.Readers.{lines_from, IsReaderOf}
 use Rattle.mesh_replay.proofs.command.marks.front.Given as goal
 
 -- the lines that were taken are none of the kind

@@ -1,7 +1,4 @@
-use Rattle.std.proofs.Common.{◌≡◌, refl, length, List, Some}
-use Rattle.std.specs.Prelude.{slice_get}
-use Rattle.std.proofs.lemmas.Option.{slice_get_read, slice_get_within}
-use Rattle.mesh_replay.specs.declared.traffic.air.Delivered.{Delivered}
+use Rattle.mesh_replay.proofs.Common.{◌≡◌, refl, length, List, Some, slice_get, slice_get_read, slice_get_within, Delivered}
 use Rattle.mesh_replay.proofs.TrafficLemmas.Hearing.{least_of_none, read_as, is_earlier, is_no_earlier, is_first_of_all}
 use Rattle.mesh_replay.proofs.traffic.air.first_heard.Goals as goal
 use Rattle.mesh_replay.proofs.traffic.air.first_heard.Goals.{then-index, else-index}

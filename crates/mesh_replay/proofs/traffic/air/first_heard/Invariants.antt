@@ -1,4 +1,4 @@
-use Rattle.mesh_replay.specs.Traffic.Air.{IsNextFrame}
+use Rattle.mesh_replay.proofs.Common.{IsNextFrame}
 use Rattle.mesh_replay.proofs.traffic.air.first_heard.Given as goal
 
 abbrev pub invariant-loop-place : goal.invariant-loop-place

@@ -1,11 +1,6 @@
-use Rattle.std.proofs.Common.{ℕ, List, ◌++◌, codes, ap, ◌∙◌}
-use Rattle.mesh_tlv.specs.Fields.{addr_fields}
-use Rattle.mesh_report.specs.Lines.{addr_tlv_line}
-use Rattle.mesh_report.specs.Pieces.{numbered, valued, chosen}
+use Rattle.mesh_report.proofs.Common.{ℕ, List, ◌++◌, codes, ap, ◌∙◌, addr_fields, addr_tlv_line, numbered, valued, chosen, grows_on, two_appended as two, three_appended}
 use Rattle.mesh_report.proofs.Joined.{behind}
-use Rattle.mesh_tlv.proofs.Grows.{grows_on}
 use Rattle.mesh_report.proofs.lines.AddrTlvListed.put_lines.Goals as goal
-use Rattle.mesh_atoms.proofs.Lists.{two_appended as two, three_appended}
 
 pub returns-clause-ok : goal.returns-clause-ok
 unfolding addr_tlv_line

@@ -1,11 +1,6 @@
-use Rattle.std.proofs.Common.{ℕ, List, ◌++◌, codes, ap, ◌∙◌}
-use Rattle.mesh_tlv.specs.Fields.{fields}
-use Rattle.mesh_report.specs.Lines.{tlv_line}
-use Rattle.mesh_report.specs.Pieces.{numbered, valued}
+use Rattle.mesh_report.proofs.Common.{ℕ, List, ◌++◌, codes, ap, ◌∙◌, fields, tlv_line, numbered, valued, grows_on, two_appended as two}
 use Rattle.mesh_report.proofs.Joined.{behind}
-use Rattle.mesh_tlv.proofs.Grows.{grows_on}
 use Rattle.mesh_report.proofs.lines.TlvListed.put_lines.Goals as goal
-use Rattle.mesh_atoms.proofs.Lists.{two_appended as two}
 
 pub returns-clause-ok : goal.returns-clause-ok
 unfolding tlv_line

@@ -1,14 +1,5 @@
-use Rattle.std.proofs.lemmas.Result.{on_ok_weaker}
-use Rattle.std.proofs.Common.{◌≡◌, ◌++◌, List, ℕ, map}
-use Rattle.std.specs.List.{flat_map}
-use Rattle.std.proofs.lemmas.List.Folds.{flat_map-map}
-use Rattle.mesh_tlv.specs.Fields.{addr_fields}
-use Rattle.mesh_tlv.proofs.Grows.{grows_on}
-use Rattle.mesh_packet.specs.Fields.{fields_of_block}
-use Rattle.mesh_report.specs.Lines.{block_line, address_line, addr_tlv_line}
-use Rattle.mesh_report.specs.Packets.{block_text}
+use Rattle.mesh_report.proofs.Common.{on_ok_weaker, ◌≡◌, ◌++◌, List, ℕ, map, flat_map, flat_map-map, addr_fields, grows_on, fields_of_block, block_line, address_line, addr_tlv_line, block_text, three_appended}
 use Rattle.mesh_report.proofs.packet.BlockListed.put_lines.Goals as goal
-use Rattle.mesh_atoms.proofs.Lists.{three_appended}
 
 pub returns-in_err-put_block_line-clause-kept : goal.returns-in_err-put_block_line-clause-kept
 returns-in_err-put_block_line-clause-kept c = c.put_block_line.ensures.kept

@@ -1,4 +1,4 @@
-use Rattle.std.proofs.Common.{ℕ, ◌+◌, ◌/◌, ◌%◌, List, [], ◌∷◌, ◌++◌, length, decimal, sym, ap, ◌∙◌, arith, append_assoc, length-append}
+use Rattle.mesh_report.proofs.Common.{ℕ, ◌+◌, ◌/◌, ◌%◌, List, [], ◌∷◌, ◌++◌, length, decimal, sym, ap, ◌∙◌, arith, append_assoc, length-append}
 use Rattle.mesh_report.proofs.Decimals.{two_last, two_longer}
 use Rattle.mesh_report.proofs.piece.TextBuffer.+put_digits.Goals as goal
 

@@ -1,5 +1,4 @@
-use Rattle.std.proofs.Common.{ℕ, ◌+◌, ◌/◌, ◌%◌, List, [], ◌∷◌, ◌++◌, length, sym, ap, ◌∙◌, arith, length-append}
-use Rattle.std.proofs.lemmas.Fmt.{decimal_digit}
+use Rattle.mesh_report.proofs.Common.{ℕ, ◌+◌, ◌/◌, ◌%◌, List, [], ◌∷◌, ◌++◌, length, sym, ap, ◌∙◌, arith, length-append, decimal_digit}
 use Rattle.mesh_report.proofs.Decimals.{two_digits, one_digit}
 use Rattle.mesh_report.proofs.piece.TextBuffer.put_small.Goals as goal
 

@@ -1,8 +1,4 @@
-use Rattle.std.proofs.Common.{Contains, sym, ◌∙◌}
-use Rattle.std.proofs.lemmas.Bool.{false≢true}
-use Rattle.std.proofs.lemmas.List.Elements.{AllWithin-more, at_read}
-use Rattle.mesh_atoms.specs.declared.settings.Interface.{Interface}
-use Rattle.mesh_paths.proofs.Rows.{yes, no, item_in, of_each}
+use Rattle.mesh_routes.proofs.Common.{Contains, sym, ◌∙◌, false≢true, AllWithin-more, at_read, Interface, yes, no, item_in, of_each}
 use Rattle.mesh_routes.proofs.hops.own.is_address.Goals as goal
 
 pub returns-then-has_address : goal.returns-then-has_address

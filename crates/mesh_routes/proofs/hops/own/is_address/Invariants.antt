@@ -1,6 +1,4 @@
-use Rattle.std.proofs.Common.{Contains}
-use Rattle.std.specs.List.{AllWithin}
-use Rattle.mesh_atoms.specs.declared.settings.Interface.{Interface}
+use Rattle.mesh_routes.proofs.Common.{Contains, AllWithin, Interface}
 use Rattle.mesh_routes.proofs.hops.own.is_address.Given as goal
 
 abbrev pub invariant-loop-interface : goal.invariant-loop-interface

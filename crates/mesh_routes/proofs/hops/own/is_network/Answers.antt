@@ -1,4 +1,4 @@
-use Rattle.mesh_paths.proofs.Rows.{yes, item_in}
+use Rattle.mesh_routes.proofs.Common.{yes, item_in}
 use Rattle.mesh_routes.proofs.hops.own.is_network.Goals as goal
 
 pub returns-then-is_net : goal.returns-then-is_net

@@ -1,6 +1,4 @@
-use Rattle.std.proofs.Common.{◌↔◌, IsTrue, List, subst}
-use Rattle.mesh_atoms.specs.declared.settings.Attached4.{Attached4}
-use Rattle.mesh_routes.specs.Hops.Own.{HasNetworkIn}
+use Rattle.mesh_routes.proofs.Common.{◌↔◌, IsTrue, List, subst, Attached4, HasNetworkIn}
 use Rattle.mesh_routes.proofs.HopsLemmas.Tests.{neither}
 use Rattle.mesh_routes.proofs.hops.own.is_outside.Goals as goal
 

@@ -1,6 +1,4 @@
-use Rattle.std.proofs.Common.{◌↔◌, IsTrue, List, subst}
-use Rattle.mesh_atoms.specs.declared.settings.Interface.{Interface}
-use Rattle.mesh_atoms.specs.NextHop.{HasAddressIn}
+use Rattle.mesh_routes.proofs.Common.{◌↔◌, IsTrue, List, subst, Interface, HasAddressIn}
 use Rattle.mesh_routes.proofs.hops.own.is_own_address.Goals as goal
 
 pub returns-then-node-eq32 : goal.returns-then-node-eq32

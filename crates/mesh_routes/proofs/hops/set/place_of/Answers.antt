@@ -1,6 +1,4 @@
-use Rattle.std.proofs.Common.{rules}
-use Rattle.std.proofs.lemmas.List.Sorted.{answers_always}
-use Rattle.mesh_atoms.specs.declared.graphs.Route.{Route}
+use Rattle.mesh_routes.proofs.Common.{rules, answers_always, Route}
 use Rattle.mesh_routes.proofs.HopsLemmas.Searching.{found_at, absent}
 use Rattle.mesh_routes.proofs.hops.set.place_of.Goals as goal
 

@@ -1,5 +1,4 @@
-use Rattle.std.proofs.Common.{sym, ◌∙◌}
-use Rattle.std.proofs.lemmas.Bool.{false≢true}
+use Rattle.mesh_routes.proofs.Common.{sym, ◌∙◌, false≢true}
 use Rattle.mesh_routes.proofs.HopsLemmas.WayOrder.{range_none, range_best, range_first}
 use Rattle.mesh_routes.proofs.hops.ways.best_way.Goals as goal
 

@@ -1,7 +1,4 @@
-use Rattle.std.proofs.Common.{subst, sym}
-use Rattle.mesh_atoms.specs.State.{State}
-use Rattle.mesh_atoms.proofs.Options.{if_ok_weaker}
-use Rattle.mesh_texts.specs.machine.Machine.{IsOpening}
+use Rattle.mesh_run.proofs.Common.{subst, sym, State, if_ok_weaker, IsOpening}
 use Rattle.mesh_run.proofs.router_of_run.DeferredCoreRouterOfRun.make.Goals as goal
 
 pub returns : goal.returns

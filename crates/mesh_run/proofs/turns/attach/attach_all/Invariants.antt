@@ -1,6 +1,4 @@
-use Rattle.std.proofs.Common.{◌≡◌, map, take}
-use Rattle.mesh_io.specs.Told.{TellsMore}
-use Rattle.mesh_run.specs.Turns.Turns.{attached_report}
+use Rattle.mesh_run.proofs.Common.{◌≡◌, map, take, TellsMore, attached_report}
 use Rattle.mesh_run.proofs.turns.attach.attach_all.Given as goal
 
 -- so many ports are attached, and told, and none failed

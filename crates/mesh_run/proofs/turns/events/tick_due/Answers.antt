@@ -1,4 +1,4 @@
-use Rattle.std.proofs.Common.{ℕ, ◌<◌, subst}
+use Rattle.mesh_run.proofs.Common.{ℕ, ◌<◌, subst}
 use Rattle.mesh_run.proofs.TurnsLemmas.Positions.{acts_nothing}
 use Rattle.mesh_run.proofs.turns.events.tick_due.Goals as goal
 

@@ -1,6 +1,4 @@
-use Rattle.std.proofs.Common.{[], ◌∷◌, ◌<◌, length, take, get_or, arith}
-use Rattle.std.proofs.lemmas.List.{take_more}
-use Rattle.mesh_run.specs.Turns.Parts.{no_frame}
+use Rattle.mesh_run.proofs.Common.{[], ◌∷◌, ◌<◌, length, take, get_or, arith, take_more, no_frame}
 use Rattle.mesh_run.proofs.TurnsLemmas.Tellings.{hands_more}
 use Rattle.mesh_run.proofs.turns.hand.hand_over.Goals as goal
 

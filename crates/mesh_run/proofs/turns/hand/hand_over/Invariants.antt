@@ -1,5 +1,4 @@
-use Rattle.std.proofs.Common.{◌≡◌, ◌+◌, ◌≤◌, take}
-use Rattle.mesh_run.specs.Turns.Parts.{Hands}
+use Rattle.mesh_run.proofs.Common.{◌≡◌, ◌+◌, ◌≤◌, take, Hands}
 use Rattle.mesh_run.proofs.turns.hand.hand_over.Given as goal
 
 -- so many frames are handed over

@@ -1,6 +1,4 @@
-use Rattle.std.proofs.Common.{◌≡◌, [], refl, arith}
-use Rattle.mesh_atoms.proofs.Options.{on_err_of}
-use Rattle.mesh_run.specs.Turns.Parts.{at}
+use Rattle.mesh_run.proofs.Common.{◌≡◌, [], refl, arith, on_err_of, at}
 use Rattle.mesh_run.proofs.TurnsLemmas.Positions.{going_nothing, going_hears, broken_hears, going_at}
 use Rattle.mesh_run.proofs.turns.listen.listen_all.Goals as goal
 

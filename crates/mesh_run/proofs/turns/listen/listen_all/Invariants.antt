@@ -1,5 +1,4 @@
-use Rattle.std.proofs.Common.{◌≡◌, ◌≤◌, [], length}
-use Rattle.mesh_run.specs.Turns.Parts.{IsReady, Going, at}
+use Rattle.mesh_run.proofs.Common.{◌≡◌, ◌≤◌, [], length, IsReady, Going, at}
 use Rattle.mesh_run.proofs.turns.listen.listen_all.Given as goal
 
 -- so many interfaces were heard

@@ -1,5 +1,4 @@
-use Rattle.std.proofs.Common.{length, arith}
-use Rattle.mesh_atoms.proofs.Options.{on_err_of}
+use Rattle.mesh_run.proofs.Common.{length, arith, on_err_of}
 use Rattle.mesh_run.proofs.TurnsLemmas.Positions.{turn_stops, turn_ends, turn_goes, turn_breaks}
 use Rattle.mesh_run.proofs.turns.turn.turn.Goals as goal
 

@@ -1,4 +1,4 @@
-use Rattle.mesh_atoms.proofs.Options.{on_err_of}
+use Rattle.mesh_run.proofs.Common.{on_err_of}
 use Rattle.mesh_run.proofs.TurnsLemmas.Whole.{does_turns, stops_turns, stops_before}
 use Rattle.mesh_run.proofs.turns.turns.do_turns.Goals as goal
 

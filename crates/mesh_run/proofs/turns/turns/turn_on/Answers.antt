@@ -1,7 +1,4 @@
-use Rattle.std.proofs.Common.{◌≡◌, ℕ, length, ◌+◌, subst, refl, arith}
-use Rattle.mesh_atoms.proofs.Options.{on_err_of}
-use Rattle.mesh_run.specs.Turns.Parts.{IsReady, at}
-use Rattle.mesh_run.specs.Turns.Turns.{moment_of}
+use Rattle.mesh_run.proofs.Common.{◌≡◌, ℕ, length, ◌+◌, subst, refl, arith, on_err_of, IsReady, at, moment_of}
 use Rattle.mesh_run.proofs.TurnsLemmas.Positions.{turning_nothing, turning_more, turning_at, turning_stops}
 use Rattle.mesh_run.proofs.turns.turns.turn_on.Goals as goal
 

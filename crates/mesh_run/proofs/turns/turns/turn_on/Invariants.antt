@@ -1,5 +1,4 @@
-use Rattle.std.proofs.Common.{◌≡◌, ◌<◌, ◌≤◌, length}
-use Rattle.mesh_run.specs.Turns.Parts.{IsReady, Turning, at}
+use Rattle.mesh_run.proofs.Common.{◌≡◌, ◌<◌, ◌≤◌, length, IsReady, Turning, at}
 use Rattle.mesh_run.proofs.turns.turns.turn_on.Given as goal
 
 -- so many turns were done, below the end

@@ -1,4 +1,4 @@
-use Rattle.std.proofs.Common.{arith, inl, inr}
+use Rattle.mesh_settled.proofs.Common.{arith, inl, inr}
 use Rattle.mesh_settled.proofs.GapsLemmas.Apart.{held_apart, present_apart}
 use Rattle.mesh_settled.proofs.gaps.compare.least_apart.Goals as goal
 

@@ -1,4 +1,4 @@
-use Rattle.std.proofs.lemmas.Option.{slice_get-get_or}
+use Rattle.mesh_settled.proofs.Common.{slice_get-get_or}
 use Rattle.mesh_settled.proofs.GapsLemmas.Apart.{one_more, all_missing}
 use Rattle.mesh_settled.proofs.gaps.compare.least_missing.Goals as goal
 

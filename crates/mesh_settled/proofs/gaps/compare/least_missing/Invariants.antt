@@ -1,4 +1,4 @@
-use Rattle.mesh_settled.specs.Gaps.Found.{IsLeastMissing}
+use Rattle.mesh_settled.proofs.Common.{IsLeastMissing}
 use Rattle.mesh_settled.proofs.GapsLemmas.Apart.{IsEarlier}
 use Rattle.mesh_settled.proofs.gaps.compare.least_missing.Given as goal
 

@@ -1,4 +1,4 @@
-use Rattle.mesh_atoms.specs.State.{HasAddressOn}
+use Rattle.mesh_settled.proofs.Common.{HasAddressOn}
 use Rattle.mesh_settled.proofs.GapsLemmas.JointLemmas.{on_face, one_face, one_not, no_face}
 use Rattle.mesh_settled.proofs.gaps.joints.is_address_of.Goals as goal
 

@@ -1,5 +1,4 @@
-use Rattle.std.proofs.Common.{ℕ, ◌<◌}
-use Rattle.mesh_atoms.specs.State.{HasAddressOn}
+use Rattle.mesh_settled.proofs.Common.{ℕ, ◌<◌, HasAddressOn}
 use Rattle.mesh_settled.proofs.gaps.joints.is_address_of.Given as goal
 
 abbrev pub invariant-loop-i : goal.invariant-loop-i

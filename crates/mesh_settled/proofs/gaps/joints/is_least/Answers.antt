@@ -1,7 +1,6 @@
-use Rattle.mesh_atoms.specs.Settled.{IsLeastAddress}
+use Rattle.mesh_settled.proofs.Common.{IsLeastAddress, no as never}
 use Rattle.mesh_settled.proofs.GapsLemmas.JointLemmas.{one_least, value_some, value_none}
 use Rattle.mesh_settled.proofs.gaps.joints.is_least.Goals as goal
-use Rattle.mesh_paths.proofs.Rows.{no as never}
 
 pub returns-in-Some : goal.returns-in-Some
 returns-in-Some c =

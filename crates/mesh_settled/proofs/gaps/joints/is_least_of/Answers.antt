@@ -1,4 +1,4 @@
-use Rattle.std.proofs.Common.{map}
+use Rattle.mesh_settled.proofs.Common.{map}
 use Rattle.mesh_settled.proofs.GapsLemmas.JointLemmas.{least_there, router_found}
 use Rattle.mesh_settled.proofs.gaps.joints.is_least_of.Goals as goal
 

@@ -1,5 +1,4 @@
-use Rattle.std.proofs.Common.{refl}
-use Rattle.mesh_settled.specs.Gaps.Joints.{IsBack}
+use Rattle.mesh_settled.proofs.Common.{refl, IsBack}
 use Rattle.mesh_settled.proofs.GapsLemmas.JointLemmas.{value_some, value_none}
 use Rattle.mesh_settled.proofs.gaps.joints.joint_by.Goals as goal
 

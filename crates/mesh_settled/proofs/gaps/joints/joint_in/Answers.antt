@@ -1,6 +1,4 @@
-use Rattle.std.proofs.Common.{map, refl}
-use Rattle.std.proofs.lemmas.Option.{slice_get_read}
-use Rattle.mesh_settled.specs.Gaps.Joints.{IsJointBy}
+use Rattle.mesh_settled.proofs.Common.{map, refl, slice_get_read, IsJointBy}
 use Rattle.mesh_settled.proofs.GapsLemmas.JointLemmas.{found_one, none_one, none_found}
 use Rattle.mesh_settled.proofs.gaps.joints.joint_in.Goals as goal
 

@@ -1,5 +1,4 @@
-use Rattle.std.proofs.Common.{map}
-use Rattle.mesh_settled.specs.Gaps.Joints.{IsJointBy}
+use Rattle.mesh_settled.proofs.Common.{map, IsJointBy}
 use Rattle.mesh_settled.proofs.GapsLemmas.JointLemmas.{NoneBefore}
 use Rattle.mesh_settled.proofs.gaps.joints.joint_in.Given as goal
 

@@ -1,4 +1,4 @@
-use Rattle.std.proofs.Common.{map}
+use Rattle.mesh_settled.proofs.Common.{map}
 use Rattle.mesh_settled.proofs.GapsLemmas.JointLemmas.{joint_found}
 use Rattle.mesh_settled.proofs.gaps.joints.joint_with.Goals as goal
 

@@ -1,4 +1,4 @@
-use Rattle.std.proofs.Common.{map}
+use Rattle.mesh_settled.proofs.Common.{map}
 use Rattle.mesh_settled.proofs.GapsLemmas.JointLemmas.{router_found}
 use Rattle.mesh_settled.proofs.GapsLemmas.LinkLemmas.{end_is}
 use Rattle.mesh_settled.proofs.gaps.links.end_of.Goals as goal

@@ -1,7 +1,4 @@
-use Rattle.mesh_atoms.specs.declared.gap.GapKey.TheVariants.{Link}
-use Rattle.mesh_settled.specs.Gaps.Fields.{link_fields}
-use Rattle.mesh_settled.specs.Gaps.Links.{given_link}
-use Rattle.mesh_settled.specs.Gaps.Site.{seen}
+use Rattle.mesh_settled.proofs.Common.{Link, link_fields, given_link, seen}
 use Rattle.mesh_settled.proofs.GapsLemmas.Sides.{gap_found}
 use Rattle.mesh_settled.proofs.gaps.links.gap_at.Goals as goal
 

@@ -1,6 +1,4 @@
-use Rattle.std.proofs.Common.{map}
-use Rattle.mesh_settled.specs.Gaps.Joints.{IsLeastOf}
-use Rattle.mesh_settled.specs.Gaps.Site.{seen}
+use Rattle.mesh_settled.proofs.Common.{map, IsLeastOf, seen}
 use Rattle.mesh_settled.proofs.GapsLemmas.JointLemmas.{value_some, value_none}
 use Rattle.mesh_settled.proofs.GapsLemmas.LinkLemmas.{given_key}
 use Rattle.mesh_settled.proofs.gaps.links.given_at.Goals as goal

@@ -1,5 +1,4 @@
-use Rattle.std.proofs.Common.{map}
-use Rattle.mesh_settled.specs.Gaps.Joints.{IsJointWith}
+use Rattle.mesh_settled.proofs.Common.{map, IsJointWith}
 use Rattle.mesh_settled.proofs.GapsLemmas.JointLemmas.{value_some, value_none, router_found}
 use Rattle.mesh_settled.proofs.GapsLemmas.LinkLemmas.{given_side, no_joint}
 use Rattle.mesh_settled.proofs.gaps.links.given_link.Goals as goal

@@ -1,9 +1,6 @@
-use Rattle.std.proofs.Common.{map, refl}
-use Rattle.std.proofs.lemmas.Option.{slice_get_read}
+use Rattle.mesh_settled.proofs.Common.{map, refl, slice_get_read, IsGivenAt, seen}
 use Rattle.mesh_settled.proofs.GapsLemmas.Leasts.{at_place, least_step, least_end}
 use Rattle.mesh_settled.proofs.GapsLemmas.LinkLemmas.{IsGivenByPlace}
-use Rattle.mesh_settled.specs.Gaps.Links.{IsGivenAt}
-use Rattle.mesh_settled.specs.Gaps.Site.{seen}
 use Rattle.mesh_settled.proofs.gaps.links.given_links.Goals as goal
 
 pub loop-place-preserved : goal.loop-place-preserved

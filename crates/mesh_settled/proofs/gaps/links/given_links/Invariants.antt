@@ -1,6 +1,4 @@
-use Rattle.std.proofs.Common.{map}
-use Rattle.mesh_settled.specs.Gaps.Found.{IsLeastGap}
-use Rattle.mesh_settled.specs.Gaps.Site.{seen}
+use Rattle.mesh_settled.proofs.Common.{map, IsLeastGap, seen}
 use Rattle.mesh_settled.proofs.GapsLemmas.Leasts.{Below}
 use Rattle.mesh_settled.proofs.GapsLemmas.LinkLemmas.{IsGivenByPlace}
 use Rattle.mesh_settled.proofs.gaps.links.given_links.Given as goal

@@ -1,9 +1,5 @@
-use Rattle.std.proofs.Common.{sym, ap, ◌∙◌, ◌≡◌}
-use Rattle.mesh_machine.specs.expire.Table.{entry_of}
-use Rattle.mesh_atoms.specs.Base.{base_of}
-use Rattle.mesh_atoms.specs.declared.gap.GapKey.TheVariants.{Link}
+use Rattle.mesh_settled.proofs.Common.{sym, ap, ◌∙◌, ◌≡◌, entry_of, base_of, Link, seen}
 use Rattle.mesh_settled.proofs.GapsLemmas.Leasts.{at_entry}
-use Rattle.mesh_settled.specs.Gaps.Site.{seen}
 use Rattle.mesh_settled.proofs.gaps.links.held_at.Goals as goal
 
 pub returns-in-Some : goal.returns-in-Some

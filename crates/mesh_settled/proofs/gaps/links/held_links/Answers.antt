@@ -1,5 +1,4 @@
-use Rattle.mesh_settled.specs.Gaps.Links.{IsHeldOn}
-use Rattle.mesh_settled.specs.Gaps.Site.{seen}
+use Rattle.mesh_settled.proofs.Common.{IsHeldOn, seen}
 use Rattle.mesh_settled.proofs.GapsLemmas.Leasts.{least_step, least_end}
 use Rattle.mesh_settled.proofs.gaps.links.held_links.Goals as goal
 

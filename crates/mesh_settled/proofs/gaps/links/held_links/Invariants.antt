@@ -1,6 +1,4 @@
-use Rattle.mesh_settled.specs.Gaps.Found.{IsLeastGap}
-use Rattle.mesh_settled.specs.Gaps.Links.{IsHeldOn}
-use Rattle.mesh_settled.specs.Gaps.Site.{seen}
+use Rattle.mesh_settled.proofs.Common.{IsLeastGap, IsHeldOn, seen}
 use Rattle.mesh_settled.proofs.GapsLemmas.Leasts.{Below}
 use Rattle.mesh_settled.proofs.gaps.links.held_links.Given as goal
 

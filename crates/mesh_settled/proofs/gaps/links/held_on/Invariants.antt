@@ -1,6 +1,5 @@
-use Rattle.mesh_settled.specs.Gaps.Found.{IsLeastGap}
+use Rattle.mesh_settled.proofs.Common.{IsLeastGap, seen}
 use Rattle.mesh_settled.specs.Gaps.Links.{IsHeldAt}
-use Rattle.mesh_settled.specs.Gaps.Site.{seen}
 use Rattle.mesh_settled.proofs.GapsLemmas.Leasts.{Below}
 use Rattle.mesh_settled.proofs.gaps.links.held_on.Given as goal
 

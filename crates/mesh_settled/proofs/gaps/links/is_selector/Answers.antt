@@ -1,5 +1,4 @@
-use Rattle.std.proofs.lemmas.Option.{slice_get-get_or}
-use Rattle.mesh_atoms.specs.Hello.{Says, Flooding}
+use Rattle.mesh_settled.proofs.Common.{slice_get-get_or, Says, Flooding}
 use Rattle.mesh_settled.proofs.GapsLemmas.JointLemmas.{no_more, none_here, denied}
 use Rattle.mesh_settled.proofs.gaps.links.is_selector.Goals as goal
 

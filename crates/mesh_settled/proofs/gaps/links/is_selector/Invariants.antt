@@ -1,4 +1,4 @@
-use Rattle.mesh_atoms.specs.Hello.{Says, Flooding}
+use Rattle.mesh_settled.proofs.Common.{Says, Flooding}
 use Rattle.mesh_settled.proofs.GapsLemmas.JointLemmas.{NoBefore}
 use Rattle.mesh_settled.proofs.gaps.links.is_selector.Given as goal
 

@@ -1,5 +1,5 @@
-use Rattle.std.proofs.Common.{[], ◌∷◌}
-use Rattle.mesh_settled.specs.Gaps.Fields.{Addresses, Number, cost_field, known_cost, flag_field}
+use Rattle.mesh_settled.proofs.Common.{[], ◌∷◌, Number, cost_field, known_cost, flag_field}
+use Rattle.mesh_settled.specs.Gaps.Fields.{Addresses}
 use Rattle.mesh_settled.proofs.gaps.links.link_difference.Goals as goal
 
 pub returns : goal.returns

@@ -1,4 +1,4 @@
-use Rattle.std.proofs.Common.{map}
+use Rattle.mesh_settled.proofs.Common.{map}
 use Rattle.mesh_settled.proofs.GapsLemmas.LinkLemmas.{all_links}
 use Rattle.mesh_settled.proofs.gaps.links.link_gap.Goals as goal
 

@@ -1,5 +1,4 @@
-use Rattle.std.proofs.Common.{refl}
-use Rattle.std.proofs.lemmas.Option.{slice_get_read}
+use Rattle.mesh_settled.proofs.Common.{refl, slice_get_read}
 use Rattle.mesh_settled.proofs.GapsLemmas.MetricLemmas.{one_pair, all_pairs}
 use Rattle.mesh_settled.proofs.gaps.metrics.cheapest.Goals as goal
 

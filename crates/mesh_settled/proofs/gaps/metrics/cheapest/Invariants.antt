@@ -1,4 +1,4 @@
-use Rattle.mesh_settled.specs.Gaps.Metrics.{IsLeastMetricOf}
+use Rattle.mesh_settled.proofs.Common.{IsLeastMetricOf}
 use Rattle.mesh_settled.proofs.gaps.metrics.cheapest.Given as goal
 
 abbrev pub invariant-loop-k : goal.invariant-loop-k

@@ -1,6 +1,5 @@
-use Rattle.std.proofs.Common.{[], ◌∷◌, Some, ◌+◌, ◌*◌}
-use Rattle.mesh_settled.specs.Gaps.Fields.{Addresses, Number, cost_field, known_cost, flag_field}
-use Rattle.mesh_settled.specs.Gaps.Joints.{all_addresses}
+use Rattle.mesh_settled.proofs.Common.{[], ◌∷◌, Some, ◌+◌, ◌*◌, Number, cost_field, known_cost, flag_field, all_addresses}
+use Rattle.mesh_settled.specs.Gaps.Fields.{Addresses}
 use Rattle.mesh_settled.proofs.gaps.neighbours.difference_between.Goals as goal
 
 pub returns : goal.returns

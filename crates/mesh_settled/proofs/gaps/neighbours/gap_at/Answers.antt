@@ -1,7 +1,4 @@
-use Rattle.mesh_atoms.specs.declared.gap.GapKey.TheVariants.{Neighbour}
-use Rattle.mesh_settled.specs.Gaps.Fields.{neighbour_fields}
-use Rattle.mesh_settled.specs.Gaps.Neighbours.{given_tuple}
-use Rattle.mesh_settled.specs.Gaps.Site.{seen}
+use Rattle.mesh_settled.proofs.Common.{Neighbour, neighbour_fields, given_tuple, seen}
 use Rattle.mesh_settled.proofs.GapsLemmas.Sides.{gap_found}
 use Rattle.mesh_settled.proofs.gaps.neighbours.gap_at.Goals as goal
 

@@ -1,4 +1,4 @@
-use Rattle.mesh_settled.specs.Gaps.Site.{seen}
+use Rattle.mesh_settled.proofs.Common.{seen}
 use Rattle.mesh_settled.proofs.GapsLemmas.JointLemmas.{router_found}
 use Rattle.mesh_settled.proofs.GapsLemmas.NeighbourLemmas.{given_here, its_originator}
 use Rattle.mesh_settled.proofs.gaps.neighbours.given_at.Goals as goal

@@ -1,5 +1,4 @@
-use Rattle.mesh_settled.specs.Gaps.Neighbours.{IsOriginatorOf}
-use Rattle.mesh_settled.specs.Gaps.Site.{states, seen}
+use Rattle.mesh_settled.proofs.Common.{IsOriginatorOf, states, seen}
 use Rattle.mesh_settled.proofs.GapsLemmas.Leasts.{least_step, least_end}
 use Rattle.mesh_settled.proofs.gaps.neighbours.given_gap.Goals as goal
 

@@ -1,6 +1,4 @@
-use Rattle.mesh_settled.specs.Gaps.Found.{IsLeastGap}
-use Rattle.mesh_settled.specs.Gaps.Neighbours.{IsOriginatorOf}
-use Rattle.mesh_settled.specs.Gaps.Site.{states, seen}
+use Rattle.mesh_settled.proofs.Common.{IsLeastGap, IsOriginatorOf, states, seen}
 use Rattle.mesh_settled.proofs.GapsLemmas.Leasts.{Below}
 use Rattle.mesh_settled.proofs.gaps.neighbours.given_gap.Given as goal
 

@@ -1,7 +1,6 @@
-use Rattle.mesh_atoms.specs.Radio.{IsMetric}
+use Rattle.mesh_settled.proofs.Common.{IsMetric, seen}
 use Rattle.mesh_settled.proofs.GapsLemmas.JointLemmas.{value_some}
 use Rattle.mesh_settled.proofs.GapsLemmas.NeighbourLemmas.{near_is}
-use Rattle.mesh_settled.specs.Gaps.Site.{seen}
 use Rattle.mesh_settled.proofs.gaps.neighbours.given_near.Goals as goal
 
 pub is_selector-requires-clause-sound : goal.is_selector-requires-clause-sound

@@ -1,4 +1,4 @@
-use Rattle.mesh_settled.specs.Gaps.Site.{states, seen}
+use Rattle.mesh_settled.proofs.Common.{states, seen}
 use Rattle.mesh_settled.proofs.GapsLemmas.NeighbourLemmas.{some_given, none_given, never_given}
 use Rattle.mesh_settled.proofs.gaps.neighbours.given_neighbour.Goals as goal
 

@@ -1,6 +1,5 @@
-use Rattle.std.proofs.Common.{ℕ, ◌<◌, None}
+use Rattle.mesh_settled.proofs.Common.{ℕ, ◌<◌, None, seen}
 use Rattle.mesh_settled.specs.Gaps.Neighbours.{IsGivenAt}
-use Rattle.mesh_settled.specs.Gaps.Site.{seen}
 use Rattle.mesh_settled.proofs.gaps.neighbours.given_neighbour.Given as goal
 
 abbrev pub invariant-loop-y : goal.invariant-loop-y

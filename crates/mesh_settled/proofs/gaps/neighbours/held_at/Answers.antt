@@ -1,7 +1,4 @@
-use Rattle.std.proofs.Common.{sym, ap, ◌∙◌, ◌≡◌}
-use Rattle.mesh_machine.specs.expire.Table.{entry_of}
-use Rattle.mesh_settled.specs.Gaps.Site.{seen}
-use Rattle.mesh_atoms.specs.declared.gap.GapKey.TheVariants.{Neighbour}
+use Rattle.mesh_settled.proofs.Common.{sym, ap, ◌∙◌, ◌≡◌, entry_of, seen, Neighbour}
 use Rattle.mesh_settled.proofs.GapsLemmas.Leasts.{at_entry}
 use Rattle.mesh_settled.proofs.gaps.neighbours.held_at.Goals as goal
 

@@ -1,5 +1,5 @@
 use Rattle.mesh_settled.specs.Gaps.Neighbours.{IsHeldAt}
-use Rattle.mesh_settled.specs.Gaps.Site.{seen}
+use Rattle.mesh_settled.proofs.Common.{seen}
 use Rattle.mesh_settled.proofs.GapsLemmas.Leasts.{least_step, least_end}
 use Rattle.mesh_settled.proofs.gaps.neighbours.held_gap.Goals as goal
 

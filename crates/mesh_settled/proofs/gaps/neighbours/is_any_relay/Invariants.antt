@@ -1,4 +1,4 @@
-use Rattle.mesh_atoms.specs.Hello.{Says, Routing}
+use Rattle.mesh_settled.proofs.Common.{Says, Routing}
 use Rattle.mesh_settled.proofs.GapsLemmas.JointLemmas.{NoBefore}
 use Rattle.mesh_settled.proofs.gaps.neighbours.is_any_relay.Given as goal
 

@@ -1,4 +1,4 @@
-use Rattle.std.proofs.Common.{ℕ, ◌<◌}
+use Rattle.mesh_settled.proofs.Common.{ℕ, ◌<◌}
 use Rattle.mesh_settled.proofs.GapsLemmas.NeighbourLemmas.{SaysOn}
 use Rattle.mesh_settled.proofs.gaps.neighbours.is_selector.Given as goal
 

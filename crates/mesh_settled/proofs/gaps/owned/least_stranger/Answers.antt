@@ -1,5 +1,4 @@
-use Rattle.std.proofs.lemmas.Option.{slice_get-get_or}
-use Rattle.mesh_settled.specs.Gaps.Joints.{all_addresses}
+use Rattle.mesh_settled.proofs.Common.{slice_get-get_or, all_addresses}
 use Rattle.mesh_settled.proofs.GapsLemmas.Apart.{one_more, all_missing}
 use Rattle.mesh_settled.proofs.GapsLemmas.NeighbourLemmas.{is_own}
 use Rattle.mesh_settled.proofs.gaps.owned.least_stranger.Goals as goal

@@ -1,5 +1,4 @@
-use Rattle.mesh_settled.specs.Gaps.Found.{IsLeastMissing}
-use Rattle.mesh_settled.specs.Gaps.Joints.{all_addresses}
+use Rattle.mesh_settled.proofs.Common.{IsLeastMissing, all_addresses}
 use Rattle.mesh_settled.proofs.GapsLemmas.Apart.{IsEarlier}
 use Rattle.mesh_settled.proofs.gaps.owned.least_stranger.Given as goal
 

@@ -1,4 +1,4 @@
-use Rattle.mesh_settled.specs.Gaps.Found.{IsLeastMissing}
+use Rattle.mesh_settled.proofs.Common.{IsLeastMissing}
 use Rattle.mesh_settled.proofs.GapsLemmas.NeighbourLemmas.{HasBefore}
 use Rattle.mesh_settled.proofs.gaps.owned.least_untold.Given as goal
 

@@ -1,4 +1,4 @@
-use Rattle.mesh_settled.specs.Gaps.Joints.{all_addresses}
+use Rattle.mesh_settled.proofs.Common.{all_addresses}
 use Rattle.mesh_settled.proofs.gaps.owned.owned.Goals as goal
 
 pub returns : goal.returns

@@ -1,4 +1,4 @@
-use Rattle.std.proofs.Common.{map}
+use Rattle.mesh_settled.proofs.Common.{map}
 use Rattle.mesh_settled.proofs.GapsLemmas.PeerLemmas.{is_sender}
 use Rattle.mesh_settled.proofs.GapsLemmas.JointLemmas.{router_found}
 use Rattle.mesh_settled.proofs.gaps.peers.is_sender.Goals as goal

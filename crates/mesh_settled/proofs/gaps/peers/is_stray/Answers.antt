@@ -1,4 +1,4 @@
-use Rattle.mesh_settled.specs.Gaps.Peers.{IsStrayAt}
+use Rattle.mesh_settled.proofs.Common.{IsStrayAt}
 use Rattle.mesh_settled.proofs.GapsLemmas.JointLemmas.{one_not}
 use Rattle.mesh_settled.proofs.GapsLemmas.PeerLemmas.{no_stray}
 use Rattle.mesh_settled.proofs.gaps.peers.is_stray.Goals as goal

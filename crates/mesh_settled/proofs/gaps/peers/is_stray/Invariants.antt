@@ -1,5 +1,4 @@
-use Rattle.std.proofs.Common.{ℕ, ◌<◌}
-use Rattle.mesh_settled.specs.Gaps.Peers.{IsStrayAt}
+use Rattle.mesh_settled.proofs.Common.{ℕ, ◌<◌, IsStrayAt}
 use Rattle.mesh_settled.proofs.gaps.peers.is_stray.Given as goal
 
 abbrev pub invariant-loop-v : goal.invariant-loop-v

@@ -1,4 +1,4 @@
-use Rattle.std.proofs.Common.{map}
+use Rattle.mesh_settled.proofs.Common.{map}
 use Rattle.mesh_settled.proofs.GapsLemmas.JointLemmas.{router_found}
 use Rattle.mesh_settled.proofs.GapsLemmas.PeerLemmas.{stray_at}
 use Rattle.mesh_settled.proofs.gaps.peers.is_stray_at.Goals as goal

@@ -1,4 +1,4 @@
-use Rattle.mesh_settled.specs.Gaps.Site.{states}
+use Rattle.mesh_settled.proofs.Common.{states}
 use Rattle.mesh_settled.proofs.GapsLemmas.PeerLemmas.{sender_known}
 use Rattle.mesh_settled.proofs.gaps.peers.origin_of.Goals as goal
 

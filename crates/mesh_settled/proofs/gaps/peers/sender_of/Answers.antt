@@ -1,5 +1,4 @@
-use Rattle.std.proofs.Common.{map}
-use Rattle.mesh_settled.specs.Gaps.Peers.{IsPeerOriginator}
+use Rattle.mesh_settled.proofs.Common.{map, IsPeerOriginator}
 use Rattle.mesh_settled.proofs.GapsLemmas.JointLemmas.{one_not}
 use Rattle.mesh_settled.proofs.GapsLemmas.PeerLemmas.{past_sender}
 use Rattle.mesh_settled.proofs.gaps.peers.sender_of.Goals as goal

@@ -1,5 +1,4 @@
-use Rattle.std.proofs.Common.{ℕ, ◌<◌, map}
-use Rattle.mesh_settled.specs.Gaps.Peers.{IsPeerOriginator}
+use Rattle.mesh_settled.proofs.Common.{ℕ, ◌<◌, map, IsPeerOriginator}
 use Rattle.mesh_settled.proofs.gaps.peers.sender_of.Given as goal
 
 abbrev pub invariant-loop-w : goal.invariant-loop-w

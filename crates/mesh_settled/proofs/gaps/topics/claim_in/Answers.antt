@@ -1,6 +1,4 @@
-use Rattle.std.proofs.Common.{◌≡◌, Some, refl}
-use Rattle.std.proofs.lemmas.Option.{slice_get_read}
-use Rattle.mesh_settled.specs.Gaps.Topics.{claim_if}
+use Rattle.mesh_settled.proofs.Common.{◌≡◌, Some, refl, slice_get_read, claim_if}
 use Rattle.mesh_settled.proofs.GapsLemmas.JointLemmas.{found_one, none_one, none_found}
 use Rattle.mesh_settled.proofs.GapsLemmas.RowLemmas.{value_self}
 use Rattle.mesh_settled.proofs.gaps.topics.claim_in.Goals as goal

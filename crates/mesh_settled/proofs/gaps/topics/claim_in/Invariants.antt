@@ -1,5 +1,4 @@
-use Rattle.std.proofs.Common.{◌≡◌, Some}
-use Rattle.mesh_settled.specs.Gaps.Topics.{claim_if}
+use Rattle.mesh_settled.proofs.Common.{◌≡◌, Some, claim_if}
 use Rattle.mesh_settled.proofs.GapsLemmas.JointLemmas.{NoneBefore}
 use Rattle.mesh_settled.proofs.gaps.topics.claim_in.Given as goal
 

@@ -1,5 +1,4 @@
-use Rattle.std.specs.Prelude.{Some, [], ◌∷◌}
-use Rattle.mesh_settled.specs.Gaps.Fields.{Number, cost_field}
+use Rattle.mesh_settled.proofs.Common.{Some, [], ◌∷◌, Number, cost_field}
 use Rattle.mesh_settled.proofs.gaps.topics.difference_between.Goals as goal
 
 pub returns : goal.returns

@@ -1,7 +1,4 @@
-use Rattle.std.proofs.Common.{subst, sym}
-use Rattle.mesh_settled.specs.Gaps.Gaps.{AreSame}
-use Rattle.mesh_settled.specs.Gaps.Site.{states, seen}
-use Rattle.mesh_settled.specs.Gaps.Topics.{key_at, claim_fields}
+use Rattle.mesh_settled.proofs.Common.{subst, sym, AreSame, states, seen, key_at, claim_fields}
 use Rattle.mesh_settled.proofs.GapsLemmas.JointLemmas.{denied}
 use Rattle.mesh_settled.proofs.GapsLemmas.Sides.{gap_found}
 use Rattle.mesh_settled.proofs.GapsLemmas.TopicLemmas.{stray_same, given_as, excepted_is}

@@ -1,4 +1,4 @@
-use Rattle.mesh_settled.specs.Gaps.Site.{states, seen}
+use Rattle.mesh_settled.proofs.Common.{states, seen}
 use Rattle.mesh_settled.proofs.GapsLemmas.JointLemmas.{router_found}
 use Rattle.mesh_settled.proofs.GapsLemmas.TopicLemmas.{by_rows}
 use Rattle.mesh_settled.proofs.gaps.topics.gap_by.Goals as goal

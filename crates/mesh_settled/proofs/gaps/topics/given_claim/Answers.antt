@@ -1,5 +1,4 @@
-use Rattle.mesh_settled.specs.Gaps.Peers.{IsPeerOriginator}
-use Rattle.mesh_settled.specs.Gaps.Site.{states}
+use Rattle.mesh_settled.proofs.Common.{IsPeerOriginator, states}
 use Rattle.mesh_settled.proofs.GapsLemmas.JointLemmas.{value_some, value_none, router_found}
 use Rattle.mesh_settled.proofs.GapsLemmas.TopicLemmas.{given_side, none_given, its_origin}
 use Rattle.mesh_settled.proofs.gaps.topics.given_claim.Goals as goal

@@ -1,6 +1,4 @@
-use Rattle.mesh_settled.specs.Gaps.Found.{IsLeastGap}
-use Rattle.mesh_settled.specs.Gaps.Site.{states, seen}
-use Rattle.mesh_settled.specs.Gaps.Topics.{IsByRows}
+use Rattle.mesh_settled.proofs.Common.{IsLeastGap, states, seen, IsByRows}
 use Rattle.mesh_settled.proofs.GapsLemmas.Leasts.{Below}
 use Rattle.mesh_settled.proofs.gaps.topics.given_gap.Given as goal
 

@@ -1,5 +1,4 @@
-use Rattle.std.proofs.Common.{sym, ◌∙◌}
-use Rattle.mesh_settled.specs.Gaps.Site.{seen}
+use Rattle.mesh_settled.proofs.Common.{sym, ◌∙◌, seen}
 use Rattle.mesh_settled.proofs.GapsLemmas.TopicLemmas.{key_place}
 use Rattle.mesh_settled.proofs.gaps.topics.held_at.Goals as goal
 

@@ -1,4 +1,4 @@
-use Rattle.mesh_settled.specs.Gaps.Site.{seen}
+use Rattle.mesh_settled.proofs.Common.{seen}
 use Rattle.mesh_settled.proofs.GapsLemmas.TopicLemmas.{held_router, held_address, held_network}
 use Rattle.mesh_settled.proofs.gaps.topics.held_claim.Goals as goal
 

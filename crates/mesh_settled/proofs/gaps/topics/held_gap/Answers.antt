@@ -1,5 +1,4 @@
-use Rattle.mesh_settled.specs.Gaps.Site.{seen}
-use Rattle.mesh_settled.specs.Gaps.Topics.{IsHeldAt}
+use Rattle.mesh_settled.proofs.Common.{seen, IsHeldAt}
 use Rattle.mesh_settled.proofs.GapsLemmas.Leasts.{least_step, least_end}
 use Rattle.mesh_settled.proofs.gaps.topics.held_gap.Goals as goal
 

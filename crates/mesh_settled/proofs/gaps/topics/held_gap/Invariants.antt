@@ -1,7 +1,4 @@
-use Rattle.mesh_settled.specs.Gaps.Found.{IsLeastGap}
-use Rattle.mesh_settled.specs.Gaps.Peers.{IsOrigin}
-use Rattle.mesh_settled.specs.Gaps.Site.{states, seen}
-use Rattle.mesh_settled.specs.Gaps.Topics.{IsHeldAt}
+use Rattle.mesh_settled.proofs.Common.{IsLeastGap, IsOrigin, states, seen, IsHeldAt}
 use Rattle.mesh_settled.proofs.GapsLemmas.Leasts.{Below}
 use Rattle.mesh_settled.proofs.gaps.topics.held_gap.Given as goal
 

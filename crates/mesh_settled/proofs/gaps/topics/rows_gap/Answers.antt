@@ -1,7 +1,4 @@
-use Rattle.std.proofs.Common.{◌≡◌}
-use Rattle.std.proofs.lemmas.Option.{slice_get-get_or}
-use Rattle.mesh_settled.specs.Gaps.Site.{seen}
-use Rattle.mesh_settled.specs.Gaps.Topics.{IsToRow, key_at}
+use Rattle.mesh_settled.proofs.Common.{◌≡◌, slice_get-get_or, seen, IsToRow, key_at}
 use Rattle.mesh_settled.proofs.GapsLemmas.Leasts.{at_place, least_step, least_end}
 use Rattle.mesh_settled.proofs.gaps.topics.rows_gap.Goals as goal
 

@@ -1,6 +1,4 @@
-use Rattle.mesh_settled.specs.Gaps.Found.{IsLeastGap}
-use Rattle.mesh_settled.specs.Gaps.Site.{seen}
-use Rattle.mesh_settled.specs.Gaps.Topics.{IsToRow}
+use Rattle.mesh_settled.proofs.Common.{IsLeastGap, seen, IsToRow}
 use Rattle.mesh_settled.proofs.GapsLemmas.Leasts.{Below}
 use Rattle.mesh_settled.proofs.gaps.topics.rows_gap.Given as goal
 

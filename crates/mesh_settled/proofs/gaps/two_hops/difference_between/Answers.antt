@@ -1,5 +1,4 @@
-use Rattle.std.proofs.Common.{[], ◌∷◌}
-use Rattle.mesh_settled.specs.Gaps.Fields.{Number, known_cost}
+use Rattle.mesh_settled.proofs.Common.{[], ◌∷◌, Number, known_cost}
 use Rattle.mesh_settled.proofs.gaps.two_hops.difference_between.Goals as goal
 
 pub returns : goal.returns

@@ -1,10 +1,4 @@
-use Rattle.std.proofs.Common.{map}
-use Rattle.std.specs.Prelude.{option_map}
-use Rattle.mesh_atoms.specs.declared.tuples.TwoHopKey.{TwoHopKey}
-use Rattle.mesh_settled.specs.Gaps.Found.{IsSide}
-use Rattle.mesh_settled.specs.Gaps.Fields.{two_hop_fields}
-use Rattle.mesh_settled.specs.Gaps.Gaps.{look, IsHeldTwoHop, IsPresentTwoHop}
-use Rattle.mesh_settled.specs.Gaps.TwoHops.{key_by}
+use Rattle.mesh_settled.proofs.Common.{map, option_map, TwoHopKey, IsSide, two_hop_fields, look, IsHeldTwoHop, IsPresentTwoHop, key_by}
 use Rattle.mesh_settled.proofs.GapsLemmas.Sides.{gap_found}
 use Rattle.mesh_settled.proofs.GapsLemmas.TwoHopLemmas.{held_two_hop, given_two_hop}
 use Rattle.mesh_settled.proofs.gaps.two_hops.gap_at.Goals as goal

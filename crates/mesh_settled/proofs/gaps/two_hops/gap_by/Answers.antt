@@ -1,4 +1,4 @@
-use Rattle.std.proofs.Common.{map}
+use Rattle.mesh_settled.proofs.Common.{map}
 use Rattle.mesh_settled.proofs.GapsLemmas.TwoHopLemmas.{all_by}
 use Rattle.mesh_settled.proofs.gaps.two_hops.gap_by.Goals as goal
 

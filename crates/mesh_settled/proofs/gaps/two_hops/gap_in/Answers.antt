@@ -1,7 +1,4 @@
-use Rattle.std.proofs.Common.{map, refl}
-use Rattle.std.proofs.lemmas.Option.{slice_get_read}
-use Rattle.mesh_settled.specs.Gaps.TwoHops.{IsKeyOf, IsKeyOfAt}
-use Rattle.mesh_settled.specs.Gaps.Site.{seen}
+use Rattle.mesh_settled.proofs.Common.{map, refl, slice_get_read, IsKeyOf, IsKeyOfAt, seen}
 use Rattle.mesh_settled.proofs.GapsLemmas.Leasts.{at_place, least_step, least_end}
 use Rattle.mesh_settled.proofs.gaps.two_hops.gap_in.Goals as goal
 

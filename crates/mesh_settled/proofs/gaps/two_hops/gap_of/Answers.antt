@@ -1,8 +1,4 @@
-use Rattle.std.proofs.Common.{map, subst}
-use Rattle.mesh_atoms.specs.declared.settings.RouterSettings.{RouterSettings}
-use Rattle.mesh_atoms.specs.Settled.{IsLeastAddress}
-use Rattle.mesh_settled.specs.Gaps.Joints.{IsLeastOf}
-use Rattle.mesh_settled.specs.Gaps.Site.{seen}
+use Rattle.mesh_settled.proofs.Common.{map, subst, RouterSettings, IsLeastAddress, IsLeastOf, seen}
 use Rattle.mesh_settled.proofs.GapsLemmas.JointLemmas.{value_some, value_none, router_found}
 use Rattle.mesh_settled.proofs.GapsLemmas.LinkLemmas.{end_is}
 use Rattle.mesh_settled.proofs.GapsLemmas.TwoHopLemmas.{end_by, key_of}

@@ -1,5 +1,4 @@
-use Rattle.mesh_settled.specs.Gaps.TwoHops.{IsKeyNear}
-use Rattle.mesh_settled.specs.Gaps.Site.{seen}
+use Rattle.mesh_settled.proofs.Common.{IsKeyNear, seen}
 use Rattle.mesh_settled.proofs.GapsLemmas.Leasts.{least_step, least_end}
 use Rattle.mesh_settled.proofs.gaps.two_hops.given_by.Goals as goal
 

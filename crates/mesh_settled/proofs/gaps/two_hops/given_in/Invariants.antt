@@ -1,6 +1,4 @@
-use Rattle.mesh_settled.specs.Gaps.Found.{IsLeastGap}
-use Rattle.mesh_settled.specs.Gaps.TwoHops.{IsKeyIn}
-use Rattle.mesh_settled.specs.Gaps.Site.{seen}
+use Rattle.mesh_settled.proofs.Common.{IsLeastGap, IsKeyIn, seen}
 use Rattle.mesh_settled.proofs.GapsLemmas.Leasts.{Below}
 use Rattle.mesh_settled.proofs.gaps.two_hops.given_in.Given as goal
 

@@ -1,8 +1,5 @@
-use Rattle.std.proofs.Common.{sym, ap, ◌∙◌}
-use Rattle.mesh_machine.specs.expire.Table.{entry_of}
-use Rattle.mesh_settled.specs.Gaps.TwoHops.{IsGivenIn}
+use Rattle.mesh_settled.proofs.Common.{sym, ap, ◌∙◌, entry_of, IsGivenIn, seen}
 use Rattle.mesh_settled.proofs.GapsLemmas.Leasts.{at_entry}
-use Rattle.mesh_settled.specs.Gaps.Site.{seen}
 use Rattle.mesh_settled.proofs.gaps.two_hops.given_near.Goals as goal
 
 pub returns-in-Some : goal.returns-in-Some

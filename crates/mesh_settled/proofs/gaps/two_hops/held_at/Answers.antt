@@ -1,7 +1,5 @@
-use Rattle.std.proofs.Common.{sym, ap, ◌∙◌}
-use Rattle.mesh_machine.specs.expire.Table.{entry_of}
+use Rattle.mesh_settled.proofs.Common.{sym, ap, ◌∙◌, entry_of, seen}
 use Rattle.mesh_settled.proofs.GapsLemmas.TwoHopLemmas.{held_here}
-use Rattle.mesh_settled.specs.Gaps.Site.{seen}
 use Rattle.mesh_settled.proofs.gaps.two_hops.held_at.Goals as goal
 
 pub returns-then-key-end : goal.returns-then-key-end

@@ -1,5 +1,4 @@
-use Rattle.mesh_settled.specs.Gaps.TwoHops.{IsTwoHopAt}
-use Rattle.mesh_settled.specs.Gaps.Site.{seen}
+use Rattle.mesh_settled.proofs.Common.{IsTwoHopAt, seen}
 use Rattle.mesh_settled.proofs.GapsLemmas.Leasts.{least_step, least_end}
 use Rattle.mesh_settled.proofs.gaps.two_hops.held_by.Goals as goal
 

@@ -1,4 +1,4 @@
-use Rattle.std.proofs.Common.{map}
+use Rattle.mesh_settled.proofs.Common.{map}
 use Rattle.mesh_settled.proofs.GapsLemmas.TwoHopLemmas.{all_two_hops}
 use Rattle.mesh_settled.proofs.gaps.two_hops.two_hop_gap.Goals as goal
 

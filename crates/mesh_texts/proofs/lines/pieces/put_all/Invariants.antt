@@ -1,6 +1,4 @@
-use Rattle.std.proofs.Common.{◌≡◌, ◌++◌, take}
-use Rattle.std.specs.List.{flat_map}
-use Rattle.mesh_texts.specs.Lines.Pieces.{piece_text}
+use Rattle.mesh_texts.proofs.Common.{◌≡◌, ◌++◌, take, flat_map, piece_text}
 use Rattle.mesh_texts.proofs.lines.pieces.put_all.Given as goal
 
 abbrev pub invariant-loop-piece : goal.invariant-loop-piece

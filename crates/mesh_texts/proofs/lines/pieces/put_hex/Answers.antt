@@ -1,5 +1,4 @@
-use Rattle.std.proofs.Common.{◌≡◌, ◌+◌, ◌-◌, ◌++◌, List, ℕ, take, drop, ap, ◌∙◌, arith, append_assoc, sym}
-use Rattle.hex.specs.Hex.{encode_lower}
+use Rattle.mesh_texts.proofs.Common.{◌≡◌, ◌+◌, ◌-◌, ◌++◌, List, ℕ, take, drop, ap, ◌∙◌, arith, append_assoc, sym, encode_lower}
 use Rattle.mesh_texts.proofs.LinesLemmas.Digits.{digits_none, digits_more}
 use Rattle.mesh_texts.proofs.lines.pieces.put_hex.Goals as goal
 

@@ -1,5 +1,4 @@
-use Rattle.std.proofs.Common.{◌≡◌, ◌-◌, ◌≤◌, ◌++◌, length, take}
-use Rattle.hex.specs.Hex.{encode_lower}
+use Rattle.mesh_texts.proofs.Common.{◌≡◌, ◌-◌, ◌≤◌, ◌++◌, length, take, encode_lower}
 use Rattle.mesh_texts.proofs.lines.pieces.put_hex.Given as goal
 
 abbrev pub invariant-loop-at : goal.invariant-loop-at

@@ -1,7 +1,4 @@
-use Rattle.std.proofs.Common.{◌≡◌, ◌++◌, drop, map}
-use Rattle.mesh_settled.specs.machine.tlv.Least.{Grows}
-use Rattle.mesh_texts.specs.Lines.Marks.{line_of}
-use Rattle.mesh_texts.specs.Lines.Pieces.{labelled_text}
+use Rattle.mesh_texts.proofs.Common.{◌≡◌, ◌++◌, drop, map, Grows, line_of, labelled_text}
 use Rattle.mesh_texts.proofs.lines.pieces.put_line.Given as goal
 
 abbrev pub invariant-loop-piece : goal.invariant-loop-piece

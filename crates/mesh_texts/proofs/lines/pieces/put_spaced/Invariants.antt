@@ -1,6 +1,4 @@
-use Rattle.std.proofs.Common.{◌≡◌, ◌++◌, take, codes}
-use Rattle.std.specs.List.{flat_map}
-use Rattle.mesh_texts.specs.Lines.Marks.{dotted}
+use Rattle.mesh_texts.proofs.Common.{◌≡◌, ◌++◌, take, codes, flat_map, dotted}
 use Rattle.mesh_texts.proofs.lines.pieces.put_spaced.Given as goal
 
 abbrev pub invariant-loop-addr : goal.invariant-loop-addr

@@ -1,4 +1,4 @@
-use Rattle.mesh_tool.specs.Jobs.Calls.{sink_use}
+use Rattle.mesh_tool.proofs.Common.{sink_use}
 use Rattle.mesh_tool.proofs.AnswersLemmas.Answering.{answers}
 use Rattle.mesh_tool.proofs.answers.top.top_over.Goals as goal
 

@@ -1,5 +1,4 @@
-use Rattle.std.proofs.Common.{sym}
-use Rattle.mesh_tool.specs.Jobs.Endings.{Did}
+use Rattle.mesh_tool.proofs.Common.{sym, Did}
 use Rattle.mesh_tool.proofs.jobs.jobs.do_asked.Goals as goal
 
 pub returns-in-Ok-clause-does : goal.returns-in-Ok-clause-does

@@ -1,9 +1,4 @@
-use Rattle.std.proofs.Common.{[], refl, sym, ◌∙◌}
-use Rattle.mesh_io.proofs.Fronts.{keeps_same}
-use Rattle.mesh_tool.specs.Jobs.Calls.{air_use}
-use Rattle.mesh_tool.specs.Jobs.Commands.{command_of}
-use Rattle.mesh_tool.specs.Jobs.Endings.{Unread, Worked}
-use Rattle.mesh_tool.specs.Words.Words.{texts}
+use Rattle.mesh_tool.proofs.Common.{[], refl, sym, ◌∙◌, keeps_same, air_use, command_of, Unread, Worked, texts}
 use Rattle.mesh_tool.proofs.AnswersLemmas.Reads.{works_whole, works_on_none}
 use Rattle.mesh_tool.proofs.jobs.jobs.do_job.Goals as goal
 

@@ -1,7 +1,6 @@
-use Rattle.std.proofs.Common.{Err, ap}
+use Rattle.mesh_tool.proofs.Common.{Err, ap, Leaves}
 use Rattle.mesh_emulate.proofs.Refusals.{emulated_not_refused}
 use Rattle.mesh_emulate.specs.Wants.{wants_of}
-use Rattle.mesh_tool.specs.Jobs.Endings.{Leaves}
 use Rattle.mesh_tool.proofs.jobs.jobs.emulate.Goals as goal
 
 pub returns-in-Ok-clause-leaves : goal.returns-in-Ok-clause-leaves

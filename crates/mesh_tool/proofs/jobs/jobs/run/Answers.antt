@@ -1,7 +1,5 @@
-use Rattle.std.proofs.Common.{[], ◌∷◌, ◌++◌, Err, None, ap, ◌∙◌, inl, inr}
+use Rattle.mesh_tool.proofs.Common.{[], ◌∷◌, ◌++◌, Err, None, ap, ◌∙◌, inl, inr, air_use, Leaves}
 use Rattle.mesh_run.specs.declared.fault.RunFault.TheVariants.{Stopped}
-use Rattle.mesh_tool.specs.Jobs.Calls.{air_use}
-use Rattle.mesh_tool.specs.Jobs.Endings.{Leaves}
 use Rattle.mesh_tool.proofs.JobsLemmas.Outputs.{run_uses}
 use Rattle.mesh_tool.proofs.jobs.jobs.run.Goals as goal
 

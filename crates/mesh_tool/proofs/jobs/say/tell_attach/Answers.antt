@@ -1,6 +1,4 @@
-use Rattle.std.proofs.Common.{ℕ, List, subst, ◌∙◌}
-use Rattle.mesh_tool.specs.Jobs.Calls.{sink_use}
-use Rattle.mesh_tool.specs.Jobs.Endings.{TellsLine}
+use Rattle.mesh_tool.proofs.Common.{ℕ, List, subst, ◌∙◌, sink_use, TellsLine}
 use Rattle.mesh_tool.specs.declared.jobs.status.Status.TheVariants as status
 use Rattle.mesh_tool.proofs.JobsLemmas.Pieces.{attach_is}
 use Rattle.mesh_tool.proofs.jobs.say.tell_attach.Goals as goal

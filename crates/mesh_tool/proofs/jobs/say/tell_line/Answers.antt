@@ -1,5 +1,4 @@
-use Rattle.std.proofs.Common.{◌+◌, ◌++◌, drop, get_or, take, inr, refl, arith}
-use Rattle.mesh_io.proofs.Fronts.{front_first, front_second}
+use Rattle.mesh_tool.proofs.Common.{◌+◌, ◌++◌, drop, get_or, take, inr, refl, arith, front_first, front_second}
 use Rattle.mesh_io.proofs.Steps.{appends_more}
 use Rattle.mesh_tool.proofs.JobsLemmas.Pieces.{text, no_piece, text_more, text_around}
 use Rattle.mesh_tool.proofs.jobs.say.tell_line.Goals as goal

@@ -1,5 +1,4 @@
-use Rattle.std.proofs.Common.{◌≤◌, take}
-use Rattle.std.specs.Io.KnownBytes.{Appends}
+use Rattle.mesh_tool.proofs.Common.{◌≤◌, take, Appends}
 use Rattle.mesh_tool.proofs.JobsLemmas.Pieces.{text}
 use Rattle.mesh_tool.proofs.jobs.say.tell_line.Given as goal
 

@@ -1,5 +1,4 @@
-use Rattle.std.proofs.Common.{Global, length, refl, string_bytes, sym}
-use Rattle.std.proofs.lemmas.Bool.{ltb-false}
+use Rattle.mesh_tool.proofs.Common.{Global, length, refl, string_bytes, sym, ltb-false}
 use Rattle.std.proofs.lemmas.Option.{slice_get-map, slice_get_read, slice_get_past}
 use Rattle.mesh_tool.proofs.jobs.words.word_or.Goals as goal
 

@@ -1,9 +1,5 @@
-use Rattle.std.proofs.Common.{◌≡◌, ℕ, ◌+◌, ◌<◌, List, ◌∷◌, length, drop, map, get_or, sym, ap, ◌∙◌, arith, Some, None, Option}
-use Rattle.std.specs.Prelude.{String, string_bytes}
+use Rattle.mesh_tool.proofs.Common.{◌≡◌, ℕ, ◌+◌, ◌<◌, List, ◌∷◌, length, drop, map, get_or, sym, ap, ◌∙◌, arith, Some, None, Option, String, string_bytes, drop-map, drop_more, Parsing, read_on, takes, texts, or_at}
 use Rattle.std.specs.declared.alloc.Global.{Global}
-use Rattle.std.proofs.lemmas.List.{drop-map, drop_more}
-use Rattle.mesh_tool.specs.declared.words.asked.Parsing.{Parsing}
-use Rattle.mesh_tool.specs.Words.Words.{read_on, takes, texts, or_at}
 use Rattle.mesh_tool.proofs.words.words.job_in.Goals as goal
 
 word_at : (words : List (String Global)) (i : ℕ) (d : String Global) → i < length words → d ≡ get_or words i d → drop i (texts words) ≡ string_bytes d ∷ drop (i + 1) (texts words)

@@ -1,5 +1,4 @@
-use Rattle.std.proofs.Common.{◌≡◌, drop}
-use Rattle.mesh_tool.specs.Words.Words.{words_of, read_on, texts}
+use Rattle.mesh_tool.proofs.Common.{◌≡◌, drop, words_of, read_on, texts}
 use Rattle.mesh_tool.proofs.words.words.job_in.Given as goal
 
 abbrev pub invariant-loop-place : goal.invariant-loop-place

@@ -1,4 +1,4 @@
-use Rattle.mesh_tool.specs.Words.Words.{texts}
+use Rattle.mesh_tool.proofs.Common.{texts}
 use Rattle.mesh_tool.proofs.WordsLemmas.Ranges.{read_in_range}
 use Rattle.mesh_tool.proofs.words.words.read_words.Goals as goal
 

@@ -1,6 +1,4 @@
-use Rattle.std.proofs.Common.{◌≡◌, ◌++◌}
-use Rattle.std.specs.Prelude.{map}
-use Rattle.mesh_topo.specs.Advertised.Offers.{row_of}
+use Rattle.mesh_topo.proofs.Common.{◌≡◌, ◌++◌, map, row_of}
 use Rattle.mesh_topo.proofs.advertised.rows.in_order.Given as goal
 
 abbrev pub invariant-loop-net : goal.invariant-loop-net

@@ -1,6 +1,4 @@
-use Rattle.std.proofs.Common.{false}
-use Rattle.std.specs.Prelude.{drop, map}
-use Rattle.mesh_topo.specs.Advertised.Offers.{of_address}
+use Rattle.mesh_topo.proofs.Common.{false, drop, map, of_address}
 use Rattle.mesh_topo.proofs.AdvertisedLemmas.Offering.{Leaves}
 use Rattle.mesh_topo.proofs.advertised.rows.put_addresses.Given as goal
 

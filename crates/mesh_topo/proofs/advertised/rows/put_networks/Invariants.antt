@@ -1,5 +1,4 @@
-use Rattle.std.specs.Prelude.{drop, map}
-use Rattle.mesh_topo.specs.Advertised.Offers.{of_network}
+use Rattle.mesh_topo.proofs.Common.{drop, map, of_network}
 use Rattle.mesh_topo.proofs.AdvertisedLemmas.Offering.{Leaves}
 use Rattle.mesh_topo.proofs.advertised.rows.put_networks.Given as goal
 

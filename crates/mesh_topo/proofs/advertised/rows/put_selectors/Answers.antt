@@ -1,8 +1,4 @@
-use Rattle.std.proofs.Common.{◌∷◌, ◌+◌, sym, ap, ◌∙◌}
-use Rattle.std.specs.Prelude.{drop, flat_map}
-use Rattle.std.proofs.lemmas.List.{at_drop_more}
-use Rattle.mesh_topo.specs.declared.advertised.rows.Selector.{Selector}
-use Rattle.mesh_topo.specs.Advertised.Offers.{of_selector}
+use Rattle.mesh_topo.proofs.Common.{◌∷◌, ◌+◌, sym, ap, ◌∙◌, drop, flat_map, at_drop_more, Selector, of_selector}
 use Rattle.mesh_topo.proofs.AdvertisedLemmas.Offering.{keeps_more}
 use Rattle.mesh_topo.proofs.advertised.rows.put_selectors.Goals as goal
 

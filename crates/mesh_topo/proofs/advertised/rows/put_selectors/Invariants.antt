@@ -1,5 +1,4 @@
-use Rattle.std.specs.Prelude.{drop, flat_map}
-use Rattle.mesh_topo.specs.Advertised.Offers.{of_selector}
+use Rattle.mesh_topo.proofs.Common.{drop, flat_map, of_selector}
 use Rattle.mesh_topo.proofs.AdvertisedLemmas.Offering.{Leaves}
 use Rattle.mesh_topo.proofs.advertised.rows.put_selectors.Given as goal
 

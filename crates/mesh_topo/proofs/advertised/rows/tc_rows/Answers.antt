@@ -1,5 +1,4 @@
-use Rattle.std.specs.Prelude.{flat_map, map}
-use Rattle.mesh_topo.specs.Advertised.Offers.{of_selector, of_network}
+use Rattle.mesh_topo.proofs.Common.{flat_map, map, of_selector, of_network}
 use Rattle.mesh_topo.proofs.AdvertisedLemmas.Advertising.{are_rows, router_rows}
 use Rattle.mesh_topo.proofs.AdvertisedLemmas.Offering.{starting}
 use Rattle.mesh_topo.proofs.advertised.rows.tc_rows.Goals as goal

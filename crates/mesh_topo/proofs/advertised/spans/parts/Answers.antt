@@ -1,7 +1,4 @@
-use Rattle.std.proofs.Common.{sym, subst, arith, ◌+◌, List, map}
-use Rattle.mesh_atoms.specs.Advertised.{AreParts}
-use Rattle.mesh_topo.specs.declared.advertised.spans.PartSpan.{PartSpan}
-use Rattle.mesh_topo.specs.Advertised.Spans.{part_of, AreSpans}
+use Rattle.mesh_topo.proofs.Common.{sym, subst, arith, ◌+◌, List, map, AreParts, PartSpan, part_of, AreSpans}
 use Rattle.mesh_topo.proofs.AdvertisedLemmas.Cutting.{AreFull, one_full, spans_are, parts_are}
 use Rattle.mesh_topo.proofs.advertised.spans.parts.Goals as goal
 

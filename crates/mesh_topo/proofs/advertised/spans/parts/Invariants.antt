@@ -1,4 +1,4 @@
-use Rattle.std.proofs.Common.{◌-◌}
+use Rattle.mesh_topo.proofs.Common.{◌-◌}
 use Rattle.mesh_topo.proofs.AdvertisedLemmas.Cutting.{AreFull}
 use Rattle.mesh_topo.proofs.advertised.spans.parts.Given as goal
 

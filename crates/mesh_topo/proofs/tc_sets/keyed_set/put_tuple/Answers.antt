@@ -1,5 +1,4 @@
-use Rattle.std.proofs.Common.{is_some, sym, ap, ◌∙◌}
-use Rattle.mesh_expire.proofs.Laws.{renewed, renewed-none}
+use Rattle.mesh_topo.proofs.Common.{is_some, sym, ap, ◌∙◌, renewed, renewed-none}
 use Rattle.mesh_topo.proofs.TcSetsLemmas.Laws.{keys_held, put_same}
 use Rattle.mesh_topo.proofs.tc_sets.keyed_set.put_tuple.Goals as goal
 

@@ -1,10 +1,7 @@
-use Rattle.std.proofs.Common.{◌≤◌, sym, subst, ◌∙◌}
-use Rattle.std.specs.List.{AllByRecursion}
-use Rattle.std.specs.List.Sorted.{IsStrictlySortedBy}
+use Rattle.mesh_topo.proofs.Common.{◌≤◌, sym, subst, ◌∙◌, AllByRecursion, IsStrictlySortedBy, is_outdated}
 use Rattle.std.specs.declared.ops.Bound.TheVariants.{Included, Unbounded}
 use Rattle.std.specs.BTreeMap.Range.{range_contains}
 use Rattle.std.proofs.lemmas.List.Kept.{IsStrictlySortedBy-filter}
-use Rattle.mesh_topo.specs.TcSets.Sets.{is_outdated}
 use Rattle.mesh_topo.proofs.TcSetsLemmas.Originators.{walk_begins, walk_finds, walk_passes, walk_stops, rest_sorted, rest_all, all_filter, in_range, of_range, outdated_of, outdated_there, outdated_is, of_another, any_key}
 use Rattle.mesh_topo.proofs.tc_sets.outdated.outdated.Goals as goal
 

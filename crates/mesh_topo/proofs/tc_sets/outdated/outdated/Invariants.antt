@@ -1,7 +1,4 @@
-use Rattle.std.proofs.Common.{◌≤◌}
-use Rattle.std.specs.List.{AllByRecursion}
-use Rattle.std.specs.List.Sorted.{IsStrictlySortedBy}
-use Rattle.mesh_topo.specs.TcSets.Sets.{is_outdated}
+use Rattle.mesh_topo.proofs.Common.{◌≤◌, AllByRecursion, IsStrictlySortedBy, is_outdated}
 use Rattle.mesh_topo.proofs.TcSetsLemmas.Originators.{Walks}
 use Rattle.mesh_topo.proofs.tc_sets.outdated.outdated.Given as goal
 

@@ -1,8 +1,4 @@
-use Rattle.std.proofs.Common.{◌≡◌, ◌≤◌, take, length, cond}
-use Rattle.std.specs.Prelude.{None}
-use Rattle.std.specs.List.{list_any}
-use Rattle.mesh_atoms.specs.Base.{HasDistinctKeys, find}
-use Rattle.mesh_expire.specs.Keyed.{AreKeys}
+use Rattle.mesh_topo.proofs.Common.{◌≡◌, ◌≤◌, take, length, cond, None, list_any, HasDistinctKeys, find, AreKeys}
 use Rattle.mesh_topo.proofs.tc_sets.outdated.remove_all.Given as goal
 
 abbrev pub invariant-loop-key : goal.invariant-loop-key

@@ -1,14 +1,8 @@
-use Rattle.std.proofs.Common.{arith, ◌≡◌, ◌||◌, false}
-use Rattle.mesh_atoms.specs.Base.{router_eq, address_eq, network_eq}
-use Rattle.mesh_atoms.specs.Live.{LiveTopology}
-use Rattle.mesh_atoms.specs.State.{TopologyBase}
+use Rattle.mesh_topo.proofs.Common.{arith, ◌≡◌, ◌||◌, false, router_eq, address_eq, network_eq, LiveTopology, TopologyBase, AreFew, sets_of, router_says, address_says, network_says, or_parts as neither}
 use Rattle.mesh_topo.specs.Same.{SameAdvertised}
-use Rattle.mesh_topo.specs.Sets.{AreFew, sets_of}
-use Rattle.mesh_topo.specs.TcSets.Tuples.{router_says, address_says, network_says}
 use Rattle.mesh_topo.proofs.TcSetsLemmas.Laws.{same_equal}
 use Rattle.mesh_topo.proofs.Soundness.{live_fresh, live_sound}
 use Rattle.mesh_topo.proofs.topology.Topology.expire_and_tell.Goals as goal
-use Rattle.std.proofs.lemmas.Bool.{or_parts as neither}
 
 pub returns : goal.returns
 returns g c =

@@ -1,5 +1,4 @@
-use Rattle.std.proofs.Common.{◌+◌}
-use Rattle.mesh_trace.specs.Reading.Readers.{lines_from}
+use Rattle.mesh_trace.proofs.Common.{◌+◌, lines_from}
 use Rattle.mesh_trace.proofs.ReadingLemmas.Rests.{rest_is, from_here}
 use Rattle.mesh_trace.proofs.reading.Reader.rest.Goals as goal
 

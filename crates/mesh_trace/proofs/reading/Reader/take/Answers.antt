@@ -1,4 +1,4 @@
-use Rattle.std.proofs.Common.{refl}
+use Rattle.mesh_trace.proofs.Common.{refl}
 use Rattle.mesh_trace.proofs.ReadingLemmas.Rests.{from_here}
 use Rattle.mesh_trace.proofs.reading.Reader.take.Goals as goal
 

@@ -1,7 +1,4 @@
-use Rattle.std.proofs.Common.{map, sym, subst, ℕ}
-use Rattle.std.proofs.lemmas.Bool.{false≢true}
-use Rattle.std.proofs.lemmas.List.Elements.{All-contains}
-use Rattle.mesh_packet.specs.Fields.{fields_of_block}
+use Rattle.mesh_trace.proofs.Common.{map, sym, subst, ℕ, false≢true, All-contains, fields_of_block}
 use Rattle.mesh_packet.specs.Least.{IsEncodableBlock}
 use Rattle.mesh_trace.proofs.SpellingLemmas.Mapped.{next_mapped, there_mapped}
 use Rattle.mesh_trace.proofs.SpellingLemmas.Pairs.{given, is_nothing, left_more, left_never, pair_there}

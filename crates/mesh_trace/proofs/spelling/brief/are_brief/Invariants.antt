@@ -1,5 +1,4 @@
-use Rattle.std.specs.Prelude.{map}
-use Rattle.mesh_packet.specs.Fields.{fields_of_block}
+use Rattle.mesh_trace.proofs.Common.{map, fields_of_block}
 use Rattle.mesh_trace.proofs.SpellingLemmas.Pairs.{Left}
 use Rattle.mesh_trace.proofs.spelling.brief.are_brief.Given as goal
 

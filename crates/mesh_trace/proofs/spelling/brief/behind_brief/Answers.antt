@@ -1,4 +1,4 @@
-use Rattle.std.proofs.Common.{length, arith}
+use Rattle.mesh_trace.proofs.Common.{length, arith}
 use Rattle.mesh_trace.proofs.SpellingLemmas.Spells.{given_place, given_no_refusal, strictly}
 use Rattle.mesh_trace.proofs.spelling.brief.behind_brief.Goals as goal
 

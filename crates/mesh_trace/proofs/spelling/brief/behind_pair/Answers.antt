@@ -1,6 +1,4 @@
-use Rattle.std.proofs.Common.{ℕ, ◌++◌, sym, ap, subst, ◌∙◌, arith}
-use Rattle.std.specs.Prelude.{slice_range}
-use Rattle.mesh_packet.specs.Fields.{fields_of_block}
+use Rattle.mesh_trace.proofs.Common.{ℕ, ◌++◌, sym, ap, subst, ◌∙◌, arith, slice_range, fields_of_block}
 use Rattle.mesh_tlv.specs.Grammar.{SpellsAddrTlvBlock}
 use Rattle.mesh_trace.proofs.SpellingLemmas.Pairs.{given, is_nothing, parts, behind_addrs, place_behind}
 use Rattle.mesh_trace.proofs.spelling.brief.behind_pair.Goals as goal

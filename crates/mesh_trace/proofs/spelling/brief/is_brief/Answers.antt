@@ -1,11 +1,4 @@
-use Rattle.std.proofs.Common.{ℕ, ◌+◌, List, length, map, refl, sym, ap, subst, ◌∙◌, arith}
-use Rattle.std.specs.Prelude.{slice_range, IsTrue, ◌↔◌}
-use Rattle.std.proofs.lemmas.Result.{IfOk-weaker}
-use Rattle.mesh_packet.specs.declared.packet.Block.{Block}
-use Rattle.mesh_packet.specs.Fields.{fields_of_block, fields_of_message}
-use Rattle.mesh_packet.specs.Grammar.{SpellsPair}
-use Rattle.mesh_tlv.specs.Items.{SpellsItems}
-use Rattle.mesh_wire.specs.Writes.{SpellsBriefly}
+use Rattle.mesh_trace.proofs.Common.{ℕ, ◌+◌, List, length, map, refl, sym, ap, subst, ◌∙◌, arith, slice_range, IsTrue, ◌↔◌, IfOk-weaker, Block, fields_of_block, fields_of_message, SpellsPair, SpellsItems, SpellsBriefly}
 use Rattle.mesh_trace.proofs.SpellingLemmas.Pairs.{tlvs_there, pairs_there, brief_there}
 use Rattle.mesh_trace.proofs.spelling.brief.is_brief.Goals as goal
 

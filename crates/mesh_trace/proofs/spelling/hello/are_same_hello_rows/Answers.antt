@@ -1,5 +1,4 @@
-use Rattle.std.proofs.Common.{refl}
-use Rattle.std.proofs.lemmas.Slice.Eq.{slice_eq-Decides}
+use Rattle.mesh_trace.proofs.Common.{refl, slice_eq-Decides}
 use Rattle.mesh_trace.proofs.SpellingLemmas.SameRows.{hello_rows}
 use Rattle.mesh_trace.proofs.spelling.hello.are_same_hello_rows.Goals as goal
 

@@ -1,9 +1,4 @@
-use Rattle.std.proofs.Common.{◌≡◌, rules, sym, ap, ◌∙◌}
-use Rattle.std.specs.Option.{is_some}
-use Rattle.std.proofs.lemmas.Bool.{false≢true}
-use Rattle.std.proofs.lemmas.List.Sorted.{answers_always}
-use Rattle.mesh_atoms.specs.declared.hello.HelloRow.{HelloRow}
-use Rattle.mesh_wire.proofs.RowLines.{one_row}
+use Rattle.mesh_trace.proofs.Common.{◌≡◌, rules, sym, ap, ◌∙◌, is_some, false≢true, answers_always, HelloRow, one_row}
 use Rattle.mesh_trace.proofs.SpellingLemmas.Searching.{found, absent}
 use Rattle.mesh_trace.proofs.spelling.hello.is_local.Goals as goal
 

@@ -1,13 +1,4 @@
-use Rattle.std.proofs.Common.{◌≡◌, rules, List, map, false, sym, subst, ◌∙◌}
-use Rattle.std.specs.Prelude.{Contains, IsTrue, ◌↔◌}
-use Rattle.std.proofs.lemmas.Bool.{false≢true}
-use Rattle.mesh_atoms.specs.declared.hello.Hello.{Hello}
-use Rattle.mesh_packet.specs.Fields.{MessageFields, fields_of_message}
-use Rattle.mesh_tlv.specs.declared.tlv.Tlv.{Tlv}
-use Rattle.mesh_tlv.specs.Fields.{TlvFields, fields}
-use Rattle.mesh_wire.specs.Hello.{HelloIs}
-use Rattle.mesh_wire.specs.Writes.{IsReadOfHello}
-use Rattle.mesh_wire.proofs.OneHello.{one_hello}
+use Rattle.mesh_trace.proofs.Common.{◌≡◌, rules, List, map, false, sym, subst, ◌∙◌, Contains, IsTrue, ◌↔◌, false≢true, Hello, MessageFields, fields_of_message, Tlv, TlvFields, fields, HelloIs, IsReadOfHello, one_hello}
 use Rattle.mesh_trace.proofs.SpellingLemmas.Hellos.{hello_width, parts_by_rows, rows_by_parts}
 use Rattle.mesh_trace.proofs.spelling.hello.is_message_of_hello.Goals as goal
 

@@ -1,5 +1,4 @@
-use Rattle.std.proofs.Common.{arith}
-use Rattle.std.proofs.lemmas.Bool.{leb-true, le-leb}
+use Rattle.mesh_trace.proofs.Common.{arith, leb-true, le-leb}
 use Rattle.mesh_trace.proofs.SpellingLemmas.Flags.{metric_read}
 use Rattle.mesh_trace.proofs.spelling.hello.is_read_of_other.Goals as goal
 

@@ -1,6 +1,4 @@
-use Rattle.std.proofs.lemmas.Bool.{false≢true}
-use Rattle.std.specs.Prelude.{[], ◌∷◌}
-use Rattle.mesh_wire.specs.Writes.{alone}
+use Rattle.mesh_trace.proofs.Common.{false≢true, [], ◌∷◌, alone}
 use Rattle.mesh_trace.proofs.SpellingLemmas.Spells.{given_no_refusal}
 use Rattle.mesh_trace.proofs.spelling.hello.spells_hello.Goals as goal
 

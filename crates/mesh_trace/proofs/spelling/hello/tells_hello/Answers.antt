@@ -1,7 +1,4 @@
-use Rattle.std.proofs.Common.{rules}
-use Rattle.std.proofs.lemmas.Result.{IfOk-weaker}
-use Rattle.mesh_packet.specs.Fields.{fields_of_message}
-use Rattle.mesh_trace.specs.Spelling.Looks.{SaysHello}
+use Rattle.mesh_trace.proofs.Common.{rules, IfOk-weaker, fields_of_message, SaysHello}
 use Rattle.mesh_trace.proofs.spelling.hello.tells_hello.Goals as goal
 
 pub returns : goal.returns

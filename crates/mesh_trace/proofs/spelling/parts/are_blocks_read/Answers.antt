@@ -1,13 +1,4 @@
-use Rattle.std.proofs.Common.{◌≡◌, rules, ℕ, ◌≤◌, List, length, false, refl, sym, subst, ◌∙◌}
-use Rattle.std.specs.Prelude.{All, Contains, IsTrue, ◌↔◌, map}
-use Rattle.std.proofs.lemmas.Bool.{false≢true}
-use Rattle.mesh_addr.specs.declared.records.RawAddr.{RawAddr}
-use Rattle.mesh_packet.specs.declared.packet.Block.{Block}
-use Rattle.mesh_packet.specs.Fields.{BlockFields, fields_of_block}
-use Rattle.mesh_tlv.specs.declared.tlv.AddrTlv.{AddrTlv}
-use Rattle.mesh_tlv.specs.Fields.{AddrTlvFields, addr_fields}
-use Rattle.mesh_tlv.specs.Least.{IsFit}
-use Rattle.mesh_trace.specs.Spelling.Looks.{SaysOnly}
+use Rattle.mesh_trace.proofs.Common.{◌≡◌, rules, ℕ, ◌≤◌, List, length, false, refl, sym, subst, ◌∙◌, All, Contains, IsTrue, ◌↔◌, map, false≢true, RawAddr, Block, BlockFields, fields_of_block, AddrTlv, AddrTlvFields, addr_fields, IsFit, SaysOnly}
 use Rattle.mesh_trace.proofs.SpellingLemmas.Mapped.{item_at, before_more, before_all, all_mapped, one_mapped, mapped_item}
 use Rattle.mesh_trace.proofs.spelling.parts.are_blocks_read.Goals as goal
 

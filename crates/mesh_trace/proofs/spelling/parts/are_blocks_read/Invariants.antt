@@ -1,9 +1,4 @@
-use Rattle.std.proofs.Common.{ℕ}
-use Rattle.std.specs.Prelude.{Contains}
-use Rattle.mesh_packet.specs.declared.packet.Block.{Block}
-use Rattle.mesh_packet.specs.Fields.{fields_of_block}
-use Rattle.mesh_tlv.specs.Fields.{AddrTlvFields}
-use Rattle.mesh_trace.specs.Spelling.Looks.{SaysOnly}
+use Rattle.mesh_trace.proofs.Common.{ℕ, Contains, Block, fields_of_block, AddrTlvFields, SaysOnly}
 use Rattle.mesh_trace.proofs.SpellingLemmas.Mapped.{HoldsBefore}
 use Rattle.mesh_trace.proofs.spelling.parts.are_blocks_read.Given as goal
 

@@ -1,10 +1,4 @@
-use Rattle.std.proofs.Common.{rules, ℕ, ◌+◌, subst, refl, slice_index_or}
-use Rattle.std.specs.Prelude.{IsTrue, []}
-use Rattle.std.proofs.lemmas.Option.{slice_get-get_or}
-use Rattle.mesh_atoms.specs.declared.addr.NetAddr.{NetAddr}
-use Rattle.mesh_addr.specs.declared.records.RawAddr.{RawAddr}
-use Rattle.mesh_tlv.specs.Fields.{addr_fields}
-use Rattle.mesh_wire.specs.Parts.{IsIn, octets_of, value_at}
+use Rattle.mesh_trace.proofs.Common.{rules, ℕ, ◌+◌, subst, refl, slice_index_or, IsTrue, [], slice_get-get_or, NetAddr, RawAddr, addr_fields, IsIn, octets_of, value_at}
 use Rattle.mesh_trace.proofs.SpellingLemmas.Mapped.{before_more, before_all}
 use Rattle.mesh_trace.proofs.spelling.parts.are_covered_read.Goals as goal
 

@@ -1,8 +1,4 @@
-use Rattle.std.proofs.Common.{◌+◌, ℕ}
-use Rattle.mesh_atoms.specs.declared.addr.NetAddr.{NetAddr}
-use Rattle.mesh_addr.specs.declared.records.RawAddr.{RawAddr}
-use Rattle.mesh_tlv.specs.Fields.{addr_fields}
-use Rattle.mesh_wire.specs.Parts.{IsIn, octets_of, value_at}
+use Rattle.mesh_trace.proofs.Common.{◌+◌, ℕ, NetAddr, RawAddr, addr_fields, IsIn, octets_of, value_at}
 use Rattle.mesh_trace.proofs.SpellingLemmas.Mapped.{HoldsBefore}
 use Rattle.mesh_trace.proofs.spelling.parts.are_covered_read.Given as goal
 

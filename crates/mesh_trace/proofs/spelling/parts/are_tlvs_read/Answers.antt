@@ -1,6 +1,4 @@
-use Rattle.std.proofs.Common.{ℕ, false, refl}
-use Rattle.mesh_tlv.specs.declared.tlv.Tlv.{Tlv}
-use Rattle.mesh_tlv.specs.Fields.{fields}
+use Rattle.mesh_trace.proofs.Common.{ℕ, false, refl, Tlv, fields}
 use Rattle.mesh_trace.proofs.SpellingLemmas.Mapped.{before_all, all_mapped}
 use Rattle.mesh_trace.proofs.spelling.parts.are_tlvs_read.Goals as goal
 

@@ -1,6 +1,4 @@
-use Rattle.std.proofs.Common.{ℕ}
-use Rattle.mesh_tlv.specs.declared.tlv.Tlv.{Tlv}
-use Rattle.mesh_tlv.specs.Fields.{fields}
+use Rattle.mesh_trace.proofs.Common.{ℕ, Tlv, fields}
 use Rattle.mesh_trace.proofs.SpellingLemmas.Mapped.{HoldsBefore}
 use Rattle.mesh_trace.proofs.spelling.parts.are_tlvs_read.Given as goal
 

@@ -1,8 +1,4 @@
-use Rattle.std.proofs.Common.{◌≡◌, ℕ, ◌+◌, ◌-◌, ◌<◌, List, sym, ap, subst, ◌∙◌, arith}
-use Rattle.std.specs.Prelude.{slice_get}
-use Rattle.mesh_addr.specs.declared.records.RawAddr.{RawAddr}
-use Rattle.mesh_tlv.specs.Fields.{addr_fields}
-use Rattle.mesh_wire.specs.Parts.{octets_of, value_at}
+use Rattle.mesh_trace.proofs.Common.{◌≡◌, ℕ, ◌+◌, ◌-◌, ◌<◌, List, sym, ap, subst, ◌∙◌, arith, slice_get, RawAddr, addr_fields, octets_of, value_at}
 use Rattle.mesh_wire.proofs.Standing.{covered, get_drop, get_take}
 use Rattle.mesh_trace.proofs.spelling.parts.is_addr_tlv_read.Goals as goal
 

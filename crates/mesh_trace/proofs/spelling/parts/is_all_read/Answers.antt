@@ -1,9 +1,4 @@
-use Rattle.std.proofs.Common.{ℕ, List, map, sym, subst}
-use Rattle.std.specs.Prelude.{All, IsTrue, ◌≤◌, ◌↔◌, slice_index_or}
-use Rattle.mesh_addr.specs.declared.records.RawAddr.{RawAddr}
-use Rattle.mesh_addr.specs.Grammar.{IsWritable}
-use Rattle.mesh_packet.specs.declared.packet.Block.{Block}
-use Rattle.mesh_packet.specs.Fields.{BlockFields, MessageFields, fields_of_block, fields_of_message}
+use Rattle.mesh_trace.proofs.Common.{ℕ, List, map, sym, subst, All, IsTrue, ◌≤◌, ◌↔◌, slice_index_or, RawAddr, IsWritable, Block, BlockFields, MessageFields, fields_of_block, fields_of_message}
 use Rattle.mesh_trace.proofs.SpellingLemmas.Told.{raw_narrow, BlocksSayOnly, parts_of_blocks, blocks_of_parts}
 use Rattle.mesh_trace.proofs.spelling.parts.is_all_read.Goals as goal
 

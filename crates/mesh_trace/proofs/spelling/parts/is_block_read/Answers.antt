@@ -1,11 +1,4 @@
-use Rattle.std.proofs.Common.{◌≡◌, rules, ℕ, length, slice_index_or, false, refl, sym, ◌∙◌}
-use Rattle.std.specs.Prelude.{IsTrue, None}
-use Rattle.std.proofs.lemmas.Bool.{false≢true}
-use Rattle.std.proofs.lemmas.Option.{slice_get-get_or}
-use Rattle.mesh_tlv.specs.declared.tlv.AddrTlv.{AddrTlv}
-use Rattle.mesh_tlv.specs.Fields.{addr_fields}
-use Rattle.mesh_tlv.specs.Least.{IsFit}
-use Rattle.mesh_trace.specs.Spelling.Looks.{SaysOnly}
+use Rattle.mesh_trace.proofs.Common.{◌≡◌, rules, ℕ, length, slice_index_or, false, refl, sym, ◌∙◌, IsTrue, None, false≢true, slice_get-get_or, AddrTlv, addr_fields, IsFit, SaysOnly}
 use Rattle.mesh_trace.proofs.SpellingLemmas.Mapped.{before_more, before_all, all_mapped, one_mapped, mapped_item}
 use Rattle.mesh_trace.proofs.spelling.parts.is_block_read.Goals as goal
 

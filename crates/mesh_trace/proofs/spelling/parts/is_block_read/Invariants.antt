@@ -1,7 +1,4 @@
-use Rattle.std.proofs.Common.{ℕ}
-use Rattle.mesh_tlv.specs.declared.tlv.AddrTlv.{AddrTlv}
-use Rattle.mesh_tlv.specs.Fields.{addr_fields}
-use Rattle.mesh_trace.specs.Spelling.Looks.{SaysOnly}
+use Rattle.mesh_trace.proofs.Common.{ℕ, AddrTlv, addr_fields, SaysOnly}
 use Rattle.mesh_trace.proofs.SpellingLemmas.Mapped.{HoldsBefore}
 use Rattle.mesh_trace.proofs.spelling.parts.is_block_read.Given as goal
 

@@ -1,5 +1,4 @@
-use Rattle.std.proofs.Common.{subst}
-use Rattle.mesh_atoms.specs.declared.addr.NetAddr.{NetAddr}
+use Rattle.mesh_trace.proofs.Common.{subst, NetAddr}
 use Rattle.mesh_wire.proofs.Collecting.{one_net}
 use Rattle.mesh_trace.proofs.spelling.parts.is_one_read.Goals as goal
 

@@ -1,5 +1,4 @@
-use Rattle.std.proofs.Common.{◌≡◌, ℕ, List, true, ap, subst, sym, arith, slice_index_or}
-use Rattle.mesh_atoms.specs.Reading.{has}
+use Rattle.mesh_trace.proofs.Common.{◌≡◌, ℕ, List, true, ap, subst, sym, arith, slice_index_or, has}
 use Rattle.mesh_trace.proofs.SpellingLemmas.Flags.{two_items}
 use Rattle.mesh_trace.proofs.spelling.tc.has_metric.Goals as goal
 

@@ -1,13 +1,4 @@
-use Rattle.std.proofs.Common.{◌≡◌, rules, List, map, false, sym, subst, ◌∙◌}
-use Rattle.std.specs.Prelude.{Contains, IsTrue, ◌↔◌}
-use Rattle.std.proofs.lemmas.Bool.{false≢true}
-use Rattle.mesh_atoms.specs.declared.tc.Tc.{Tc}
-use Rattle.mesh_packet.specs.Fields.{MessageFields, fields_of_message}
-use Rattle.mesh_tlv.specs.declared.tlv.Tlv.{Tlv}
-use Rattle.mesh_tlv.specs.Fields.{TlvFields, fields}
-use Rattle.mesh_wire.specs.Tc.{TcIs}
-use Rattle.mesh_wire.specs.Writes.{IsReadOfTc}
-use Rattle.mesh_wire.proofs.OneTc.{one_tc}
+use Rattle.mesh_trace.proofs.Common.{◌≡◌, rules, List, map, false, sym, subst, ◌∙◌, Contains, IsTrue, ◌↔◌, false≢true, Tc, MessageFields, fields_of_message, Tlv, TlvFields, fields, TcIs, IsReadOfTc, one_tc}
 use Rattle.mesh_trace.proofs.SpellingLemmas.Tcs.{tc_width, parts_read, parts_looked}
 use Rattle.mesh_trace.proofs.spelling.tc.is_message_of_tc.Goals as goal
 

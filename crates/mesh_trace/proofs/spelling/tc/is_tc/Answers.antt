@@ -1,9 +1,4 @@
-use Rattle.std.proofs.Common.{List, refl, ap, arith, slice_index_or}
-use Rattle.std.proofs.lemmas.Bool.{false≢true}
-use Rattle.std.proofs.lemmas.Result.{IfOk-weaker}
-use Rattle.mesh_packet.specs.declared.packet.Span.{Span}
-use Rattle.mesh_packet.specs.Fields.{MessageFields, PacketFields, fields_of_message, fields_of_packet}
-use Rattle.mesh_trace.specs.Spelling.Looks.{SaysTc}
+use Rattle.mesh_trace.proofs.Common.{List, refl, ap, arith, slice_index_or, false≢true, IfOk-weaker, Span, MessageFields, PacketFields, fields_of_message, fields_of_packet, SaysTc}
 use Rattle.mesh_trace.proofs.SpellingLemmas.OneMessage.{alone_spans, sole_is, not_sole}
 use Rattle.mesh_trace.proofs.SpellingLemmas.Tcs.{writes_of, sole_of}
 use Rattle.mesh_trace.proofs.spelling.tc.is_tc.Goals as goal

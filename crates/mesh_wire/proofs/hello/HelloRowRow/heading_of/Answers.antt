@@ -1,6 +1,4 @@
-use Rattle.std.proofs.lemmas.Result.{IfOk-weaker}
-use Rattle.mesh_packet.specs.Fields.{fields_of_message}
-use Rattle.mesh_wire.specs.HelloHeading.{HeadingIs}
+use Rattle.mesh_wire.proofs.Common.{IfOk-weaker, fields_of_message, HeadingIs}
 use Rattle.mesh_wire.proofs.HelloRead.{rule_found, rows_found}
 use Rattle.mesh_wire.proofs.hello.HelloRowRow.heading_of.Goals as goal
 

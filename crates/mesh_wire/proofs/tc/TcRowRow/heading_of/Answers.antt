@@ -1,6 +1,4 @@
-use Rattle.std.proofs.lemmas.Result.{IfOk-weaker}
-use Rattle.mesh_packet.specs.Fields.{fields_of_message}
-use Rattle.mesh_wire.specs.TcHeading.{TcHeadingIs}
+use Rattle.mesh_wire.proofs.Common.{IfOk-weaker, fields_of_message, TcHeadingIs}
 use Rattle.mesh_wire.proofs.TcRead.{rule_found, rows_found}
 use Rattle.mesh_wire.proofs.tc.TcRowRow.heading_of.Goals as goal
 

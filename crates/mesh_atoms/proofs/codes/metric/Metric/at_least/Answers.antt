@@ -1,5 +1,5 @@
 -- A mantissa of 512 reaches each cost in range at exponent 15.
-use Rattle.std.proofs.Common.{inl, inr, arith}
+use Rattle.mesh_atoms.proofs.Common.{inl, inr, arith}
 use Rattle.mesh_atoms.proofs.codes.metric.Metric.at_least.Goals as goal
 
 pub invariant_of-result : goal.invariant_of-result

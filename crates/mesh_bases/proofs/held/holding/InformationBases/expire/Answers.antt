@@ -1,9 +1,4 @@
-use Rattle.std.proofs.Common.{ap, refl, sym, subst, ◌∙◌}
-use Rattle.mesh_atoms.specs.declared.settings.RouterSettings.{RouterSettings}
-use Rattle.mesh_atoms.specs.Live.{Live}
-use Rattle.mesh_atoms.specs.Sound.{SoundNeighbourhood}
-use Rattle.mesh_bases.specs.Held.Held.{Held}
-use Rattle.mesh_nhdp.specs.Staying.{AllIsAsItWas}
+use Rattle.mesh_bases.proofs.Common.{ap, refl, sym, subst, ◌∙◌, RouterSettings, Live, SoundNeighbourhood, Held, AllIsAsItWas}
 use Rattle.mesh_bases.proofs.HeldLemmas.Quiet.{not_true, near_stays}
 use Rattle.mesh_bases.proofs.held.holding.InformationBases.expire.Goals as goal
 

@@ -1,12 +1,6 @@
-use Rattle.std.proofs.Common.{◌<◌, ◌∙◌, IsTrue, length, subst, sym}
-use Rattle.mesh_atoms.specs.declared.settings.RouterSettings.{RouterSettings}
-use Rattle.mesh_atoms.specs.State.{IsOriginator}
-use Rattle.mesh_packet.specs.Grammar.{Spells}
-use Rattle.mesh_bases.specs.Reading.Content.{AreReadAs}
+use Rattle.mesh_bases.proofs.Common.{◌<◌, ◌∙◌, IsTrue, length, subst, sym, RouterSettings, IsOriginator, Spells, AreReadAs, TakesMessages, packet_spelled}
 use Rattle.mesh_bases.proofs.HeldLemmas.Quiet.{advertised_after, both_true, near_after}
 use Rattle.mesh_bases.proofs.HeldLemmas.Taken.{live_held, taken_held}
-use Rattle.mesh_machine.specs.Messages.{TakesMessages}
-use Rattle.mesh_machine.proofs.Takes.{packet_spelled}
 use Rattle.mesh_bases.proofs.held.holding.InformationBases.take_frame.Goals as goal
 
 pub expire-requires-clause-now : goal.expire-requires-clause-now

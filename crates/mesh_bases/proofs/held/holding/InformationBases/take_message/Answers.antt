@@ -1,13 +1,7 @@
-use Rattle.std.proofs.Common.{refl, sym, subst, ap, [], arith, length, ◌∙◌, ◌<◌}
-use Rattle.std.proofs.lemmas.List.{append-nil}
-use Rattle.mesh_atoms.specs.Sound.{SoundNeighbourhood}
-use Rattle.mesh_atoms.specs.State.{Bases}
-use Rattle.mesh_machine.specs.Messages.{Tc_read}
-use Rattle.mesh_bases.specs.Held.Held.{Held}
+use Rattle.mesh_bases.proofs.Common.{refl, sym, subst, ap, [], arith, length, ◌∙◌, ◌<◌, append-nil, SoundNeighbourhood, Bases, Tc_read, Held, if_ok_weaker as if_ok}
 use Rattle.mesh_bases.proofs.HeldLemmas.Fates.{breaks, hosts_of}
 use Rattle.mesh_bases.proofs.HeldLemmas.Quiet.{advertised_equal, near_equal}
 use Rattle.mesh_bases.proofs.held.holding.InformationBases.take_message.Goals as goal
-use Rattle.mesh_atoms.proofs.Options.{if_ok_weaker as if_ok}
 
 pub take_hello-requires-clause-iface : goal.take_hello-requires-clause-iface
 take_hello-requires-clause-iface g c = subst (λ (h : Held). c.args.arrival.iface < length h.settings.interfaces) (sym c.self.view_is) c.requires.iface

@@ -1,5 +1,4 @@
-use Rattle.std.proofs.Common.{map}
-use Rattle.mesh_packet.specs.Fields.{fields_of_message}
+use Rattle.mesh_bases.proofs.Common.{map, fields_of_message}
 use Rattle.mesh_bases.proofs.held.holding.InformationBases.take_messages.Goals as goal
 
 pub take_typed-requires-clause-messages : goal.take_typed-requires-clause-messages

@@ -1,17 +1,4 @@
-use Rattle.std.proofs.Common.{◌<◌, ℕ, IsTrue, sym, subst, refl, [], ◌∷◌, ◌++◌, List, length, take, arith, ap, ◌∙◌}
-use Rattle.std.proofs.lemmas.List.{append-nil, append_assoc, take_all}
-use Rattle.std.proofs.lemmas.Option.{slice_get-get_or}
-use Rattle.mesh_atoms.specs.declared.settings.RouterSettings.{RouterSettings}
-use Rattle.mesh_atoms.specs.State.{IsOriginator}
-use Rattle.mesh_machine.proofs.hello.Collect.{item_at}
-use Rattle.mesh_packet.specs.declared.packet.Span.{Span}
-use Rattle.mesh_packet.specs.Fields.{MessageFields}
-use Rattle.mesh_machine.specs.declared.fate.Fate.{Fate}
-use Rattle.mesh_machine.specs.declared.frame.Frame.{Frame}
-use Rattle.mesh_machine.specs.Laws.{SoundBases}
-use Rattle.mesh_machine.specs.Messages.{TakesMessage, TakesMessages, No_messages}
-use Rattle.mesh_machine.proofs.Soundness.{messages_sound}
-use Rattle.mesh_bases.specs.Held.Taking.{kept_fates}
+use Rattle.mesh_bases.proofs.Common.{◌<◌, ℕ, IsTrue, sym, subst, refl, [], ◌∷◌, ◌++◌, List, length, take, arith, ap, ◌∙◌, append-nil, append_assoc, take_all, slice_get-get_or, RouterSettings, IsOriginator, item_at, Span, MessageFields, Fate, Frame, SoundBases, TakesMessage, TakesMessages, No_messages, messages_sound, kept_fates}
 use Rattle.mesh_bases.proofs.HeldLemmas.Fates.{kept_more, none_kept}
 use Rattle.mesh_bases.proofs.HeldLemmas.Quiet.{advertised_after, advertised_equal, both_true, near_after, near_equal}
 use Rattle.mesh_bases.proofs.ReadingLemmas.Messages.{read_at, read_count, takes_more}

@@ -1,12 +1,4 @@
-use Rattle.std.proofs.Common.{◌≡◌, ◌++◌, List, take, IsTrue}
-use Rattle.mesh_packet.specs.Fields.{MessageFields}
-use Rattle.mesh_machine.specs.declared.fate.Fate.{Fate}
-use Rattle.mesh_machine.specs.declared.frame.Frame.{Frame}
-use Rattle.mesh_machine.specs.Messages.{AreSpelled, TakesMessages}
-use Rattle.mesh_nbrs.specs.Same.{SameNear}
-use Rattle.mesh_topo.specs.Same.{SameAdvertised}
-use Rattle.mesh_bases.specs.Held.Taking.{kept_fates}
-use Rattle.mesh_bases.specs.Reading.Content.{AreReadAs}
+use Rattle.mesh_bases.proofs.Common.{◌≡◌, ◌++◌, List, take, IsTrue, MessageFields, Fate, Frame, AreSpelled, TakesMessages, SameNear, SameAdvertised, kept_fates, AreReadAs}
 use Rattle.mesh_bases.proofs.held.holding.InformationBases.take_typed.Given as goal
 
 abbrev pub invariant-loop-i : goal.invariant-loop-i

@@ -1,5 +1,4 @@
-use Rattle.std.proofs.Common.{◌≡◌, ◌++◌}
-use Rattle.mesh_machine.specs.Frames.{on_each}
+use Rattle.mesh_bases.proofs.Common.{◌≡◌, ◌++◌, on_each}
 use Rattle.mesh_bases.proofs.held.outbox.Outbox.send_on_each.Given as goal
 
 abbrev pub invariant-loop-iface : goal.invariant-loop-iface

@@ -1,6 +1,5 @@
-use Rattle.std.proofs.Common.{ℕ, List, subst}
+use Rattle.mesh_bases.proofs.Common.{ℕ, List, subst, IsContentOf}
 use Rattle.mesh_machine.specs.Sendable.{AreOctets}
-use Rattle.mesh_bases.specs.Reading.Content.{IsContentOf}
 use Rattle.mesh_bases.proofs.reading.typed_frame.TypedFrame.content.Goals as goal
 
 pub returns-clause-octets : goal.returns-clause-octets

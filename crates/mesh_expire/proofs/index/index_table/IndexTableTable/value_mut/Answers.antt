@@ -1,5 +1,4 @@
-use Rattle.std.proofs.Common.{refl, sym, ap, ◌∙◌}
-use Rattle.std.specs.Prelude.{option_map}
+use Rattle.mesh_expire.proofs.Common.{refl, sym, ap, ◌∙◌, option_map}
 use Rattle.mesh_expire.proofs.Laws.{changed_at-absent}
 use Rattle.mesh_expire.proofs.IndexLemmas.Moments.{written, still_told}
 use Rattle.mesh_expire.proofs.index.index_table.IndexTableTable.value_mut.Goals as goal

@@ -1,4 +1,4 @@
-use Rattle.std.proofs.Common.{arith}
+use Rattle.mesh_expire.proofs.Common.{arith}
 use Rattle.mesh_expire.proofs.IndexLemmas.Moments.{times_turned}
 use Rattle.mesh_expire.proofs.index.moments.Bucket.take_out.Goals as goal
 

@@ -1,5 +1,4 @@
-use Rattle.mesh_atoms.specs.Base.{two_hop_eq}
-use Rattle.mesh_expire.proofs.Laws.{distinct_none}
+use Rattle.mesh_nbrs.proofs.Common.{two_hop_eq, distinct_none}
 use Rattle.mesh_nbrs.proofs.two_hops.two_hops.TwoHopSet.new.Goals as goal
 
 pub invariant_of-result : goal.invariant_of-result

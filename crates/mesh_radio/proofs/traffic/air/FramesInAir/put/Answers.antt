@@ -1,4 +1,4 @@
-use Rattle.std.proofs.Common.{refl}
+use Rattle.mesh_radio.proofs.Common.{refl}
 use Rattle.mesh_radio.proofs.TrafficLemmas.Flights.{put_in_order, put_made}
 use Rattle.mesh_radio.proofs.traffic.air.FramesInAir.put.Goals as goal
 

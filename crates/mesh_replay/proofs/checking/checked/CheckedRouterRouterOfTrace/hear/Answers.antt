@@ -1,6 +1,4 @@
-use Rattle.std.proofs.Common.{List, ap, false, refl, ◌∙◌, ◌++◌}
-use Rattle.mesh_trace.specs.machine.declared.frame.Frame.{Frame}
-use Rattle.mesh_replay.specs.declared.checking.router.EventLines.{EventLines}
+use Rattle.mesh_replay.proofs.Common.{List, ap, false, refl, ◌∙◌, ◌++◌, Frame, EventLines}
 use Rattle.mesh_replay.proofs.RouterLemmas.Following.{begun, hearing_begins, hears_so}
 use Rattle.mesh_replay.proofs.checking.checked.CheckedRouterRouterOfTrace.hear.Goals as goal
 

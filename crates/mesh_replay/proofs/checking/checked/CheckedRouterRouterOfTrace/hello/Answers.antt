@@ -1,6 +1,4 @@
-use Rattle.std.proofs.Common.{refl, sym}
-use Rattle.mesh_atoms.proofs.Options.{if_ok_weaker}
-use Rattle.mesh_replay.specs.Checking.Kept.{state_of}
+use Rattle.mesh_replay.proofs.Common.{refl, sym, if_ok_weaker, state_of}
 use Rattle.mesh_replay.proofs.checking.checked.CheckedRouterRouterOfTrace.hello.Goals as goal
 
 pub returns : goal.returns

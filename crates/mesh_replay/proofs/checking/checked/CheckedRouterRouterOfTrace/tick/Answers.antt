@@ -1,5 +1,4 @@
-use Rattle.std.proofs.Common.{refl}
-use Rattle.mesh_atoms.proofs.Options.{if_ok_weaker}
+use Rattle.mesh_replay.proofs.Common.{refl, if_ok_weaker}
 use Rattle.mesh_replay.proofs.RouterLemmas.Following.{begun, by_settings, expired, few_rows, tick_begins, ticks_so}
 use Rattle.mesh_replay.proofs.checking.checked.CheckedRouterRouterOfTrace.tick.Goals as goal
 

@@ -1,10 +1,4 @@
-use Rattle.std.proofs.Common.{◌≡◌, ◌∙◌, ap, refl, length, List, map, subst, sym, Option, Some}
-use Rattle.std.specs.Prelude.{OnSome}
-use Rattle.std.specs.List.{remove}
-use Rattle.std.proofs.lemmas.Option.{slice_get_within}
-use Rattle.mesh_trace.specs.machine.Traffic.{IsHeardFirst}
-use Rattle.mesh_replay.specs.declared.traffic.air.Delivered.{Delivered}
-use Rattle.mesh_replay.specs.Traffic.Air.{delivery_of}
+use Rattle.mesh_replay.proofs.Common.{◌≡◌, ◌∙◌, ap, refl, length, List, map, subst, sym, Option, Some, OnSome, remove, slice_get_within, IsHeardFirst, Delivered, delivery_of}
 use Rattle.mesh_replay.proofs.TrafficLemmas.Hearing.{read_as, read_there, heard_first, all_later}
 use Rattle.mesh_replay.proofs.traffic.air.AwaitedFrames.take.Goals as goal
 

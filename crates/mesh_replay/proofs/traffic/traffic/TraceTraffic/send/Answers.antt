@@ -1,4 +1,4 @@
-use Rattle.mesh_trace.specs.machine.Traffic.{Traffic}
+use Rattle.mesh_replay.proofs.Common.{Traffic}
 use Rattle.mesh_replay.proofs.TrafficLemmas.Hearing.{all_flying}
 use Rattle.mesh_replay.proofs.traffic.traffic.TraceTraffic.send.Goals as goal
 

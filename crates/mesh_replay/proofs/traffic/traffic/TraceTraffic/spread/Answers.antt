@@ -1,8 +1,4 @@
-use Rattle.std.proofs.Common.{ℕ, ◌+◌, List, sym, ◌∙◌, ap, refl, true≢false}
-use Rattle.std.proofs.lemmas.List.{drop_all}
-use Rattle.mesh_trace.specs.machine.Traffic.{Traffic, with_delivery}
-use Rattle.mesh_replay.specs.Traffic.Traffic.{SeededTraffic}
-use Rattle.mesh_trace.proofs.machine.Spreading.{on_lost, on_carried, all_spread}
+use Rattle.mesh_replay.proofs.Common.{ℕ, ◌+◌, List, sym, ◌∙◌, ap, refl, true≢false, drop_all, Traffic, with_delivery, SeededTraffic, on_lost, on_carried, all_spread}
 use Rattle.mesh_replay.proofs.traffic.traffic.TraceTraffic.spread.Goals as goal
 use Rattle.mesh_replay.proofs.traffic.traffic.TraceTraffic.spread.Goals.{then-loses+in_ok-push, else-loses+in_ok-share+in_ok-put}
 

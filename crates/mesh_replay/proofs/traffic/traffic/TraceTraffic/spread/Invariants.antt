@@ -1,4 +1,4 @@
-use Rattle.mesh_trace.proofs.machine.Spreading.{Spreading}
+use Rattle.mesh_replay.proofs.Common.{Spreading}
 use Rattle.mesh_replay.proofs.traffic.traffic.TraceTraffic.spread.Given as goal
 
 abbrev pub invariant-loop-number : goal.invariant-loop-number

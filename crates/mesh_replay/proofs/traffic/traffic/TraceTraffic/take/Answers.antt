@@ -1,4 +1,4 @@
-use Rattle.std.proofs.Common.{refl}
+use Rattle.mesh_replay.proofs.Common.{refl}
 use Rattle.mesh_replay.proofs.traffic.traffic.TraceTraffic.take.Goals as goal
 
 pub returns-clause-first : goal.returns-clause-first

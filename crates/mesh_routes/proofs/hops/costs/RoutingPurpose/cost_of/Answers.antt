@@ -1,4 +1,4 @@
-use Rattle.std.proofs.Common.{sym}
+use Rattle.mesh_routes.proofs.Common.{sym}
 use Rattle.mesh_routes.proofs.hops.costs.RoutingPurpose.cost_of.Goals as goal
 
 pub returns-clause-some : goal.returns-clause-some

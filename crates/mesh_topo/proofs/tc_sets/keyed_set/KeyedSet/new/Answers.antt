@@ -1,7 +1,4 @@
-use Rattle.std.proofs.Common.{ap}
-use Rattle.std.specs.List.{list_any}
-use Rattle.std.specs.BTreeMap.{is_at}
-use Rattle.mesh_expire.proofs.Laws.{distinct_none}
+use Rattle.mesh_topo.proofs.Common.{ap, list_any, is_at, distinct_none}
 use Rattle.mesh_topo.proofs.tc_sets.keyed_set.KeyedSet.new.Goals as goal
 
 pub invariant_of-result : goal.invariant_of-result

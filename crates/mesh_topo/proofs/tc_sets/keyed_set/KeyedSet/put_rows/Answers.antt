@@ -1,9 +1,6 @@
-use Rattle.std.proofs.Common.{◌≡◌, ℕ, length, ap, subst, arith}
-use Rattle.mesh_atoms.specs.Base.{find}
-use Rattle.mesh_topo.specs.TcSets.Sets.{PutsRows}
+use Rattle.mesh_topo.proofs.Common.{◌≡◌, ℕ, length, ap, subst, arith, find, PutsRows, or_parts as neither}
 use Rattle.mesh_topo.proofs.TcSetsLemmas.Laws.{puts_more, count_more, at_place, same_after}
 use Rattle.mesh_topo.proofs.tc_sets.keyed_set.KeyedSet.put_rows.Goals as goal
-use Rattle.std.proofs.lemmas.Bool.{or_parts as neither}
 
 pub loop-row-preserved : goal.loop-row-preserved
 loop-row-preserved g c =

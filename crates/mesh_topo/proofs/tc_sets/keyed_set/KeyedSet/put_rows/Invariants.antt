@@ -1,7 +1,4 @@
-use Rattle.std.proofs.Common.{◌≡◌, ◌≤◌, ◌+◌, false, take, count_by, is_some, length}
-use Rattle.mesh_atoms.specs.Base.{find}
-use Rattle.mesh_topo.specs.TcSets.Same.{SaysSame}
-use Rattle.mesh_topo.specs.TcSets.Sets.{PutsRows}
+use Rattle.mesh_topo.proofs.Common.{◌≡◌, ◌≤◌, ◌+◌, false, take, count_by, is_some, length, find, SaysSame, PutsRows}
 use Rattle.mesh_topo.proofs.tc_sets.keyed_set.KeyedSet.put_rows.Given as goal
 
 abbrev pub invariant-loop-row : goal.invariant-loop-row

@@ -1,9 +1,4 @@
-use Rattle.std.proofs.Common.{◌≡◌, rules, inl, inr, List, Bool, true, false, refl, subst, not}
-use Rattle.std.specs.Prelude.{IsTrue, ◌↔◌}
-use Rattle.std.proofs.lemmas.Bool.{false≢true}
-use Rattle.mesh_atoms.specs.declared.hello.HelloRow.{HelloRow}
-use Rattle.mesh_wire.specs.Kinds.{local_if}
-use Rattle.mesh_trace.specs.Spelling.Looks.{IsLocal}
+use Rattle.mesh_trace.proofs.Common.{◌≡◌, rules, inl, inr, List, Bool, true, false, refl, subst, not, IsTrue, ◌↔◌, false≢true, HelloRow, local_if, IsLocal}
 use Rattle.mesh_trace.proofs.spelling.hello.ReadHelloLooks.is_read.Goals as goal
 
 when_not : (b : Bool) → IsTrue (not b) → IsTrue b → ⊥
