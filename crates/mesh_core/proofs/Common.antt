@@ -17,7 +17,7 @@ pub use Rattle.mesh_bases.specs.declared.derived.Derived.{Derived}
 pub use Rattle.mesh_bases.specs.declared.held.quiet.Quiet.{Quiet}
 pub use Rattle.mesh_core.specs.Deferred.{IsButForDerived, IsKeptOf, IsSoundButForDerived}
 pub use Rattle.mesh_core.specs.Event.Ending.{GivesRelays, GivesRoutes, GivesRows, IsBeforeEvent}
-pub use Rattle.mesh_core.specs.Event.Holding.{state_of}
+pub use Rattle.mesh_bases.specs.Held.RouterState.{router_state}
 pub use Rattle.mesh_core.specs.Event.Outdated.{IsCurrent, IsKeptFor, KeepsWanted}
 pub use Rattle.mesh_core.specs.Event.Promises.{HearsAndKeeps, HearsTo, TicksTo, kept_answer}
 pub use Rattle.mesh_core.specs.Holding.{CoreValue}

@@ -1,4 +1,3 @@
 pub mod Ending
-pub mod Holding
 pub mod Outdated
 pub mod Promises

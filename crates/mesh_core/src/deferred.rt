@@ -26,15 +26,15 @@ impl<B: Bases> Model for DeferredCore<B> {
     ghost use Rattle.std.specs.Prelude.{◌≡◌, false};
     ghost use Rattle.mesh_core.specs.Deferred.{IsSoundButForDerived};
     ghost use Rattle.mesh_core.specs.Holding.{CoreValue};
-    ghost use Rattle.mesh_core.specs.Event.Holding.{state_of};
+    ghost use Rattle.mesh_bases.specs.Held.RouterState.{router_state};
     ghost use Rattle.mesh_core.specs.Event.Outdated.{IsCurrent};
 
     ghost Value = { CoreValue };
 
-    ghost view = { λ c. record { state = state_of c.router.holding c.router.derived; is_spent = c.spent } };
+    ghost view = { λ c. record { state = router_state c.router.holding c.router.derived; is_spent = c.spent } };
 
-    ghost invariant = { λ c. c.spent ≡ false → IsSoundButForDerived (state_of c.router.holding c.router.derived)
-        × IsCurrent c.router.outdated (state_of c.router.holding c.router.derived) };
+    ghost invariant = { λ c. c.spent ≡ false → IsSoundButForDerived (router_state c.router.holding c.router.derived)
+        × IsCurrent c.router.outdated (router_state c.router.holding c.router.derived) };
 }
 
 impl<B: Bases> DeferredCore<B> {

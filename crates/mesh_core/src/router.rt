@@ -1,7 +1,7 @@
 //! The router core: a router with its bases, and what follows from them (RFC 6130 and RFC 7181).
 ghost use Rattle.std.specs.Prelude.{◌≡◌, IfOk, false};
 ghost use Rattle.mesh_atoms.specs.Sound.{Sound};
-ghost use Rattle.mesh_core.specs.Event.Holding.{state_of};
+ghost use Rattle.mesh_bases.specs.Held.RouterState.{router_state};
 ghost use Rattle.mesh_machine.specs.Machine.{IsOpening, due};
 
 use crate::deferred::DeferredCore;
@@ -56,7 +56,7 @@ impl<B: Bases> Drop for Core<B> {
 impl<B: Bases> RouterState<B> {
     /// The moment at which the next HELLO or TC is due.
     pub(crate) fn due(&self) -> u64
-        ensures { result ≡ due (state_of self.now.holding self.now.derived) }
+        ensures { result ≡ due (router_state self.now.holding self.now.derived) }
     {
         u64::min(self.derived.next_hello, self.derived.next_tc)
     }
@@ -66,13 +66,13 @@ impl<B: Bases> Model for Core<B> {
     ghost use Rattle.std.specs.Prelude.{◌≡◌, false};
     ghost use Rattle.mesh_atoms.specs.Sound.{Sound};
     ghost use Rattle.mesh_core.specs.Holding.{CoreValue};
-    ghost use Rattle.mesh_core.specs.Event.Holding.{state_of};
+    ghost use Rattle.mesh_bases.specs.Held.RouterState.{router_state};
 
     ghost Value = { CoreValue };
 
-    ghost view = { λ c. record { state = state_of c.router.holding c.router.derived; is_spent = c.spent } };
+    ghost view = { λ c. record { state = router_state c.router.holding c.router.derived; is_spent = c.spent } };
 
-    ghost invariant = { λ c. c.spent ≡ false → Sound (state_of c.router.holding c.router.derived) };
+    ghost invariant = { λ c. c.spent ≡ false → Sound (router_state c.router.holding c.router.derived) };
 }
 
 impl<B: Bases> Core<B> {

@@ -20,7 +20,8 @@ pub use Rattle.mesh_config.specs.Settings.{FirstRefusal, refusals}
 pub use Rattle.mesh_replay.specs.Checking.Cases.{AnyState, IsCase, IsProgress, LeadsPast, MayBeIn, StandsIn, TellsItems}
 pub use Rattle.mesh_replay.specs.Checking.Events.{BeginsDerived, BeginsEvent, TakesDueLines}
 pub use Rattle.mesh_replay.specs.Checking.Going.{FitsOrStops, NothingLeadsOn, StopsBefore, Went, at}
-pub use Rattle.mesh_replay.specs.Checking.Kept.{AreAtRest, AreFewRows, HasLines, IsAtRest, IsSoundRouter, StandAgain, event_items, hello_items, sent_items, span_items, state_of, tc_items, with_relays}
+pub use Rattle.mesh_bases.specs.Held.RouterState.{router_state}
+pub use Rattle.mesh_replay.specs.Checking.Kept.{AreAtRest, AreFewRows, HasLines, IsAtRest, IsSoundRouter, StandAgain, event_items, hello_items, sent_items, span_items, tc_items, with_relays}
 pub use Rattle.mesh_replay.specs.Checking.Next.{EventBy, FindsNext, FindsNone, IsComing, IsNextEvent, LandsFrame, OpensAlone, opening_text}
 pub use Rattle.mesh_replay.specs.Checking.Opening.{AreAtOpening, AreAtOpeningUpTo, IsAtFirstLine, IsOpeningProgress}
 pub use Rattle.mesh_replay.specs.Checking.Reached.{HasRead}

@@ -1,17 +1,17 @@
 -- What a router has before an event, at its end and after a tick.
-use Rattle.mesh_core.proofs.Common.{◌≡◌, ℕ, IsTrue, ap, refl, subst, ◌∙◌, AreTcRows, State, EventWants, Outdated, Quiet, IsButForDerived, IsSoundButForDerived, IsBeforeEvent, state_of, IsCurrent, KeepsWanted, Held, Renews, Derived, HasDerived, rows_stay}
+use Rattle.mesh_core.proofs.Common.{◌≡◌, ℕ, IsTrue, ap, refl, subst, ◌∙◌, AreTcRows, State, EventWants, Outdated, Quiet, IsButForDerived, IsSoundButForDerived, IsBeforeEvent, router_state, IsCurrent, KeepsWanted, Held, Renews, Derived, HasDerived, rows_stay}
 use Rattle.mesh_bases.specs.Sending.Sent.{HasRowsOf}
 use Rattle.mesh_nbrs.specs.Same.{SameNear}
 use Rattle.mesh_topo.specs.Same.{SameAdvertised}
 
 -- a state has what it is made of
-pub has_own : (held : Held) (derived : Derived) → HasDerived (state_of held derived) derived
+pub has_own : (held : Held) (derived : Derived) → HasDerived (router_state held derived) derived
 has_own held derived = record { relays = refl; routes = refl; rows = refl; ansn = refl; emptied = refl; last = refl }
 
 -- the state before an event
-pub before_event : (old new : Held) (derived : Derived) (outdated : Outdated) (quiet : Quiet) (now : ℕ) → IsSoundButForDerived (state_of old derived) → IsCurrent outdated (state_of old derived) →
+pub before_event : (old new : Held) (derived : Derived) (outdated : Outdated) (quiet : Quiet) (now : ℕ) → IsSoundButForDerived (router_state old derived) → IsCurrent outdated (router_state old derived) →
     new.settings ≡ old.settings → (IsTrue quiet.near → SameNear old.bases.neighbourhood derived.last new.bases.neighbourhood now) → (IsTrue quiet.advertised → SameAdvertised old.bases.topology new.bases.topology) →
-    IsBeforeEvent outdated derived quiet new now (state_of old derived)
+    IsBeforeEvent outdated derived quiet new now (router_state old derived)
 before_event old new derived outdated quiet now sound current settings near advertised =
     record { has = has_own old derived; sound = sound; current = current; settings = settings; near = near; advertised = advertised }
 
@@ -23,7 +23,7 @@ rows_at_end before now wants outdated s ends =
 
 -- what a tick sends changes only the moments and the number of the next HELLO and TC
 pub derived_after : (held : Held) (closed hellos tc : Derived) → hellos ≡ record closed { next_hello = hellos.next_hello } → tc ≡ record hellos { next_tc = tc.next_tc; sequence = tc.sequence } →
-    HasDerived (state_of held tc) closed
+    HasDerived (router_state held tc) closed
 derived_after held closed hellos tc one two = record {
   relays = ap (λ (d : Derived). d.relays) two ∙ ap (λ (d : Derived). d.relays) one;
   routes = ap (λ (d : Derived). d.routes) two ∙ ap (λ (d : Derived). d.routes) one;
@@ -34,7 +34,7 @@ derived_after held closed hellos tc one two = record {
 }
 
 -- the rows of a state are those of what is kept of it
-pub rows_but_for : (held : Held) (derived : Derived) (whole : State) → IsButForDerived whole (state_of held derived) → HasRowsOf whole derived
+pub rows_but_for : (held : Held) (derived : Derived) (whole : State) → IsButForDerived whole (router_state held derived) → HasRowsOf whole derived
 rows_but_for held derived whole same = record {
   rows = ap (λ (w : State). w.rows) same;
   ansn = ap (λ (w : State). w.ansn) same;

@@ -1,7 +1,7 @@
 //! What the clock's tick does to what a router holds (RFC 6130, sections 11 and 13, and RFC 7181, section 16).
 ghost use Rattle.std.specs.Prelude.{◌≡◌, ◌<◌, ◌^◌, ◌++◌, List, OnOk, OnErr, IsTrue};
 ghost use Rattle.mesh_core.specs.Deferred.{IsSoundButForDerived};
-ghost use Rattle.mesh_core.specs.Event.Holding.{state_of};
+ghost use Rattle.mesh_bases.specs.Held.RouterState.{router_state};
 ghost use Rattle.mesh_core.specs.Event.Outdated.{IsCurrent, KeepsWanted};
 ghost use Rattle.mesh_core.specs.Event.Promises.{TicksTo};
 ghost use Rattle.mesh_machine.specs.declared.frame.Frame.{Frame};
@@ -26,11 +26,11 @@ pub(crate) fn tick<B: Bases>(
 ) -> Result<(), AllocError>
     requires now { now < 2 ^ 62 }
     requires relays { IsTrue wants.relays }
-    requires sound { IsSoundButForDerived (state_of router.old.holding router.old.derived) }
-    requires current { IsCurrent router.old.outdated (state_of router.old.holding router.old.derived) }
+    requires sound { IsSoundButForDerived (router_state router.old.holding router.old.derived) }
+    requires current { IsCurrent router.old.outdated (router_state router.old.holding router.old.derived) }
     // What is sent, and the state after it, are the machine's.
-    ensures ticks { OnOk result (TicksTo wants (state_of router.old.holding router.old.derived) now out.old out.new
-        router.new.outdated (state_of router.new.holding router.new.derived)) }
+    ensures ticks { OnOk result (TicksTo wants (router_state router.old.holding router.old.derived) now out.old out.new
+        router.new.outdated (router_state router.new.holding router.new.derived)) }
     ensures wanting { OnErr result (out.new ≡ out.old) }
 {
     let alloc = router.holding.settings().interfaces.allocator();
@@ -48,10 +48,10 @@ fn do_tick<B: Bases>(
 ) -> Result<(), AllocError>
     requires now { now < 2 ^ 62 }
     requires relays { IsTrue wants.relays }
-    requires sound { IsSoundButForDerived (state_of router.old.holding router.old.derived) }
-    requires current { IsCurrent router.old.outdated (state_of router.old.holding router.old.derived) }
+    requires sound { IsSoundButForDerived (router_state router.old.holding router.old.derived) }
+    requires current { IsCurrent router.old.outdated (router_state router.old.holding router.old.derived) }
     ensures { OnOk result ((sent : List Frame) × (out.new ≡ out.old ++ sent)
-        × KeepsWanted (TicksAt (state_of router.old.holding router.old.derived) now sent) wants router.new.outdated (state_of router.new.holding router.new.derived)) }
+        × KeepsWanted (TicksAt (router_state router.old.holding router.old.derived) now sent) wants router.new.outdated (router_state router.new.holding router.new.derived)) }
 {
     let alloc = router.holding.settings().interfaces.allocator();
     let quiet = router.holding.expire(router.derived.last, now)?;

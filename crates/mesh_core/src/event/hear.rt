@@ -1,7 +1,7 @@
 //! What a frame that is heard does to what a router holds (RFC 6130, section 12, and RFC 7181, section 14).
 ghost use Rattle.std.specs.Prelude.{◌≡◌, ◌<◌, ◌≤◌, ◌^◌, ℕ, [], length, IfOk, OnOk, OnErr};
 ghost use Rattle.mesh_core.specs.Deferred.{IsSoundButForDerived};
-ghost use Rattle.mesh_core.specs.Event.Holding.{state_of};
+ghost use Rattle.mesh_bases.specs.Held.RouterState.{router_state};
 ghost use Rattle.mesh_core.specs.Event.Outdated.{IsCurrent};
 ghost use Rattle.mesh_core.specs.Event.Promises.{HearsAndKeeps, HearsTo};
 ghost use Rattle.mesh_bases.specs.Reading.Content.{IsContentOf, IsPacketOf};
@@ -32,11 +32,11 @@ pub(crate) fn hear_frame<B: Bases>(
     requires now { arrival.now < 2 ^ 62 }
     requires later { router.old.derived.last ≤ arrival.now }
     requires iface { arrival.iface < length router.old.holding.settings.interfaces }
-    requires sound { IsSoundButForDerived (state_of router.old.holding router.old.derived) }
-    requires current { IsCurrent router.old.outdated (state_of router.old.holding router.old.derived) }
+    requires sound { IsSoundButForDerived (router_state router.old.holding router.old.derived) }
+    requires current { IsCurrent router.old.outdated (router_state router.old.holding router.old.derived) }
     // What is answered and sent, and the state after it, are the machine's; the answer has fates where they are wanted.
-    ensures hears { IfOk result (λ kept. HearsAndKeeps wants (state_of router.old.holding router.old.derived) arrival bytes.now kept out.old out.new
-        router.new.outdated (state_of router.new.holding router.new.derived)) }
+    ensures hears { IfOk result (λ kept. HearsAndKeeps wants (router_state router.old.holding router.old.derived) arrival bytes.now kept out.old out.new
+        router.new.outdated (router_state router.new.holding router.new.derived)) }
     // A frame with a fault is refused.
     ensures refused { (place reason : ℕ) → FirstFault bytes.now place reason → IfOk result (λ kept. kept ≡ Heard.Refused (record { place = place; reason = reason })) }
     ensures wanting { OnErr result (out.new ≡ out.old) }
@@ -57,10 +57,10 @@ pub(crate) fn hear_into<B: Bases>(
     requires now { arrival.now < 2 ^ 62 }
     requires later { router.old.derived.last ≤ arrival.now }
     requires iface { arrival.iface < length router.old.holding.settings.interfaces }
-    requires sound { IsSoundButForDerived (state_of router.old.holding router.old.derived) }
-    requires current { IsCurrent router.old.outdated (state_of router.old.holding router.old.derived) }
-    ensures { OnOk result ((answer : HeardValue) × HearsTo wants (state_of router.old.holding router.old.derived) arrival frame.now answer [] out.new
-        router.new.outdated (state_of router.new.holding router.new.derived)) }
+    requires sound { IsSoundButForDerived (router_state router.old.holding router.old.derived) }
+    requires current { IsCurrent router.old.outdated (router_state router.old.holding router.old.derived) }
+    ensures { OnOk result ((answer : HeardValue) × HearsTo wants (router_state router.old.holding router.old.derived) arrival frame.now answer [] out.new
+        router.new.outdated (router_state router.new.holding router.new.derived)) }
 {
     out.clear();
     let octets = frame.octets().as_slice();
@@ -80,11 +80,11 @@ fn hear_content<B: Bases>(
     requires now { arrival.now < 2 ^ 62 }
     requires later { router.old.derived.last ≤ arrival.now }
     requires iface { arrival.iface < length router.old.holding.settings.interfaces }
-    requires sound { IsSoundButForDerived (state_of router.old.holding router.old.derived) }
-    requires current { IsCurrent router.old.outdated (state_of router.old.holding router.old.derived) }
+    requires sound { IsSoundButForDerived (router_state router.old.holding router.old.derived) }
+    requires current { IsCurrent router.old.outdated (router_state router.old.holding router.old.derived) }
     requires content { IsContentOf bytes.now content.now }
-    ensures hears { IfOk result (λ kept. HearsAndKeeps wants (state_of router.old.holding router.old.derived) arrival bytes.now kept out.old out.new
-        router.new.outdated (state_of router.new.holding router.new.derived)) }
+    ensures hears { IfOk result (λ kept. HearsAndKeeps wants (router_state router.old.holding router.old.derived) arrival bytes.now kept out.old out.new
+        router.new.outdated (router_state router.new.holding router.new.derived)) }
     ensures refused { (place reason : ℕ) → FirstFault bytes.now place reason → IfOk result (λ kept. kept ≡ Heard.Refused (record { place = place; reason = reason })) }
     ensures wanting { OnErr result (out.new ≡ out.old) }
 {
@@ -108,11 +108,11 @@ fn take_packet<B: Bases>(
     requires now { arrival.now < 2 ^ 62 }
     requires later { router.old.derived.last ≤ arrival.now }
     requires iface { arrival.iface < length router.old.holding.settings.interfaces }
-    requires sound { IsSoundButForDerived (state_of router.old.holding router.old.derived) }
-    requires current { IsCurrent router.old.outdated (state_of router.old.holding router.old.derived) }
+    requires sound { IsSoundButForDerived (router_state router.old.holding router.old.derived) }
+    requires current { IsCurrent router.old.outdated (router_state router.old.holding router.old.derived) }
     requires packet { IsPacketOf bytes.now packet.now }
-    ensures hears { IfOk result (λ kept. HearsAndKeeps wants (state_of router.old.holding router.old.derived) arrival bytes.now kept out.old out.new
-        router.new.outdated (state_of router.new.holding router.new.derived)) }
+    ensures hears { IfOk result (λ kept. HearsAndKeeps wants (router_state router.old.holding router.old.derived) arrival bytes.now kept out.old out.new
+        router.new.outdated (router_state router.new.holding router.new.derived)) }
     ensures wanting { OnErr result (out.new ≡ out.old) }
 {
     let alloc = router.holding.settings().interfaces.allocator();

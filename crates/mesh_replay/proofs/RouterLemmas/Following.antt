@@ -1,5 +1,5 @@
 -- What an event leaves of a router before its relays are told.
-use Rattle.mesh_replay.proofs.Common.{ℕ, zero, suc, ◌≤◌, ◌<◌, sym, subst, arith, List, length, ◌≡◌, ◌+◌, ◌%◌, ◌∙◌, Bool, false, [], IsTrue, map, refl, ap, ◌++◌, inl, inr, append-nil, All, nat_eq, All-nil, All-push, All-append, Addr4, RouterSettings, Tc, Bases, NotedMessages, State, Neighbourhood, Frame, octets_at, on_each, length-map, HasToAdvertise, IsNextMoment, PartSpan, part_of, TcsDue, Tcs_due, part_items, Follows, HearsBy, Taken, TicksBy, tc_items, AreFewRows, HasLines, IsAtRest, IsSoundRouter, StandAgain, event_items, hello_items, state_of, with_relays, AreRelays, Derived, IsOpening, Item, Sent, relay_items, Before, EventLines, BeginsDerived, BeginsEvent, TakesDueLines}
+use Rattle.mesh_replay.proofs.Common.{ℕ, zero, suc, ◌≤◌, ◌<◌, sym, subst, arith, List, length, ◌≡◌, ◌+◌, ◌%◌, ◌∙◌, Bool, false, [], IsTrue, map, refl, ap, ◌++◌, inl, inr, append-nil, All, nat_eq, All-nil, All-push, All-append, Addr4, RouterSettings, Tc, Bases, NotedMessages, State, Neighbourhood, Frame, octets_at, on_each, length-map, HasToAdvertise, IsNextMoment, PartSpan, part_of, TcsDue, Tcs_due, part_items, Follows, HearsBy, Taken, TicksBy, tc_items, AreFewRows, HasLines, IsAtRest, IsSoundRouter, StandAgain, event_items, hello_items, router_state, with_relays, AreRelays, Derived, IsOpening, Item, Sent, relay_items, Before, EventLines, BeginsDerived, BeginsEvent, TakesDueLines}
 use Rattle.mesh_trace.specs.machine.packet.declared.packet.Span.{Span}
 use Rattle.mesh_trace.specs.machine.packet.Fields.{MessageFields}
 use Rattle.mesh_trace.specs.machine.flood.declared.verdict.Heading.{Heading}
@@ -100,8 +100,8 @@ pub record ChangesBases (old : State) (held : Held) (now : ℕ) (quiet : Bool) :
   pub quiet_is : IsTrue quiet → SameNear old.bases.neighbourhood old.last held.bases.neighbourhood now
 
 -- what is expired went out of the bases of a router between events
-pub expired : (h0 h1 : Held) (d0 : Derived) {now : ℕ} {quiet : Bool} → IsAtRest (state_of h0 d0) → h1.settings ≡ h0.settings → Live h0.settings now h0.bases h1.bases →
-    (IsTrue quiet → SameNear h0.bases.neighbourhood d0.last h1.bases.neighbourhood now) → ChangesBases (state_of h0 d0) h1 now quiet
+pub expired : (h0 h1 : Held) (d0 : Derived) {now : ℕ} {quiet : Bool} → IsAtRest (router_state h0 d0) → h1.settings ≡ h0.settings → Live h0.settings now h0.bases h1.bases →
+    (IsTrue quiet → SameNear h0.bases.neighbourhood d0.last h1.bases.neighbourhood now) → ChangesBases (router_state h0 d0) h1 now quiet
 expired h0 h1 d0 {now} rest same live quiet = record { rest = rest; settings = same; sound = live_held h0 h1 d0.last now rest.sound.bases live same; quiet_is = quiet }
 
 -- by the settings and the neighbourhood that were lent
@@ -112,7 +112,7 @@ begun h settings near begins = rw (← settings, ← near) begins
 pub by_settings : {settings lent : RouterSettings} {d1 d2 : Derived} {before : Before} {lines : EventLines} → lent ≡ settings → TakesDueLines lent d1 d2 before lines → TakesDueLines settings d1 d2 before lines
 by_settings same takes = rw (← same) takes
 
-module _ {h0 h1 : Held} {d0 d1 : Derived} {now : ℕ} {quiet : Bool} {before : Before} (changes : ChangesBases (state_of h0 d0) h1 now quiet)
+module _ {h0 h1 : Held} {d0 d1 : Derived} {now : ℕ} {quiet : Bool} {before : Before} (changes : ChangesBases (router_state h0 d0) h1 now quiet)
     (begins : BeginsDerived h1.settings h1.bases.neighbourhood now quiet d0 d1 before) (d2 : Derived) (others : d2 ≡ record d1 { next_hello = d2.next_hello; next_tc = d2.next_tc; sequence = d2.sequence }) where
   last_is : d2.last ≡ now
   last_is = ap (λ (d : Derived). d.last) others ∙ ap (λ (d : Derived). d.last) begins.others
@@ -120,19 +120,19 @@ module _ {h0 h1 : Held} {d0 d1 : Derived} {now : ℕ} {quiet : Bool} {before : B
   rows_of : d2.rows ≡ d1.rows
   rows_of = ap (λ (d : Derived). d.rows) others
 
-  rows_are : AreTcRows (state_of h1 d2) d2.rows
+  rows_are : AreTcRows (router_state h1 d2) d2.rows
   rows_are = elim begins.rows [
-    | inl (is, same) ↦ rows_kept (state_of h0 d0) (state_of h1 d2) now changes.rest.sound.bases.neighbourhood (tables_of changes.sound.neighbourhood) changes.settings (changes.quiet_is is) (rows_of ∙ same) changes.rest.sound.rows
-    | inr gives ↦ subst (AreTcRows (state_of h1 d2)) (sym rows_of) (gives (state_of h1 d2) refl refl)
+    | inl (is, same) ↦ rows_kept (router_state h0 d0) (router_state h1 d2) now changes.rest.sound.bases.neighbourhood (tables_of changes.sound.neighbourhood) changes.settings (changes.quiet_is is) (rows_of ∙ same) changes.rest.sound.rows
+    | inr gives ↦ subst (AreTcRows (router_state h1 d2)) (sym rows_of) (gives (router_state h1 d2) refl refl)
   ]
 
-  sound_after : IsSoundRouter (state_of h1 d2)
+  sound_after : IsSoundRouter (router_state h1 d2)
   sound_after = record { bases = subst (λ (n : ℕ). SoundBases h1.settings n h1.bases) (sym last_is) changes.sound; rows = rows_are }
 
   pub few_rows : AreFewRows d2.rows
-  few_rows = tc_rows_few (state_of h1 d2) d2.last d2.rows sound_after.bases.neighbourhood rows_are
+  few_rows = tc_rows_few (router_state h1 d2) d2.last d2.rows sound_after.bases.neighbourhood rows_are
 
-  follows_so : Follows (state_of h0 d0) now h1.bases (state_of h1 d2)
+  follows_so : Follows (router_state h0 d0) now h1.bases (router_state h1 d2)
   follows_so = record {
     settings = changes.settings;
     bases_are = refl;
@@ -143,20 +143,20 @@ module _ {h0 h1 : Held} {d0 d1 : Derived} {now : ℕ} {quiet : Bool} {before : B
     emptied = rw (others, ap (λ (d : Derived). d.last) begins.others) begins.emptied;
   }
 
-  stands : StandAgain (state_of h1 d2) before
-  stands good = subst (AreRelays (with_relays (state_of h1 d2) before.relays)) (sym last_is)
-      (relays_kept (state_of h0 d0) (with_relays (state_of h1 d2) before.relays) now changes.rest.sound.bases.neighbourhood (tables_of changes.sound.neighbourhood) changes.settings (changes.quiet_is (begins.stand good)) begins.relays changes.rest.relays)
+  stands : StandAgain (router_state h1 d2) before
+  stands good = subst (AreRelays (with_relays (router_state h1 d2) before.relays)) (sym last_is)
+      (relays_kept (router_state h0 d0) (with_relays (router_state h1 d2) before.relays) now changes.rest.sound.bases.neighbourhood (tables_of changes.sound.neighbourhood) changes.settings (changes.quiet_is (begins.stand good)) begins.relays changes.rest.relays)
 
-  begins_so : {lines : EventLines} → HasLines (state_of h1 d2) lines → lines.before ≡ before → BeginsEvent (state_of h0 d0) now (state_of h1 d2) lines
-  begins_so lines_are same = record { bases = h1.bases; follows = follows_so; sound = sound_after; stand = subst (StandAgain (state_of h1 d2)) (sym same) stands; lines_are = lines_are }
+  begins_so : {lines : EventLines} → HasLines (router_state h1 d2) lines → lines.before ≡ before → BeginsEvent (router_state h0 d0) now (router_state h1 d2) lines
+  begins_so lines_are same = record { bases = h1.bases; follows = follows_so; sound = sound_after; stand = subst (StandAgain (router_state h1 d2)) (sym same) stands; lines_are = lines_are }
 
 -- a tick, with the HELLOs and TCs that are due
-module _ {h0 h1 : Held} {d0 d1 d2 : Derived} {now : ℕ} {quiet : Bool} {before : Before} (changes : ChangesBases (state_of h0 d0) h1 now quiet)
+module _ {h0 h1 : Held} {d0 d1 d2 : Derived} {now : ℕ} {quiet : Bool} {before : Before} (changes : ChangesBases (router_state h0 d0) h1 now quiet)
     (begins : BeginsDerived h1.settings h1.bases.neighbourhood now quiet d0 d1 before) (lines : EventLines) (takes : TakesDueLines h1.settings d1 d2 before lines) where
-  pub ticks_so : Live h0.settings now h0.bases h1.bases → TicksBy (state_of h0 d0) now (state_of h1 d2) (event_items (state_of h1 d2) lines)
+  pub ticks_so : Live h0.settings now h0.bases h1.bases → TicksBy (router_state h0 d0) now (router_state h1 d2) (event_items (router_state h1 d2) lines)
   ticks_so live =
-      let s = state_of h1 d2 in
-      let next : HasNext (state_of h0 d0) d1 = record {
+      let s = router_state h1 d2 in
+      let next : HasNext (router_state h0 d0) d1 = record {
         sequence = sym (ap (λ (d : Derived). d.sequence) begins.others);
         next_hello = sym (ap (λ (d : Derived). d.next_hello) begins.others);
         next_tc = sym (ap (λ (d : Derived). d.next_tc) begins.others);
@@ -166,24 +166,24 @@ module _ {h0 h1 : Held} {d0 d1 d2 : Derived} {now : ℕ} {quiet : Bool} {before 
         is_live = live;
         follows = follows_so changes begins d2 takes.others;
         hellos = hello_items s lines.hellos;
-        are_hellos = takes.hellos (state_of h0 d0) h1 next refl;
+        are_hellos = takes.hellos (router_state h0 d0) h1 next refl;
         tcs = tc_items s lines.sequence lines.parts;
-        are_tcs = takes.tcs (state_of h0 d0) h1 next refl;
+        are_tcs = takes.tcs (router_state h0 d0) h1 next refl;
         whole = ap (λ (l : List Item). relay_items h1.settings ++ (hello_items s lines.hellos ++ l))
             (ap (λ (l : List Frame). tc_items s lines.sequence lines.parts ++ map Sent l) takes.none ∙ append-nil (tc_items s lines.sequence lines.parts));
       }
 
-  pub tick_begins : BeginsEvent (state_of h0 d0) now (state_of h1 d2) lines
+  pub tick_begins : BeginsEvent (router_state h0 d0) now (router_state h1 d2) lines
   tick_begins = begins_so changes begins d2 takes.others (record {
     within = takes.within;
     faces = subst (λ (l : List Frame). All (λ (f : Frame). f.iface < length h1.settings.interfaces) l) (sym takes.none) (All-nil (λ (f : Frame). f.iface < length h1.settings.interfaces));
   }) takes.before_is
 
 -- a frame, with what its messages forward
-module _ {h0 h1 : Held} {d0 d1 : Derived} {arrival : Arrival} {bytes : List ℕ} {quiet : Bool} {before : Before} {given : List Fate} {sent : List Frame} (changes : ChangesBases (state_of h0 d0) h1 arrival.now quiet)
+module _ {h0 h1 : Held} {d0 d1 : Derived} {arrival : Arrival} {bytes : List ℕ} {quiet : Bool} {before : Before} {given : List Fate} {sent : List Frame} (changes : ChangesBases (router_state h0 d0) h1 arrival.now quiet)
     (begins : BeginsDerived h1.settings h1.bases.neighbourhood arrival.now quiet d0 d1 before) (takes : TakesFrame h0.settings h0.bases arrival bytes given sent h1.bases) (lines : EventLines) (hellos : lines.hellos ≡ false)
     (parts : lines.parts ≡ []) (out : lines.out ≡ sent) where
-  pub hears_so : HearsBy (state_of h0 d0) arrival bytes (state_of h1 d1) (event_items (state_of h1 d1) lines)
+  pub hears_so : HearsBy (router_state h0 d0) arrival bytes (router_state h1 d1) (event_items (router_state h1 d1) lines)
   hears_so = rw (hellos, parts, out) (Taken (record {
     packet = takes.packet;
     spans = takes.spans;
@@ -201,7 +201,7 @@ module _ {h0 h1 : Held} {d0 d1 : Derived} {arrival : Arrival} {bytes : List ℕ}
     next_tc = ap (λ (d : Derived). d.next_tc) begins.others;
   }))
 
-  pub hearing_begins : lines.before ≡ before → BeginsEvent (state_of h0 d0) arrival.now (state_of h1 d1) lines
+  pub hearing_begins : lines.before ≡ before → BeginsEvent (router_state h0 d0) arrival.now (router_state h1 d1) lines
   hearing_begins same = begins_so changes begins d1 refl (record {
     within = λ i span at. absurd (let e = parts in cc);
     faces = rw (out, changes.settings) (messages_within h0.settings takes.own arrival bytes takes.live takes.packet.messages takes.spans h1.bases sent given takes.takes);

@@ -9,7 +9,8 @@ use Rattle.mesh_bases.specs.declared.derived.Derived.{Derived}
 use Rattle.mesh_trace.specs.Positions.Due.{Follows, HellosDue, TcsDue, none_told}
 use Rattle.mesh_replay.specs.declared.checking.router.Before.{Before}
 use Rattle.mesh_replay.specs.declared.checking.router.EventLines.{EventLines}
-use Rattle.mesh_replay.specs.Checking.Kept.{AreWithinRows, HasLines, IsSoundRouter, StandAgain, hello_items, state_of, tc_items}
+use Rattle.mesh_bases.specs.Held.RouterState.{router_state}
+use Rattle.mesh_replay.specs.Checking.Kept.{AreWithinRows, HasLines, IsSoundRouter, StandAgain, hello_items, tc_items}
 
 -- what follows from a neighbourhood is renewed at now, but for relays, which are still to be told; those of the event before may be good again
 pub record BeginsDerived (settings : RouterSettings) (near : Neighbourhood) (now : ℕ) (quiet : Bool) (old new : Derived) (before : Before) : Type 0 where
@@ -22,8 +23,8 @@ pub record BeginsDerived (settings : RouterSettings) (near : Neighbourhood) (now
 
 -- at a tick of a router with these settings HELLOs and TCs are due as its lines tell, and are then next due later
 pub record TakesDueLines (settings : RouterSettings) (old new : Derived) (before : Before) (lines : EventLines) : Type 0 where
-  pub hellos : (was : State) (held : Held) → HasNext was old → held.settings ≡ settings → HellosDue was (state_of held new) (hello_items (state_of held new) lines.hellos)
-  pub tcs : (was : State) (held : Held) → HasNext was old → held.settings ≡ settings → TcsDue was (state_of held new) (tc_items (state_of held new) lines.sequence lines.parts)
+  pub hellos : (was : State) (held : Held) → HasNext was old → held.settings ≡ settings → HellosDue was (router_state held new) (hello_items (router_state held new) lines.hellos)
+  pub tcs : (was : State) (held : Held) → HasNext was old → held.settings ≡ settings → TcsDue was (router_state held new) (tc_items (router_state held new) lines.sequence lines.parts)
   pub within : AreWithinRows lines.parts new.rows
   pub before_is : lines.before ≡ before
   pub none : lines.out ≡ []

@@ -8,8 +8,6 @@ use Rattle.mesh_atoms.specs.declared.limits.TheConstants.{MOST_TC_ROWS}
 use Rattle.mesh_atoms.specs.Advertised.{AreTcRows}
 use Rattle.mesh_atoms.specs.RelayGraphs.{AreRelays}
 use Rattle.mesh_atoms.specs.State.{State}
-use Rattle.mesh_bases.specs.Held.Held.{Held}
-use Rattle.mesh_bases.specs.declared.derived.Derived.{Derived}
 use Rattle.mesh_trace.specs.machine.declared.frame.Frame.{Frame}
 use Rattle.mesh_trace.specs.machine.Laws.{SoundBases}
 use Rattle.mesh_topo.specs.declared.advertised.spans.PartSpan.{PartSpan}
@@ -18,22 +16,6 @@ use Rattle.mesh_trace.specs.Positions.Due.{part_items}
 use Rattle.mesh_trace.specs.Positions.Standing.{Item, Hello, Sent, relay_items}
 use Rattle.mesh_replay.specs.declared.checking.router.Before.{Before}
 use Rattle.mesh_replay.specs.declared.checking.router.EventLines.{EventLines}
-
--- the state of a router that holds this
-abbrev pub state_of : Held → Derived → State
-state_of held derived = record {
-  settings = held.settings;
-  bases = held.bases;
-  relays = derived.relays;
-  routes = derived.routes;
-  rows = derived.rows;
-  ansn = derived.ansn;
-  emptied = derived.emptied;
-  sequence = derived.sequence;
-  next_hello = derived.next_hello;
-  next_tc = derived.next_tc;
-  last = derived.last;
-}
 
 -- after an event has begun: its bases are sound, and its rows are those that it advertises
 pub record IsSoundRouter (s : State) : Type 0 where

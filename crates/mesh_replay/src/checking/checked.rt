@@ -1,5 +1,5 @@
 //! A router as the checker keeps it: its bases, and what follows from them but for routes.
-ghost use Rattle.mesh_replay.specs.Checking.Kept.{state_of};
+ghost use Rattle.mesh_bases.specs.Held.RouterState.{router_state};
 
 use crate::checking::renewal::{begin, take_due_lines};
 use crate::checking::router::{EventLines, RouterOfTrace};
@@ -33,7 +33,7 @@ impl<B: Bases> Drop for CheckedRouter<B> {
 }
 
 impl<B: Bases> RouterOfTrace for CheckedRouter<B> {
-    ghost state = { λ r. state_of r.holding r.derived };
+    ghost state = { λ r. router_state r.holding r.derived };
 
     fn make(alloc: Global, settings: &RouterSettings) -> Result<CheckedRouter<B>, AllocError> {
         let derived = opening(alloc, settings)?;

@@ -4,7 +4,8 @@ ghost use Rattle.mesh_atoms.specs.State.{State};
 ghost use Rattle.mesh_bases.specs.Held.Held.{Held};
 ghost use Rattle.mesh_trace.specs.Positions.Due.{HellosDue, TcsDue, none_told};
 ghost use Rattle.mesh_replay.specs.Checking.Events.{BeginsDerived, TakesDueLines};
-ghost use Rattle.mesh_replay.specs.Checking.Kept.{AreFewRows, AreWithinRows, hello_items, state_of, tc_items};
+ghost use Rattle.mesh_bases.specs.Held.RouterState.{router_state};
+ghost use Rattle.mesh_replay.specs.Checking.Kept.{AreFewRows, AreWithinRows, hello_items, tc_items};
 
 use crate::checking::router::{Before, EventLines};
 use mesh_atoms::{Relays, RouterSettings, Seq};
@@ -72,7 +73,7 @@ fn take_parts(
     requires now { derived.old.last < 2 ^ 62 }
     requires few { AreFewRows derived.old.rows }
     ensures due { IfOk result (λ parts. (old : State) (held : Held) → old.next_tc ≡ derived.old.next_tc → old.sequence ≡ derived.old.sequence
-        → held.settings ≡ settings.now → TcsDue old (state_of held derived.new) (tc_items (state_of held derived.new) derived.old.sequence parts)) }
+        → held.settings ≡ settings.now → TcsDue old (router_state held derived.new) (tc_items (router_state held derived.new) derived.old.sequence parts)) }
     ensures within { IfOk result (λ parts. AreWithinRows parts derived.new.rows) }
     ensures others { derived.new ≡ record derived.old { next_tc = derived.new.next_tc; sequence = derived.new.sequence } }
 {

@@ -1,4 +1,4 @@
-use Rattle.mesh_core.proofs.Common.{arith, refl, state_of}
+use Rattle.mesh_core.proofs.Common.{arith, refl, router_state}
 use Rattle.mesh_machine.specs.declared.fate.Heard.TheVariants as heard
 use Rattle.mesh_core.proofs.EventLemmas.Hearing.{refused_to}
 use Rattle.mesh_core.proofs.EventLemmas.Refusals.{refused_at}
@@ -8,7 +8,7 @@ pub returns-in-Refused-clause-hears : goal.returns-in-Refused-clause-hears
 returns-in-Refused-clause-hears g c = record {
   answer = heard.Refused c.in-Refused.refusal;
   kept_is = refl;
-  hears = refused_to c.args.wants (state_of c.args.router.now.holding c.args.router.now.derived) c.args.arrival c.args.bytes.now c.args.out.now c.args.router.now.outdated c.requires.sound c.requires.later
+  hears = refused_to c.args.wants (router_state c.args.router.now.holding c.args.router.now.derived) c.args.arrival c.args.bytes.now c.args.out.now c.args.router.now.outdated c.requires.sound c.requires.later
       (λ i. omega (arith, c.type_inv.bytes i)) c.requires.current c.in-Refused.refusal (rw c.in-Refused.is at c.requires.content);
 }
 

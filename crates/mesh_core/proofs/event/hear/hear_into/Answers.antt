@@ -1,4 +1,4 @@
-use Rattle.mesh_core.proofs.Common.{◌∙◌, state_of}
+use Rattle.mesh_core.proofs.Common.{◌∙◌, router_state}
 use Rattle.mesh_core.proofs.EventLemmas.Hearing.{alone_to}
 use Rattle.mesh_core.proofs.event.hear.hear_into.Goals as goal
 
@@ -7,4 +7,4 @@ hear_content-requires-clause-content g c = rw (c.as_slice-octets.ensures, c.octe
 
 pub returns : goal.returns
 returns g c =
-    alone_to c.args.wants (state_of c.args.router.now.holding c.args.router.now.derived) c.args.arrival (c.as_slice-octets.ensures ∙ c.octets.ensures) c.clear.ensures c.in_ok-hear_content.ensures.hears
+    alone_to c.args.wants (router_state c.args.router.now.holding c.args.router.now.derived) c.args.arrival (c.as_slice-octets.ensures ∙ c.octets.ensures) c.clear.ensures c.in_ok-hear_content.ensures.hears

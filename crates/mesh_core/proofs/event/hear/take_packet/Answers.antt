@@ -1,4 +1,4 @@
-use Rattle.mesh_core.proofs.Common.{◌++◌, List, arith, refl, ap, ◌∙◌, State, Fate, Frame, HearsPacket, state_of, KeepsWanted}
+use Rattle.mesh_core.proofs.Common.{◌++◌, List, arith, refl, ap, ◌∙◌, State, Fate, Frame, HearsPacket, router_state, KeepsWanted}
 use Rattle.mesh_machine.specs.declared.fate.Heard.TheVariants as heard
 use Rattle.mesh_core.proofs.EventLemmas.Derivations.{before_event, has_own}
 use Rattle.mesh_core.proofs.EventLemmas.Hearing.{packet_to}
@@ -6,7 +6,7 @@ use Rattle.mesh_core.proofs.EventLemmas.Wholes.{bases_but}
 use Rattle.mesh_core.proofs.event.hear.take_packet.Goals as goal
 
 pub take_frame-requires-clause-sound : goal.take_frame-requires-clause-sound
-take_frame-requires-clause-sound g c = bases_but (state_of c.args.router.now.holding c.args.router.now.derived) c.requires.sound
+take_frame-requires-clause-sound g c = bases_but (router_state c.args.router.now.holding c.args.router.now.derived) c.requires.sound
 
 pub end_event-requires-clause-near : goal.end_event-requires-clause-near
 end_event-requires-clause-near g c = c.in_ok-fates.ensures.sound.neighbourhood
@@ -16,8 +16,8 @@ end_event-requires-clause-topology g c = c.in_ok-fates.ensures.sound.topology
 
 pub returns-clause-hears : goal.returns-clause-hears
 returns-clause-hears g c =
-    let before : State = state_of c.args.router.now.holding c.args.router.now.derived in
-    let after : State = state_of c.take_frame.new.self c.end_event.new.derived in
+    let before : State = router_state c.args.router.now.holding c.args.router.now.derived in
+    let after : State = router_state c.take_frame.new.self c.end_event.new.derived in
     let (given, sent, fates, out, taken) = c.in_ok-fates.ensures.taken in
     let begins = before_event c.args.router.now.holding c.take_frame.new.self c.args.router.now.derived c.args.router.now.outdated c.in_ok-fates.quiet c.args.arrival.now c.requires.sound c.requires.current
     c.in_ok-fates.ensures.settings c.in_ok-fates.ensures.near c.in_ok-fates.ensures.advertised in

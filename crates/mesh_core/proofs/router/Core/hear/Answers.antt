@@ -1,4 +1,4 @@
-use Rattle.mesh_core.proofs.Common.{length, refl, subst, sym, ◌<◌, ◌≤◌, state_of, CoreValue}
+use Rattle.mesh_core.proofs.Common.{length, refl, subst, sym, ◌<◌, ◌≤◌, router_state, CoreValue}
 use Rattle.mesh_core.proofs.Clauses.{whole_answer, hear_clauses}
 use Rattle.mesh_core.proofs.EventLemmas.Wholes.{current_of, sound_but}
 use Rattle.mesh_core.proofs.Spent.{where_whole}
@@ -14,10 +14,10 @@ pub hear_frame-came-requires-clause-iface : goal.hear_frame-came-requires-clause
 hear_frame-came-requires-clause-iface g c = subst (λ (v : CoreValue). c.args.iface < length v.state.settings.interfaces) (sym c.self.view_is) c.requires.iface
 
 pub hear_frame-came-requires-clause-sound : goal.hear_frame-came-requires-clause-sound
-hear_frame-came-requires-clause-sound g c = sound_but (state_of c.self.inside.router.holding c.self.inside.router.derived) (c.self.invariant c.if-self.false)
+hear_frame-came-requires-clause-sound g c = sound_but (router_state c.self.inside.router.holding c.self.inside.router.derived) (c.self.invariant c.if-self.false)
 
 pub hear_frame-came-requires-clause-current : goal.hear_frame-came-requires-clause-current
-hear_frame-came-requires-clause-current g c = current_of c.self.inside.router.outdated (state_of c.self.inside.router.holding c.self.inside.router.derived) (c.self.invariant c.if-self.false)
+hear_frame-came-requires-clause-current g c = current_of c.self.inside.router.outdated (router_state c.self.inside.router.holding c.self.inside.router.derived) (c.self.invariant c.if-self.false)
 
 pub returns-clause-step : goal.returns-clause-step
 returns-clause-step g c =

@@ -1,4 +1,4 @@
-use Rattle.mesh_core.proofs.Common.{refl, state_of}
+use Rattle.mesh_core.proofs.Common.{refl, router_state}
 use Rattle.mesh_core.proofs.Clauses.{tick_clauses}
 use Rattle.mesh_core.proofs.EventLemmas.Wholes.{current_of, sound_but}
 use Rattle.mesh_core.proofs.Spent.{where_whole}
@@ -11,10 +11,10 @@ pub tick-came-requires-clause-relays : goal.tick-came-requires-clause-relays
 tick-came-requires-clause-relays g c = refl
 
 pub tick-came-requires-clause-sound : goal.tick-came-requires-clause-sound
-tick-came-requires-clause-sound g c = sound_but (state_of c.self.inside.router.holding c.self.inside.router.derived) (c.self.invariant c.if-self.false)
+tick-came-requires-clause-sound g c = sound_but (router_state c.self.inside.router.holding c.self.inside.router.derived) (c.self.invariant c.if-self.false)
 
 pub tick-came-requires-clause-current : goal.tick-came-requires-clause-current
-tick-came-requires-clause-current g c = current_of c.self.inside.router.outdated (state_of c.self.inside.router.holding c.self.inside.router.derived) (c.self.invariant c.if-self.false)
+tick-came-requires-clause-current g c = current_of c.self.inside.router.outdated (router_state c.self.inside.router.holding c.self.inside.router.derived) (c.self.invariant c.if-self.false)
 
 pub returns-clause-step : goal.returns-clause-step
 returns-clause-step g c = (tick_clauses _ _ _ _ _ _ c.tick-came.result refl refl c.self.view_is (c.self.invariant c.if-self.false) c.tick-came.ensures.wanting c.tick-came.ensures.ticks).step

@@ -1,4 +1,4 @@
-use Rattle.mesh_replay.proofs.Common.{ℕ, ◌∙◌, ap, refl, subst, sym, TcsDue, Derived, state_of, tc_items}
+use Rattle.mesh_replay.proofs.Common.{ℕ, ◌∙◌, ap, refl, subst, sym, TcsDue, Derived, router_state, tc_items}
 use Rattle.mesh_replay.proofs.checking.renewal.take_due_lines.Goals as goal
 
 pub returns : goal.returns
@@ -8,8 +8,8 @@ returns c =
     let new = c.take_parts.new.derived in
     let third = c.take_parts.ensures.others in
     record {
-      hellos = λ was held next settings. hellos.due was (state_of held new) next.next_hello settings (ap (λ (d : Derived). d.last) third ∙ ap (λ (d : Derived). d.last) hellos.others) (ap (λ (d : Derived). d.next_hello) third);
-      tcs = λ was held next settings. subst (λ (n : ℕ). TcsDue was (state_of held new) (tc_items (state_of held new) n c.in_ok-parts.parts)) (ap (λ (d : Derived). d.sequence) hellos.others)
+      hellos = λ was held next settings. hellos.due was (router_state held new) next.next_hello settings (ap (λ (d : Derived). d.last) third ∙ ap (λ (d : Derived). d.last) hellos.others) (ap (λ (d : Derived). d.next_hello) third);
+      tcs = λ was held next settings. subst (λ (n : ℕ). TcsDue was (router_state held new) (tc_items (router_state held new) n c.in_ok-parts.parts)) (ap (λ (d : Derived). d.sequence) hellos.others)
           (tcs.due was held (next.next_tc ∙ sym (ap (λ (d : Derived). d.next_tc) hellos.others)) (next.sequence ∙ sym (ap (λ (d : Derived). d.sequence) hellos.others)) settings);
       within = tcs.within;
       before_is = refl;
