@@ -1,5 +1,5 @@
 -- Tests that decide statements: how tests of parts make tests of the whole, beside what std has.
-use Rattle.mesh_atoms.proofs.Common.{◌≡◌, ℕ, ◌≤◌, Bool, true, false, ◌||◌, not, nat_le, List, get_or, refl, ap, Decides, Contains, list_any, list_all, false≢true, eqb-true, eq-eqb, leb-true, le-leb, Any-from_list_any, list_any_at, All-contains, Contains-get_or, Addr4, addr_eq}
+use Rattle.mesh_atoms.proofs.Common.{arith, common_steps, ◌≡◌, ℕ, ◌≤◌, Bool, true, ◌||◌, not, nat_le, List, get_or, ap, Decides, Contains, list_any, list_all, eqb-true, eq-eqb, leb-true, le-leb, Any-from_list_any, All-contains, Contains-get_or, Addr4, addr_eq}
 use Rattle.std.proofs.lemmas.List.Sums.{AllPass-from_list_all, list_all-from_AllPass}
 pub use Rattle.std.proofs.lemmas.Bool.Decides.{Decides-and, Decides-or, Decides-not, Decides-eqb, Decides-ltb}
 
@@ -7,18 +7,13 @@ Decides-under : {P Q : Type 0} {r : Bool} → Decides r Q → P → Decides r (P
 Decides-under q h = (λ e _. q.0 e, λ w. q.1 (w h))
 
 pub Decides-if : {P Q : Type 0} (b r : Bool) → Decides b P → Decides r Q → Decides (not b || r) (P → Q)
-Decides-if true r p q = (λ e _. q.0 e, λ w. q.1 (w (p.0 refl)))
-Decides-if false r p q = (λ _ h. absurd (false≢true (p.1 h)), λ _. refl)
+Decides-if b r p q = grind (arith, common_steps)
 
 pub Decides-if_both : {P Q R : Type 0} (a b r : Bool) → Decides a P → Decides b Q → Decides r R → Decides (not a || not b || r) (P → Q → R)
-Decides-if_both true b r p q s = Decides-under (Decides-if b r q s) (p.0 refl)
-Decides-if_both false b r p q s = (λ _ h _. absurd (false≢true (p.1 h)), λ _. refl)
+Decides-if_both a b r p q s = grind (arith, common_steps, Decides-under, Decides-if)
 
 pub Decides-some : {X : Type 0} (test : X → Bool) (P : X → Type 0) → ((x : X) → Decides (test x) (P x)) → (xs : List X) → Decides (list_any test xs) ((x : X) × Contains xs x × P x)
-Decides-some test P decides xs = (
-  λ e. let w = Any-from_list_any test xs e in (w.1, (w.0, w.2, w.3), (decides w.1).0 w.4),
-  λ w. list_any_at test xs w.1.0 w.0 w.1.1 (rw w.1.2 ((decides w.0).1 w.2)),
-)
+Decides-some test P decides xs = grind (arith, common_steps, Any-from_list_any)
 
 pub Decides-each : {X : Type 0} (test : X → Bool) (P : X → Type 0) → ((x : X) → Decides (test x) (P x)) → (xs : List X) → Decides (list_all test xs) ((x : X) → Contains xs x → P x)
 Decides-each test P decides xs = (

@@ -1,5 +1,5 @@
 -- The decimal digits of a number, from the last to the first.
-use Rattle.mesh_atoms.proofs.Common.{◌≡◌, ℕ, zero, suc, ◌+◌, ◌-◌, ◌*◌, ◌/◌, ◌%◌, ◌<◌, ◌≤◌, ◌^◌, false, List, [], ◌∷◌, length, take, drop, refl, sym, ap, ◌∙◌, arith, slice_set, decimal, pow-suc, length-set, drop-set, length-drop, take_all, lt-ltb, ne_eqb}
+use Rattle.mesh_atoms.proofs.Common.{common_steps, ◌≡◌, ℕ, zero, suc, ◌+◌, ◌-◌, ◌/◌, ◌%◌, ◌<◌, ◌≤◌, ◌^◌, false, List, [], ◌∷◌, length, take, drop, refl, sym, ap, ◌∙◌, arith, slice_set, decimal, length-set, drop-set, length-drop, take_all, lt-ltb, ne_eqb}
 use Rattle.std.specs.Fmt.{digits, digits_onto, digit_glyph}
 
 -- the digits of `left`, at most `most`, before those that stand
@@ -19,24 +19,17 @@ digits_before-more most n standing more = rw (ne_eqb (n / 10) 0 (λ z. absurd (o
 
 pub digits_before-last : (most n : ℕ) (standing : List ℕ) → n ≤ 9 → digits_before (suc most) n standing ≡ (48 + n) ∷ standing
 unfolding digits_before
-digits_before-last most n standing few =
-    let none : n / 10 ≡ 0 = omega arith in
-    let same : n % 10 ≡ n = omega arith in
-    rw (none, glyph n, same) refl
+digits_before-last most n standing few = grind (arith, common_steps, glyph)
 
 -- a number of more digits than one has room before its last
 pub room_before : (at left : ℕ) → 9 < left → left < 10 ^ at → (2 ≤ at) × (left / 10 < 10 ^ (at - 1))
 room_before zero left more room = absurd (omega arith)
 room_before (suc zero) left more room = absurd (omega arith)
-room_before (suc (suc at)) left more room = let less : suc (suc at) - 1 ≡ suc at = omega arith in (omega arith, rw less (tenth left (10 ^ suc at) (rw (← pow-suc 10 (suc at)) room))) where
-  tenth : (n p : ℕ) → n < p * 10 → n / 10 < p
-  tenth n p h = omega arith
+room_before (suc (suc at)) left more room = grind (arith, common_steps)
 
 -- the digit before those that stand
 pub drop-stored : (digits : List ℕ) (at digit : ℕ) → length digits ≡ 20 → 1 ≤ at → at ≤ 20 → drop (at - 1) (slice_set digits (at - 1) digit) ≡ digit ∷ drop at digits
-drop-stored digits at digit size some within =
-    let next : at - 1 + 1 ≡ at = omega arith in
-    drop-set digits (at - 1) digit (omega arith) ∙ ap (λ (n : ℕ). digit ∷ drop n digits) next
+drop-stored digits at digit size some within = grind (arith, common_steps, drop-set)
 
 -- all the digits, where one is left
 pub take-stored : (digits : List ℕ) (at left : ℕ) → length digits ≡ 20 → 1 ≤ at → at ≤ 20 → left ≤ 9

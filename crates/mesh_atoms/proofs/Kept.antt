@@ -1,10 +1,9 @@
 -- What the tests of settings say.
-use Rattle.mesh_atoms.proofs.Common.{◌≡◌, Bool, true, false, List, [], ◌∷◌, refl, IsTrue, not, ◌||◌, AllByRecursion, list_any, are_distinct, and_parts as both}
+use Rattle.mesh_atoms.proofs.Common.{arith, common_steps, ◌≡◌, Bool, true, false, List, [], ◌∷◌, IsTrue, not, ◌||◌, AllByRecursion, list_any, are_distinct, and_parts as both}
 use Rattle.std.specs.List.{IsDistinct}
 
 neither : (a b : Bool) → not (a || b) ≡ true → (a ≡ false) × (not b ≡ true)
-neither true b h = absurd cc
-neither false b h = (refl, h)
+neither a b h = grind (arith, common_steps)
 
 none_passes : {A : Type 0} (p : A → Bool) (xs : List A) → not (list_any p xs) ≡ true → AllByRecursion (λ x. p x ≡ false) xs
 none_passes p [] h = tt

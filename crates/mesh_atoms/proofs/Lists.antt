@@ -1,6 +1,6 @@
 -- Elements of lists.
+use Rattle.mesh_atoms.proofs.Common.{common_steps, are_distinct, All, Bool, Contains, List, None, Option, Some, [], ap, append_assoc, arith, cond, false, filter, get_or, inl, inr, length, length-append, map, refl, slice_get, subst, suc, sym, true, zero, ℕ, ◌++◌, ◌+◌, ◌-◌, ◌<◌, ◌∙◌, ◌∷◌, ◌≡◌, ◌≤◌, ◌⊎◌, not, slice_set, slice_range, and_parts, get_or-map, length-map, All-contains, All-contains_itself, All-filter, Contains-append_cases, Contains-append_left, Contains-append_right, filter_passes, list_any-append, list_any-from_Contains, get_or_from_slice_get, slice_get-get_or, slice_get_read, slice_get_within, IsEquivalence, AllPairs, cons_option, flat_map, list_all, list_any}
 use Rattle.mesh_atoms.proofs.Options.{none_is_some, not_both}
-use Rattle.mesh_atoms.proofs.Common.{are_distinct, All, Bool, Contains, List, None, Option, Some, [], ap, append_assoc, arith, cond, drop, false, filter, get_or, inl, inr, length, length-append, map, refl, slice_get, subst, suc, sym, take, true, zero, ℕ, ◌++◌, ◌+◌, ◌-◌, ◌<◌, ◌∙◌, ◌∷◌, ◌≡◌, ◌≤◌, ◌⊎◌, and_parts, get_or-map, length-map, All-contains, All-contains_itself, All-filter, Contains-append_cases, Contains-append_left, Contains-append_right, filter_passes, list_any-append, list_any-from_Contains, get_or_from_slice_get, slice_get-get_or, slice_get_read, slice_get_within, IsEquivalence, AllPairs, cons_option, flat_map, list_all, list_any, not, slice_set, slice_range}
 use Rattle.std.proofs.lemmas.List.Kept.{AllPairs-cons}
 
 pub contains_head : {A : Type 0} (a : A) (rest : List A) → Contains (a ∷ rest) a
@@ -10,8 +10,7 @@ pub contains_tail : {A : Type 0} (x : A) (xs : List A) (a : A) → Contains xs a
 contains_tail x xs a c = (suc c.0, omega (arith, c.1), c.2)
 
 pub contains_cases : {X : Type 0} (x : X) (xs : List X) (z : X) → Contains (x ∷ xs) z → (x ≡ z) ⊎ Contains xs z
-contains_cases x xs z (zero, lt, is) = inl is
-contains_cases x xs z (suc k, lt, is) = inr (k, omega arith, is)
+contains_cases x xs z h3 = grind (arith, common_steps)
 
 pub contains_none : {X : Type 0} (z : X) → Contains [] z → ⊥
 contains_none z (k, lt, is) = omega arith
@@ -99,12 +98,7 @@ contains_filter_cases {A} p xs a has = (All-contains (Contains xs) (filter p xs)
 -- what passes stays where another test passes it
 pub any_filter : {K : Type 0} (test p : K → Bool) (xs : List K) → ((x : K) → p x ≡ true → test x ≡ true) → list_any p xs ≡ true → list_any p (filter test xs) ≡ true
 any_filter test p [] both h = h
-any_filter {K} test p (x ∷ xs) both h = by_head (p x) refl (test x) refl (any_filter test p xs both) where
-  by_head : (a : Bool) → p x ≡ a → (b : Bool) → test x ≡ b → (list_any p xs ≡ true → list_any p (filter test xs) ≡ true) → list_any p (filter test (x ∷ xs)) ≡ true
-  by_head true is true passes behind = rw (passes, is) refl
-  by_head true is false fails behind = absurd (let clash : true ≡ false = sym (both x is) ∙ fails in cc)
-  by_head false is true passes behind = rw (passes, is) (behind (rw is at h))
-  by_head false is false fails behind = rw fails (behind (rw is at h))
+any_filter {K} test p (x ∷ xs) both h = grind (arith, common_steps, (any_filter test p xs both))
 
 pub all_at : {A : Type 0} (p : A → Bool) (xs : List A) (i : ℕ) (x : A) → list_all p xs ≡ true → slice_get xs i ≡ Some x → p x ≡ true
 all_at p [] i x h at = absurd (cc)
@@ -130,8 +124,7 @@ pub tails_equal : {A : Type 0} (x y : A) (xs ys : List A) → x ∷ xs ≡ y ∷
 tails_equal x y xs ys e = cc
 
 pub contains_one : {A : Type 0} (x y : A) → Contains (x ∷ []) y → x ≡ y
-contains_one x y (zero, lt, is) = is
-contains_one x y (suc k, lt, is) = absurd (omega arith)
+contains_one x y h2 = grind (arith, common_steps)
 
 pub two_appended : {new' new'' : List ℕ} (old a b : List ℕ) → new' ≡ old ++ a → new'' ≡ new' ++ b → new'' ≡ old ++ (a ++ b)
 two_appended old a b h k = k ∙ ap (λ (l : List ℕ). l ++ b) h ∙ append_assoc old a b
@@ -191,8 +184,7 @@ single_of (x ∷ y ∷ rest) e = absurd (omega arith)
 
 -- an element of a list that may begin with one more
 pub option_cases : {X : Type 0} (o : Option X) (x : X) (rest : List X) → Contains (cons_option o rest) x → (o ≡ Some x) ⊎ Contains rest x
-option_cases None x rest c = inr c
-option_cases (Some y) x rest c = elim (contains_cases y rest x c) [ inl e ↦ inl (ap Some e) | inr later ↦ inr later ]
+option_cases o x rest c = grind (arith, common_steps, contains_cases)
 
 -- what all have, the item has that is read at a place
 pub all_read : {A B : Type 0} (view : A → B) (P : B → Type 0) (xs : List A) (i : ℕ) (x : A) → All P (map view xs) → i < length xs → x ≡ get_or xs i x → P (view x)
@@ -206,14 +198,4 @@ set_here (z ∷ xs) (suc i) x y h = set_here xs i x y h
 
 -- the middle of three lists
 pub middle_range : {X : Type 0} (xs ys zs : List X) → slice_range (xs ++ (ys ++ zs)) (length xs) (length xs + length ys) ≡ ys
-middle_range xs ys zs =
-    let e : length xs + length ys - length xs ≡ length ys = omega arith in
-    ap (λ n. take n (drop (length xs) (xs ++ (ys ++ zs)))) e ∙ ap (take (length ys)) (behind xs (ys ++ zs)) ∙ front ys zs
-  where
-    behind : {X : Type 0} (xs ys : List X) → drop (length xs) (xs ++ ys) ≡ ys
-    behind [] ys = refl
-    behind (x ∷ xs) ys = behind xs ys
-
-    front : {X : Type 0} (xs ys : List X) → take (length xs) (xs ++ ys) ≡ xs
-    front [] ys = refl
-    front (x ∷ xs) ys = ap (λ ws. x ∷ ws) (front xs ys)
+middle_range xs ys zs = grind (arith, common_steps)

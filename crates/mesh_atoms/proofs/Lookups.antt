@@ -1,5 +1,5 @@
 -- What a link is, by tests and by cases; tuples by look-up and by membership.
-use Rattle.mesh_atoms.proofs.Common.{◌≡◌, ℕ, nat_eq, inl, inr, ◌≢◌, refl, sym, ◌∙◌, ap, subst, arith, List, [], slice_get, Some, ◌↔◌, Bool, true, false, cond, nat_lt, not, ◌&&◌, IsEquivalence, eqb-true, false≢true, and_parts, nat_eq_equiv, on_equiv, and_equiv, Contains-from_lookup, lookup-from_Contains, get_or_past, slice_get_cases, get_or_from_slice_get, Addr4, NetAddr, Base, Has, find, base_of, HasDistinctKeys, addr_eq, net_eq, link_eq, two_hop_eq, router_eq, address_eq, network_eq, link_state}
+use Rattle.mesh_atoms.proofs.Common.{common_steps, ◌≡◌, ℕ, inl, inr, ◌≢◌, sym, ◌∙◌, ap, subst, arith, List, [], slice_get, Some, ◌↔◌, Bool, true, false, cond, nat_lt, not, ◌&&◌, IsEquivalence, eqb-true, and_parts, nat_eq_equiv, on_equiv, and_equiv, Contains-from_lookup, lookup-from_Contains, get_or_past, slice_get_cases, get_or_from_slice_get, Addr4, NetAddr, Base, Has, find, base_of, HasDistinctKeys, addr_eq, net_eq, link_eq, two_hop_eq, router_eq, address_eq, network_eq, link_state}
 use Rattle.mesh_atoms.specs.declared.hello.LinkStatus.{LinkStatus}
 use Rattle.mesh_atoms.specs.declared.hello.LinkStatus.TheVariants.{Lost as Down, Symmetric, Heard}
 use Rattle.mesh_atoms.specs.declared.tuples.LinkKey.{LinkKey}
@@ -18,21 +18,13 @@ abbrev status : Bool → Bool → Bool → Bool → LinkState
 status pending lost late heard = cond pending Is_pending (cond lost Is_lost (cond late Is_symmetric (cond heard Is_heard Is_lost)))
 
 symmetric_by : (pending lost late heard : Bool) → (cond pending false (cond lost false late) ≡ true) ↔ (status pending lost late heard ≡ Is_symmetric)
-symmetric_by true lost late heard = ((λ h. absurd (false≢true h)), (λ h. absurd (cc)))
-symmetric_by false true late heard = ((λ h. absurd (false≢true h)), (λ h. absurd (cc)))
-symmetric_by false false true heard = ((λ h. refl), (λ h. refl))
-symmetric_by false false false true = ((λ h. absurd (false≢true h)), (λ h. absurd (cc)))
-symmetric_by false false false false = ((λ h. absurd (false≢true h)), (λ h. absurd (cc)))
+symmetric_by pending lost late heard = grind (arith, common_steps)
 
 pub tests_symmetric : TestsSymmetric
 tests_symmetric link now = symmetric_by link.pending link.lost (nat_lt now link.sym) (nat_lt now link.heard)
 
 heard_by : (pending lost late heard : Bool) → ((not pending && (not lost && (not late && heard))) ≡ true) ↔ (status pending lost late heard ≡ Is_heard)
-heard_by true lost late heard = ((λ h. absurd (false≢true h)), (λ h. absurd (cc)))
-heard_by false true late heard = ((λ h. absurd (false≢true h)), (λ h. absurd (cc)))
-heard_by false false true heard = ((λ h. absurd (false≢true h)), (λ h. absurd (cc)))
-heard_by false false false true = ((λ h. refl), (λ h. refl))
-heard_by false false false false = ((λ h. absurd (false≢true h)), (λ h. absurd (cc)))
+heard_by pending lost late heard = grind (arith, common_steps)
 
 pub tests_heard : TestsHeard
 tests_heard link now = heard_by link.pending link.lost (nat_lt now link.sym) (nat_lt now link.heard)
@@ -42,11 +34,7 @@ shown pending lost late heard =
     cond (cond pending false (cond lost false late)) Symmetric (cond (not pending && (not lost && (not late && heard))) Heard Down)
 
 shows_by : (pending lost late heard : Bool) → status pending lost late heard ≢ Is_pending → link_state (shown pending lost late heard) ≡ status pending lost late heard
-shows_by true lost late heard h = absurd (h refl)
-shows_by false true late heard h = refl
-shows_by false false true heard h = refl
-shows_by false false false true h = refl
-shows_by false false false false h = refl
+shows_by pending lost late heard h = grind (arith, common_steps)
 
 pub shows_status : ShowsStatus
 shows_status link now = shows_by link.pending link.lost (nat_lt now link.sym) (nat_lt now link.heard)
@@ -69,33 +57,22 @@ pub same_link : (k l : LinkKey) → link_eq k l ≡ true → k ≡ l
 same_link k l h = ap (λ (a : Addr4). let r : LinkKey = record { addr = a } in r) (same_addr k.addr l.addr h)
 
 pub same_two_hop : (k l : TwoHopKey) → two_hop_eq k l ≡ true → k ≡ l
-same_two_hop k l h =
-    let (e, f) = and_parts (link_eq k.link l.link) (addr_eq k.addr l.addr) h in
-    ap (λ (a : LinkKey). let r : TwoHopKey = record { link = a; addr = k.addr } in r) (same_link k.link l.link e)
-    ∙ ap (λ (a : Addr4). let r : TwoHopKey = record { link = l.link; addr = a } in r) (same_addr k.addr l.addr f)
+same_two_hop k l h = grind (arith, common_steps, same_addr)
 
 pub same_net : (a b : NetAddr) → net_eq a b ≡ true → a ≡ b
-same_net a b h =
-    let (e, f) = and_parts (addr_eq a.addr b.addr) (nat_eq a.prefix b.prefix) h in
-    same_parts a b (same_addr a.addr b.addr e) (eqb-true a.prefix b.prefix f)
+same_net a b h = grind (arith, common_steps, same_parts, same_addr)
 
 pub router_equiv : IsEquivalence router_eq
 router_equiv = and_equiv (on_equiv (λ (k : RouterKey). k.from.0) nat_eq_equiv) (on_equiv (λ (k : RouterKey). k.to.0) nat_eq_equiv)
 
 pub same_router : (k l : RouterKey) → router_eq k l ≡ true → k ≡ l
-same_router k l h =
-    let (e, f) = and_parts (addr_eq k.from l.from) (addr_eq k.to l.to) h in
-    ap (λ (a : Addr4). let r : RouterKey = record { from = a; to = k.to } in r) (same_addr k.from l.from e)
-    ∙ ap (λ (a : Addr4). let r : RouterKey = record { from = l.from; to = a } in r) (same_addr k.to l.to f)
+same_router k l h = grind (arith, common_steps, same_addr)
 
 pub address_equiv : IsEquivalence address_eq
 address_equiv = and_equiv (on_equiv (λ (k : AddressKey). k.from.0) nat_eq_equiv) (on_equiv (λ (k : AddressKey). k.addr.0) nat_eq_equiv)
 
 pub same_address : (k l : AddressKey) → address_eq k l ≡ true → k ≡ l
-same_address k l h =
-    let (e, f) = and_parts (addr_eq k.from l.from) (addr_eq k.addr l.addr) h in
-    ap (λ (a : Addr4). let r : AddressKey = record { from = a; addr = k.addr } in r) (same_addr k.from l.from e)
-    ∙ ap (λ (a : Addr4). let r : AddressKey = record { from = l.from; addr = a } in r) (same_addr k.addr l.addr f)
+same_address k l h = grind (arith, common_steps, same_addr)
 
 pub net_equiv : IsEquivalence net_eq
 net_equiv = and_equiv (on_equiv (λ (a : NetAddr). a.addr.0) nat_eq_equiv) (on_equiv (λ (a : NetAddr). a.prefix) nat_eq_equiv)

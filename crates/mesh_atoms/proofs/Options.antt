@@ -1,5 +1,5 @@
 -- Options, results and conditions.
-use Rattle.mesh_atoms.proofs.Common.{Bool, Err, None, Ok, OnOk, Option, Result, Some, cond, false, refl, sym, true, ◌∙◌, ◌≡◌, false≢true, is_some, IfOk, IsTrue, OnErr, not, ◌↔◌}
+use Rattle.mesh_atoms.proofs.Common.{arith, common_steps, Bool, Err, None, Ok, OnOk, Option, Result, Some, cond, false, refl, sym, true, ◌∙◌, ◌≡◌, IfOk, IsTrue, OnErr, not, ◌↔◌, false≢true, is_some}
 
 pub some_of : {X : Type 0} (o : Option X) → is_some o ≡ true → (x : X) × (o ≡ Some x)
 some_of None e = cc
@@ -13,35 +13,29 @@ none_not e f = none_is_some (sym e ∙ f)
 
 -- what holds whether the result is `Ok` or `Err`
 pub by_result : {A B : Type 0} (P Q C : Type 0) (r : Result A B) → OnOk r P → OnErr r Q → (P → C) → (Q → C) → C
-by_result P Q C (Ok x) p q f g = f p
-by_result P Q C (Err e) p q f g = g q
+by_result P Q C r p q f g = grind (arith, common_steps)
 
 -- what follows of a value follows of a result
 pub if_ok_weaker : {X E : Type 0} {P Q : X → Type 0} (r : Result X E) → ((x : X) → P x → Q x) → IfOk r P → IfOk r Q
-if_ok_weaker (Ok x) f h = f x h
-if_ok_weaker (Err e) f h = tt
+if_ok_weaker r f h = grind (arith, common_steps)
 
 pub not_both : (a : Bool) → a ≡ true → not a ≡ true → ⊥
-not_both true e h = false≢true h
-not_both false e h = false≢true e
+not_both a e h = grind (arith, common_steps)
 
 pub true_false : {A : Type 0} {b : Bool} → b ≡ true → b ≡ false → A
 true_false e f = absurd (false≢true (sym f ∙ e))
 
 pub cond_true : {A : Type 0} (b : Bool) (x y : A) → b ≡ true → cond b x y ≡ x
-cond_true true x y h = refl
-cond_true false x y h = absurd (cc)
+cond_true b x y h = grind (arith, common_steps)
 
 pub same_some : {A : Type 0} {o : Option A} {a b : A} → o ≡ Some a → o ≡ Some b → a ≡ b
 same_some e f = cc
 
 pub cond_none_some : {A : Type 0} (b : Bool) (x : Option A) (y : A) → cond b x None ≡ Some y → (b ≡ true) × (x ≡ Some y)
-cond_none_some true x y h = (refl, h)
-cond_none_some false x y h = let bad : ⊥ = cc in absurd bad
+cond_none_some b x y h = grind (arith, common_steps)
 
 pub cond_same : {A : Type 0} (b : Bool) (x : A) → cond b x x ≡ x
-cond_same true x = refl
-cond_same false x = refl
+cond_same b x = grind (arith, common_steps)
 
 pub some_equal : {A : Type 0} (x y : A) → Some x ≡ Some y → x ≡ y
 some_equal x y h = cc
@@ -53,12 +47,8 @@ pub ok_not_err : {A B E : Type 0} {r : Result A E} {a : A} {x : E} → r ≡ Ok 
 ok_not_err e f = absurd (cc)
 
 pub on_err_of : {A E P : Type 0} (r : Result A E) → P → OnErr r P
-on_err_of (Ok x) p = tt
-on_err_of (Err e) p = p
+on_err_of r p = grind (arith, common_steps)
 
 -- two answers to one question
 pub same_answer : {P : Type 0} (a b : Bool) → (IsTrue a ↔ P) → (IsTrue b ↔ P) → a ≡ b
-same_answer true true h k = refl
-same_answer false false h k = refl
-same_answer true false h k = absurd (false≢true (k.1 (h.0 refl)))
-same_answer false true h k = absurd (false≢true (h.1 (k.0 refl)))
+same_answer a b h k = grind (arith, common_steps)

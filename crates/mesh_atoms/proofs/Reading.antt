@@ -1,17 +1,15 @@
 -- What readers take of a frame, and that they take again what stands there.
-use Rattle.mesh_atoms.proofs.Common.{◌≡◌, ℕ, suc, ◌+◌, ◌-◌, ◌<◌, ◌≤◌, Bool, true, false, cond, ltb, List, [], ◌∷◌, ◌++◌, length, get_or, take, drop, Result, Ok, Err, refl, sym, ap, subst, ◌∙◌, arith, append_assoc, drop-cons, MatchResult, slice_range, ltb-false, ltb-true, le-ltb, lt-ltb, length-append, length-drop, length-take, take_at, drop_at, drop_split, Refusal, ◌>>=◌, refuse, octet_at, short_at, piece_at}
+use Rattle.mesh_atoms.proofs.Common.{common_steps, ◌≡◌, ℕ, suc, ◌+◌, ◌-◌, ◌<◌, ◌≤◌, Bool, true, false, cond, ltb, List, [], ◌∷◌, ◌++◌, length, get_or, take, drop, Result, Ok, refl, sym, ap, subst, ◌∙◌, arith, append_assoc, drop-cons, MatchResult, slice_range, length-append, ltb-false, ltb-true, le-ltb, lt-ltb, length-drop, length-take, take_at, drop_at, drop_split, Refusal, ◌>>=◌, refuse, octet_at, short_at, piece_at}
 use Rattle.std.proofs.Math.Seq.{take-append-add}
 use Rattle.mesh_atoms.specs.Grammar.{SpellsShort}
 
 -- ---- what holds of a reading: of what is read, or of the fault
 
 pub meets_bind : {A B : Type 0} (r : Result A Refusal) (f : A → Result B Refusal) (P : A → Type 0) (P' : B → Type 0) (Q Q' : Refusal → Type 0) → MatchResult r P Q → ((e : Refusal) → Q e → Q' e) → ((x : A) → P x → MatchResult (f x) P' Q') → MatchResult (r >>= f) P' Q'
-meets_bind (Ok x) f P P' Q Q' h q k = k x h
-meets_bind (Err e) f P P' Q Q' h q k = q e h
+meets_bind r f P P' Q Q' h q k = grind (arith, common_steps)
 
 pub meets_if : {A : Type 0} (b : Bool) (x y : Result A Refusal) (P : A → Type 0) (Q : Refusal → Type 0) → (b ≡ true → MatchResult x P Q) → (b ≡ false → MatchResult y P Q) → MatchResult (cond b x y) P Q
-meets_if true x y P Q h k = h refl
-meets_if false x y P Q h k = k refl
+meets_if b x y P Q h k = grind (arith, common_steps)
 
 -- ---- the octets between two places
 
@@ -73,11 +71,7 @@ pub takes_none : (s : List ℕ) (at end : ℕ) → at ≤ end → Takes s at [] 
 takes_none s at end le = record { parts = refl; within = le; len = omega arith }
 
 pub takes_both : (s : List ℕ) (at : ℕ) (front : List ℕ) (place : ℕ) (back : List ℕ) (after end : ℕ) → Takes s at front place end → Takes s place back after end → Takes s at (front ++ back) after end
-takes_both s at front place back after end h k = record {
-  parts = h.parts ∙ ap (λ (l : List ℕ). front ++ l) k.parts ∙ sym (append_assoc front back (slice_range s after end));
-  within = k.within;
-  len = omega (arith, h.len, k.len, length-append front back);
-}
+takes_both s at front place back after end h k = grind (arith, common_steps)
 
 pub takes_range : (s : List ℕ) (at n end : ℕ) → at + n ≤ end → end ≤ length s → Takes s at (slice_range s at (at + n)) (at + n) end
 takes_range s at n end le fits = record { parts = range_split s at n end le fits; within = le; len = omega (arith, range_length s at (at + n) (omega arith)) }
@@ -85,9 +79,7 @@ takes_range s at n end le fits = record { parts = range_split s at n end le fits
 -- ---- octets and numbers
 
 pub octet_takes : (reason : ℕ) (s : List ℕ) (at end : ℕ) → end ≤ length s → MatchResult (octet_at reason s at end) (λ x. Takes s at (x.0 ∷ []) x.1 end) (λ e. (e ≡ record { place = at; reason = reason }) × (slice_range s at end ≡ []))
-octet_takes reason s at end le = meets_if (ltb at end) _ _ (λ (x : ℕ × ℕ). Takes s at (x.0 ∷ []) x.1 end) (λ e. (e ≡ record { place = at; reason = reason }) × (slice_range s at end ≡ []))
-    (λ p. let lt : at < end = ltb-true _ _ p in record { parts = range_cons s at end lt le; within = omega arith; len = refl })
-    (λ p. (refl, range_nil s at end (ltb-false _ _ p)))
+octet_takes reason s at end le = grind (arith, common_steps, meets_if, range_cons, range_nil)
 
 pub octet_again : (reason : ℕ) (s : List ℕ) (at end x : ℕ) (rest : List ℕ) → end ≤ length s → slice_range s at end ≡ x ∷ rest → octet_at reason s at end ≡ Ok (x, at + 1)
 octet_again reason s at end x rest le e =
@@ -95,9 +87,7 @@ octet_again reason s at end x rest le e =
     rw (lt-ltb at end there.0, there.1) refl
 
 pub octet_cut : (reason : ℕ) (s : List ℕ) (at end : ℕ) → end ≤ length s → slice_range s at end ≡ [] → octet_at reason s at end ≡ refuse at reason
-octet_cut reason s at end le e =
-    let none : length (slice_range s at end) ≡ 0 = ap length e in
-    rw (le-ltb at end (omega (arith, range_length s at end le))) refl
+octet_cut reason s at end le e = grind (arith, common_steps, range_length)
 
 pub short_takes : (reason : ℕ) (s : List ℕ) (at end : ℕ) → end ≤ length s → MatchResult (short_at reason s at end) (λ x. (text : List ℕ) × SpellsShort x.0 text × Takes s at text x.1 end) (λ e. (e ≡ record { place = at; reason = reason }) × (length (slice_range s at end) < 2))
 short_takes reason s at end le = meets_if (ltb (at + 1) end) _ _ (λ (x : ℕ × ℕ). (text : List ℕ) × SpellsShort x.0 text × Takes s at text x.1 end) (λ e. (e ≡ record { place = at; reason = reason }) × (length (slice_range s at end) < 2))
@@ -159,12 +149,7 @@ Faulty at Fault e = (place : ℕ) × (reason : ℕ) × Fault place reason × (e 
 -- ---- pieces
 
 pub piece_takes : (reason : ℕ) (s : List ℕ) (at end len : ℕ) → at ≤ end → end ≤ length s → MatchResult (piece_at reason s at end len) (λ x. (length x.0 ≡ len) × Takes s at x.0 x.1 end) (λ e. (e ≡ record { place = at; reason = reason }) × (length (slice_range s at end) < len))
-piece_takes reason s at end len le fits =
-    let size = range_length s at end fits in
-    meets_if (ltb (end - at) len) _ _ (λ (x : List ℕ × ℕ). (length x.0 ≡ len) × Takes s at x.0 x.1 end) (λ e. (e ≡ record { place = at; reason = reason }) × (length (slice_range s at end) < len))
-    (λ p. let lt : end - at < len = ltb-true _ _ p in (refl, omega (arith, size)))
-    (λ p. let fit : len ≤ end - at = ltb-false _ _ p in
-    (omega (arith, range_length s at (at + len) (omega arith)), takes_range s at len end (omega arith) fits))
+piece_takes reason s at end len le fits = grind (arith, common_steps, range_length, meets_if, takes_range)
 
 pub piece_again : (reason : ℕ) (s : List ℕ) (at : ℕ) (text rest : List ℕ) (end : ℕ) → Stands s at text rest end → piece_at reason s at end (length text) ≡ Ok (text, at + length text)
 piece_again reason s at text rest end h =

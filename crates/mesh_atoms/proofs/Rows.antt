@@ -1,15 +1,12 @@
 -- When rows of a TC are the same.
-use Rattle.mesh_atoms.proofs.Common.{le_prop, ◌≡◌, ℕ, ◌<◌, subst, Bool, eqb, ◌&&◌, refl, ap, ◌∙◌, Decides, Option, Some, None, option_eq, booleans_Decides, false≢true, Addr4, NetAddr, Metric}
+use Rattle.mesh_atoms.proofs.Common.{arith, common_steps, le_prop, ◌≡◌, ℕ, ◌<◌, subst, Bool, eqb, ◌&&◌, ap, Decides, Option, option_eq, Addr4, NetAddr, Metric}
 use Rattle.std.proofs.Math.Bool.{beq}
 use Rattle.std.proofs.lemmas.Bool.Decides.{Decides-and, Decides-eqb, Decides-like}
 use Rattle.mesh_atoms.specs.declared.tc.TcRow.{TcRow}
 use Rattle.mesh_atoms.proofs.Nets.{same_net}
 
 pub options : {X : Type 0} (test : X → X → Bool) → ((x y : X) → Decides (test x y) (x ≡ y)) → (a b : Option X) → Decides (option_eq test a b) (a ≡ b)
-options test same None None = (λ _. refl, λ _. refl)
-options test same None (Some y) = (λ e. absurd (false≢true e), λ e. absurd (cc))
-options test same (Some x) None = (λ e. absurd (false≢true e), λ e. absurd (cc))
-options test same (Some x) (Some y) = (λ e. ap (λ z. Some z) ((same x y).0 e), λ e. let f : x ≡ y = cc in (same x y).1 f)
+options test same a b = grind (arith, common_steps)
 
 pub nets : (a b : NetAddr) → Decides (eqb a.addr.0 b.addr.0 && eqb a.prefix b.prefix) (a ≡ b)
 nets a b = Decides-like _ (λ h. same_net a b (ap (λ (n : ℕ). let x : Addr4 = record { 0 = n } in x) h.0) h.1) (λ e. (ap (λ (n : NetAddr). n.addr.0) e, ap (λ (n : NetAddr). n.prefix) e)) (Decides-and _ _ (Decides-eqb a.addr.0 b.addr.0) (Decides-eqb a.prefix b.prefix))
@@ -23,17 +20,6 @@ same_metric a b e = subst (λ (k : ℕ). (h : k < 4096) → a ≡ metric_of k h)
 pub metrics : (a b : Metric) → Decides (eqb a.code b.code) (a ≡ b)
 metrics a b = Decides-like _ (same_metric a b) (ap (λ (m : Metric). m.code)) (Decides-eqb a.code b.code)
 
-abbrev made : NetAddr → Bool → Bool → Option ℕ → Option Metric → TcRow
-made dest origin routable gateway metric = record { dest = dest; origin = origin; routable = routable; gateway = gateway; metric = metric }
-
-same_row : (a b : TcRow) → a.dest ≡ b.dest → a.origin ≡ b.origin → a.routable ≡ b.routable → a.gateway ≡ b.gateway → a.metric ≡ b.metric → a ≡ b
-same_row a b d o r g m =
-    ap (λ x. made x a.origin a.routable a.gateway a.metric) d ∙ (ap (λ x. made b.dest x a.routable a.gateway a.metric) o
-    ∙ (ap (λ x. made b.dest b.origin x a.gateway a.metric) r ∙ (ap (λ x. made b.dest b.origin b.routable x a.metric) g ∙ ap (λ x. made b.dest b.origin b.routable b.gateway x) m)))
-
 pub rows : (a b : TcRow) → Decides ((eqb a.dest.addr.0 b.dest.addr.0 && eqb a.dest.prefix b.dest.prefix) && (beq a.origin b.origin && (beq a.routable b.routable
     && (option_eq eqb a.gateway b.gateway && option_eq (λ (m n : Metric). eqb m.code n.code) a.metric b.metric)))) (a ≡ b)
-rows a b = Decides-like _ (λ h. same_row a b h.0 h.1.0 h.1.1.0 h.1.1.1.0 h.1.1.1.1)
-    (λ e. (ap (λ (r : TcRow). r.dest) e, (ap (λ (r : TcRow). r.origin) e, (ap (λ (r : TcRow). r.routable) e, (ap (λ (r : TcRow). r.gateway) e, ap (λ (r : TcRow). r.metric) e)))))
-    (Decides-and _ _ (nets a.dest b.dest) (Decides-and _ _ (booleans_Decides a.origin b.origin) (Decides-and _ _ (booleans_Decides a.routable b.routable)
-    (Decides-and _ _ (options eqb Decides-eqb a.gateway b.gateway) (options (λ (m n : Metric). eqb m.code n.code) metrics a.metric b.metric)))))
+rows a b = grind (arith, common_steps, Decides-like, Decides-and, nets, options, metrics)

@@ -1,5 +1,5 @@
 -- Values of times by distance that are put together from the front.
-use Rattle.mesh_atoms.proofs.Common.{◌≡◌, ℕ, ◌+◌, ◌*◌, ◌<◌, refl, sym, ap, subst, ◌∙◌, arith, List, [], ◌∷◌, ◌++◌, length, length-append, drop, get_or, drop_more, NearHold, IsSentCode, IsLeastCode, IsTimeValue, Up_to, IsValidity, Near}
+use Rattle.mesh_atoms.proofs.Common.{common_steps, ◌≡◌, ℕ, ◌+◌, ◌*◌, ◌<◌, refl, sym, ap, subst, ◌∙◌, arith, List, [], ◌∷◌, ◌++◌, length, drop, get_or, drop_more, NearHold, IsSentCode, IsLeastCode, IsTimeValue, Up_to, IsValidity, Near}
 
 -- two more octets stand before what follows
 pub two_more : (v : List ℕ) (a b : ℕ) (rest : List ℕ) → ((v ++ a ∷ []) ++ b ∷ []) ++ rest ≡ v ++ a ∷ b ∷ rest
@@ -23,6 +23,4 @@ next_value hold nears i near v new code at within is least before rest value =
     (before (code ∷ near.hops ∷ rest) (subst (λ (l : List NearHold). IsValidity hold l (code ∷ near.hops ∷ rest)) (sym here) (Near least value))))
 
 pub next_size : (v new : List ℕ) (code hops i : ℕ) → new ≡ (v ++ code ∷ []) ++ hops ∷ [] → length v ≡ 2 * i → length new ≡ 2 * (i + 1)
-next_size v new code hops i is size =
-    let added : length new ≡ (length v + 1) + 1 = ap length is ∙ length-append (v ++ code ∷ []) (hops ∷ []) ∙ ap (λ (n : ℕ). n + 1) (length-append v (code ∷ [])) in
-    omega (arith, added, size)
+next_size v new code hops i is size = grind (arith, common_steps)

@@ -1,7 +1,7 @@
 -- Addresses, metrics, tuples and the order of nodes.
+use Rattle.mesh_atoms.proofs.Common.{common_steps, addr_eq, host, net_eq, IsAtMost, IsBefore, HasAddressOn, IsOriginator, Addr4, NetAddr, Interface, Contains, List, Some, [], ap, arith, inl, inr, refl, slice_get, subst, true, ℕ, ◌∷◌, ◌≡◌, ◌⊎◌, ◌↔◌, cases_eq, eq-eqb}
 use Rattle.mesh_atoms.proofs.Lists.{contains_cases, contains_none, contains_tail}
 use Rattle.mesh_atoms.proofs.Options.{same_some}
-use Rattle.mesh_atoms.proofs.Common.{addr_eq, host, net_eq, IsAtMost, IsBefore, HasAddressOn, IsOriginator, Addr4, NetAddr, Interface, Contains, List, Some, [], ap, arith, inl, inr, refl, slice_get, subst, true, ℕ, ◌∷◌, ◌≡◌, ◌⊎◌, cases_eq, eq-eqb, ◌↔◌}
 use Rattle.mesh_atoms.specs.declared.settings.RouterSettings.{RouterSettings}
 
 -- addresses of one number are one
@@ -15,34 +15,19 @@ pub net_itself : (a b : NetAddr) → a ≡ b → net_eq a b ≡ true
 net_itself a b e = rw (eq-eqb a.addr.0 b.addr.0 (ap (λ (n : NetAddr). n.addr.0) e), eq-eqb a.prefix b.prefix (ap (λ (n : NetAddr). n.prefix) e)) refl
 
 pub before_trans : (a b c : NetAddr) → IsBefore a b → IsBefore b c → IsBefore a c
-before_trans a b c f g = elim f [
-  | inl x ↦ elim g [
-    | inl y ↦ inl (omega arith)
-    | inr (e, y) ↦ inl (omega arith)
-  ]
-  | inr (d, x) ↦ elim g [
-    | inl y ↦ inl (omega arith)
-    | inr (e, y) ↦ inr (omega arith, omega arith)
-  ]
-]
+before_trans a b c f g = grind (arith, common_steps)
 
 pub not_before_itself : (a b : NetAddr) → a ≡ b → IsBefore a b → ⊥
-not_before_itself a b e (inl lt) = omega (arith, lt, ap (λ (n : NetAddr). n.addr.0) e)
-not_before_itself a b e (inr (same, lt)) = omega (arith, lt, ap (λ (n : NetAddr). n.prefix) e)
+not_before_itself a b e h3 = grind (arith, common_steps)
 
 pub one_originator : (r : RouterSettings) (a b : Addr4) → IsOriginator r a → IsOriginator r b → a ≡ b
-one_originator r a b v w =
-    let at : slice_get v.0.addrs 0 ≡ Some b = subst (λ (f : Interface). slice_get f.addrs 0 ≡ Some b) (same_some w.1 v.1) w.2 in
-    same_some v.2 at
+one_originator r a b v w = grind (arith, common_steps, same_some)
 
 pub addr_itself : (a b : Addr4) → a ≡ b → addr_eq a b ≡ true
 addr_itself a b e = eq-eqb a.0 b.0 (ap (λ (x : Addr4). x.0) e)
 
 pub same_address : (a b : Addr4) → (a ≡ b) ⊎ (a ≡ b → ⊥)
-same_address a b = elim (cases_eq a.0 b.0) [
-  | inl e ↦ inl (ap (λ (n : ℕ). let r : Addr4 = record { 0 = n } in r) e)
-  | inr other ↦ inr (λ e. other (ap (λ (c : Addr4). c.0) e))
-]
+same_address a b = grind (arith, common_steps, cases_eq)
 
 -- the address is in the list, or it isn't
 pub contains_or_not : (xs : List Addr4) (a : Addr4) → Contains xs a ⊎ (Contains xs a → ⊥)

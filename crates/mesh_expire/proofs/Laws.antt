@@ -1,5 +1,5 @@
 -- What follows from the laws of a table.
-use Rattle.mesh_expire.proofs.Common.{◌≡◌, ℕ, zero, suc, ◌+◌, ◌-◌, ◌<◌, ◌≤◌, ◌++◌, inl, inr, take, drop, map, add-one, arith, Bool, true, false, cond, List, [], ◌∷◌, length, get_or, length-take, get_or-take, get_or-set_same, get_or-set_other, Option, Some, None, refl, sym, ap, subst, ◌∙◌, option_map, slice_get, slice_set, swap_remove, IsDistinct, AllByRecursion, IsEquivalence, keys_of, set_value, lookup-none, cases_order, IsDistinct-head, IsDistinct-tail, IsDistinct-IsPermutation, none_past_head, place_from_lookup, slice_get-map, slice_get_within, slice_get_read, slice_get-get_or, get_or_from_slice_get, Base, find, HasDistinctKeys, SetsOnly, changed_at}
+use Rattle.mesh_expire.proofs.Common.{common_steps, ◌≡◌, ℕ, zero, suc, ◌+◌, ◌-◌, ◌<◌, ◌≤◌, ◌++◌, inl, inr, take, drop, map, add-one, arith, Bool, true, false, cond, List, [], ◌∷◌, length, get_or, length-take, get_or-take, get_or-set_same, get_or-set_other, Option, Some, None, refl, sym, ap, subst, ◌∙◌, option_map, slice_get, slice_set, swap_remove, IsDistinct, AllByRecursion, IsEquivalence, keys_of, set_value, lookup-none, cases_order, IsDistinct-head, IsDistinct-tail, IsDistinct-IsPermutation, none_past_head, place_from_lookup, slice_get-map, slice_get_within, slice_get_read, slice_get-get_or, get_or_from_slice_get, Base, find, HasDistinctKeys, SetsOnly, changed_at}
 use Rattle.std.specs.List.Sorted.{IsPermutation}
 use Rattle.std.proofs.lemmas.List.Sorted.{IsPermutation-map, IsPermutation-swap_remove}
 use Rattle.indexmap.proofs.MapLemmas.{lookup_permutation}
@@ -11,8 +11,7 @@ distinct_none eq = tt
 
 -- nothing is there where nothing of it is lent
 pub found_none : {A B : Type 0} (f : A → B) (o : Option A) → None ≡ option_map f o → o ≡ None
-found_none f None h = refl
-found_none f (Some x) h = absurd cc
+found_none f o h = grind (arith, common_steps)
 
 -- what is lent is of what is there
 pub found_some : {A B : Type 0} (f : A → B) (o : Option A) (x : A) (y : B) → Some y ≡ option_map f o → o ≡ Some x → y ≡ f x
@@ -48,12 +47,10 @@ key_at : {K X : Type 0} (es : List (K × X)) (i : ℕ) (k : K) (x : X) → slice
 key_at {K} {X} es i k x at = slice_get-map (λ (e : K × X). e.0) es i ∙ ap (option_map (λ (e : K × X). e.0)) at
 
 cond_same : {A : Type 0} (b : Bool) (x : A) → x ≡ cond b x x
-cond_same true x = refl
-cond_same false x = refl
+cond_same b x = grind (arith, common_steps)
 
 some_cond : {A : Type 0} (b : Bool) (x y : A) → Some (cond b x y) ≡ cond b (Some x) (Some y)
-some_cond true x y = refl
-some_cond false x y = refl
+some_cond b x y = grind (arith, common_steps)
 
 -- what holds at each place holds of what is found
 pub walked : {K V : Type 0} {eq : K → K → Bool} (exact : (a b : K) → eq a b ≡ true → a ≡ b) (base : Base K V) (P : K × (V × ℕ) → Type 0)
@@ -102,19 +99,11 @@ module _ {K V : Type 0} {eq : K → K → Bool} (laws : IsEquivalence eq) where
   -- what stands at each key after a change
   pub find-changed_at : (key : K) (change : V × ℕ → V × ℕ) (q : K) (base : Base K V) → find eq (changed_at eq base key change) q ≡ cond (eq key q) (option_map change (find eq base q)) (find eq base q)
   find-changed_at key change q [] = cond_same (eq key q) None
-  find-changed_at key change q (e ∷ es) = by_head (eq q e.0) refl (find-changed_at key change q es) where
-    by_head : (b : Bool) → eq q e.0 ≡ b
-        → find eq (changed_at eq es key change) q ≡ cond (eq key q) (option_map change (find eq es q)) (find eq es q)
-        → find eq (changed_at eq (e ∷ es) key change) q ≡ cond (eq key q) (option_map change (find eq (e ∷ es) q)) (find eq (e ∷ es) q)
-    by_head true is others = rw (is, same_key laws key q e.0 is) (some_cond (eq key q) (change e.1) e.1)
-    by_head false is others = rw is others
+  find-changed_at key change q (e ∷ es) = grind (arith, common_steps, same_key, some_cond, (find-changed_at key change q es))
 
   -- a change of what stands there, and of nothing else
   pub sets-changed_at : (key : K) (change : V × ℕ → V × ℕ) (base : Base K V) (entry : V × ℕ) → find eq base key ≡ Some entry → SetsOnly eq base (changed_at eq base key change) key (Some (change entry))
-  sets-changed_at key change base entry found q = find-changed_at key change q base ∙ by_key (eq key q) refl where
-    by_key : (b : Bool) → eq key q ≡ b → cond b (option_map change (find eq base q)) (find eq base q) ≡ cond b (Some (change entry)) (find eq base q)
-    by_key false is = refl
-    by_key true is = ap (option_map change) (find_same key q is base ∙ found)
+  sets-changed_at key change base entry found q = grind (arith, common_steps, find-changed_at, find_same)
 
   -- a renewal that gives something back sets the entry of the key alone
   pub renewed : (key : K) (entry : V × ℕ) (before : V) (old new : Base K V) → Some before ≡ option_map (λ e. e.0) (find eq old key) → new ≡ changed_at eq old key (λ _. entry)
@@ -151,15 +140,7 @@ module _ {K V : Type 0} {eq : K → K → Bool} (laws : IsEquivalence eq) where
   -- a change as std's write of a new value
   pub changed_at-set_value : (key : K) (change : V × ℕ → V × ℕ) (base : Base K V) (entry : V × ℕ) → HasDistinctKeys eq base → find eq base key ≡ Some entry → changed_at eq base key change ≡ set_value (eq key) base (change entry)
   changed_at-set_value key change [] entry distinct found = refl
-  changed_at-set_value key change (e ∷ es) entry distinct found = by_head (eq key e.0) refl (changed_at-set_value key change es entry (IsDistinct-tail eq e.0 (keys_of es) distinct)) where
-    by_head : (b : Bool) → eq key e.0 ≡ b → (find eq es key ≡ Some entry → changed_at eq es key change ≡ set_value (eq key) es (change entry)) → changed_at eq (e ∷ es) key change ≡ set_value (eq key) (e ∷ es) (change entry)
-    by_head true is others =
-        let here : find eq (e ∷ es) key ≡ Some e.1 = rw is refl in
-        let same : e.1 ≡ entry = let both : Some e.1 ≡ Some entry = sym here ∙ found in cc in
-        rw (is, changed_at-absent eq key change es (absent_behind key e es distinct is), same) refl
-    by_head false is others =
-        let behind : find eq es key ≡ find eq (e ∷ es) key = rw is refl in
-        rw is (ap (λ (l : Base K V). e ∷ l) (others (behind ∙ found)))
+  changed_at-set_value key change (e ∷ es) entry distinct found = grind (arith, common_steps, IsDistinct-tail, changed_at-absent, absent_behind, (changed_at-set_value key change es entry (IsDistinct-tail eq e.0 (keys_of es) distinct)))
 
   -- the first key is another than one further on
   pub apart_before : (e : K × (V × ℕ)) (es : Base K V) (i : ℕ) (key : K) (entry : V × ℕ) → HasDistinctKeys eq (e ∷ es) → slice_get es i ≡ Some (key, entry) → eq key e.0 ≡ false
@@ -169,10 +150,7 @@ module _ {K V : Type 0} {eq : K → K → Bool} (laws : IsEquivalence eq) where
   pub changed_at-place : (change : V × ℕ → V × ℕ) (base : Base K V) (i : ℕ) (key : K) (entry : V × ℕ) → HasDistinctKeys eq base → slice_get base i ≡ Some (key, entry)
       → changed_at eq base key change ≡ slice_set base i (key, change entry)
   changed_at-place change [] i key entry distinct at = absurd cc
-  changed_at-place change (e ∷ es) zero key entry distinct at =
-      let is : e ≡ (key, entry) = cc in
-      let here : eq key e.0 ≡ true = rw is (laws.refl key) in
-      rw (here, changed_at-absent eq key change es (absent_behind key e es distinct here), is) refl
+  changed_at-place change (e ∷ es) zero key entry distinct at = grind (arith, common_steps, changed_at-absent, absent_behind)
   changed_at-place change (e ∷ es) (suc i) key entry distinct at =
       rw (apart_before e es i key entry distinct at, changed_at-place change es i key entry (IsDistinct-tail eq e.0 (keys_of es) distinct) at) refl
 

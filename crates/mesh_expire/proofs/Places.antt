@@ -1,7 +1,8 @@
 -- A base that is changed by the place of a key.
-use Rattle.mesh_expire.proofs.Common.{◌≡◌, ℕ, zero, suc, ◌+◌, ◌<◌, ◌≤◌, inl, inr, subst, Bool, true, false, cond, List, [], ◌∷◌, ◌++◌, length, drop, get_or, Option, Some, None, is_some, refl, sym, ap, ◌∙◌, arith, remove, insert, slice_get, slice_set, option_map, IsSome, nat_lt, cases_order, lt-ltb, IsDistinct, AllByRecursion, list_any, filter, IsEquivalence, lookup, remove_entry, keys_of, none_passes_from_lookup, lookup-insert, lookup-remove_entry, is_some-lookup, IsDistinct-push, IsDistinct-tail, lookup-filter-values, lookup_from_place, option_filter, map_push, take_all, drop_all, at_drop_more, slice_get_within, slice_get_read, get_or_from_slice_get, Base, find, HasDistinctKeys, SetsOnly, IsFresh, if_live, changed_at, TakesExpired}
+use Rattle.mesh_expire.proofs.Common.{common_steps, ◌≡◌, ℕ, zero, suc, ◌+◌, ◌<◌, ◌≤◌, inl, inr, subst, Bool, true, false, cond, List, [], ◌∷◌, ◌++◌, length, get_or, Option, Some, None, is_some, refl, sym, ap, ◌∙◌, arith, remove, insert, slice_get, slice_set, option_map, IsSome, nat_lt, cases_order, lt-ltb, IsDistinct, AllByRecursion, list_any, filter, IsEquivalence, lookup, remove_entry, keys_of, none_passes_from_lookup, lookup-insert, lookup-remove_entry, is_some-lookup, IsDistinct-push, IsDistinct-tail, lookup-filter-values, lookup_from_place, option_filter, slice_get_within, get_or_from_slice_get, Base, find, HasDistinctKeys, SetsOnly, IsFresh, if_live, changed_at, TakesExpired}
+use Rattle.std.proofs.lemmas.List.{map_push, take_all, drop_all}
 use Rattle.std.proofs.lemmas.List.Sums.{length-filter, count_by-le-length}
-use Rattle.mesh_expire.proofs.Laws.{find_same, walked, apart_before, changed_at-place, sets-changed_at, distinct-changed_at, length-changed_at}
+use Rattle.mesh_expire.proofs.Laws.{walked, apart_before, changed_at-place, sets-changed_at, distinct-changed_at, length-changed_at}
 
 -- what stands at the place of a key
 pub there : {K X : Type 0} (es : List (K × X)) (i : ℕ) (key : K) → option_map (λ (e : K × X). e.0) (slice_get es i) ≡ Some key → (x : X) × (slice_get es i ≡ Some (key, x))
@@ -13,23 +14,6 @@ there {K} {X} es i key h = by_case (slice_get es i) refl h where
 -- the place of a key is a place
 pub within : {K X : Type 0} (es : List (K × X)) (i : ℕ) (key : K) → option_map (λ (e : K × X). e.0) (slice_get es i) ≡ Some key → i < length es
 within es i key h = let t = there es i key h in slice_get_within es i (key, t.0) t.1
-
-module _ {K V : Type 0} (eq : K → K → Bool) (key : K) (es : Base K V) (i : ℕ) (e : K × (V × ℕ)) where
-  -- a look for a key from the front that has come to the entry `e`
-  at_entry : find eq es key ≡ find eq (drop i es) key → i < length es → e ≡ get_or es i e → find eq es key ≡ find eq (e ∷ drop (i + 1) es) key
-  at_entry so_far within is = so_far ∙ at_drop_more (λ (l : Base K V). find eq l key) es i e within ∙ ap (λ (x : K × (V × ℕ)). find eq (x ∷ drop (i + 1) es) key) (sym is)
-
-  -- it ends there
-  pub ends_at : find eq es key ≡ find eq (drop i es) key → i < length es → e ≡ get_or es i e → eq key e.0 ≡ true → find eq es key ≡ Some e.1
-  ends_at so_far within is same = at_entry so_far within is ∙ rw same refl
-
-  -- or it goes on
-  pub goes_on : find eq es key ≡ find eq (drop i es) key → i < length es → e ≡ get_or es i e → eq key e.0 ≡ false → find eq es key ≡ find eq (drop (i + 1) es) key
-  goes_on so_far within is other = at_entry so_far within is ∙ rw other refl
-
--- where an entry of the key stands, the key stands
-pub stands_at : {K X : Type 0} (xs es : List (K × X)) (i : ℕ) (e : K × X) (key : K) → xs ≡ es → i < length xs → e ≡ get_or xs i e → key ≡ e.0 → option_map (λ (y : K × X). y.0) (slice_get es i) ≡ Some key
-stands_at xs es i e key same within is of = rw (← same, slice_get_read xs (length xs) i e refl within is, of) refl
 
 all_removed : {K X : Type 0} (test : K → Bool) (P : K → Type 0) (es : List (K × X)) → AllByRecursion P (keys_of es) → AllByRecursion P (keys_of (remove_entry test es))
 all_removed test P [] h = tt
@@ -43,12 +27,8 @@ module _ {K V : Type 0} {eq : K → K → Bool} (laws : IsEquivalence eq) where
 
   removes : (es : Base K V) (i : ℕ) (key : K) (entry : V × ℕ) → HasDistinctKeys eq es → slice_get es i ≡ Some (key, entry) → remove es i ≡ remove_entry (eq key) es
   removes [] i key entry distinct at = absurd cc
-  removes (e ∷ es) zero key entry distinct at =
-      let is : e ≡ (key, entry) = cc in
-      let here : eq key e.0 ≡ true = rw is (laws.refl key) in
-      rw here refl
-  removes (e ∷ es) (suc i) key entry distinct at =
-      rw (apart_before laws e es i key entry distinct at) (ap (λ (l : Base K V). e ∷ l) (removes es i key entry (IsDistinct-tail eq e.0 (keys_of es) distinct) at))
+  removes (e ∷ es) zero key entry distinct at = grind (arith, common_steps)
+  removes (e ∷ es) (suc i) key entry distinct at = grind (arith, common_steps, apart_before, IsDistinct-tail, (removes es i key entry (IsDistinct-tail eq e.0 (keys_of es) distinct) at))
 
   -- the key of a place is taken out
   pub removed : (key : K) (es : Base K V) (i : ℕ) → option_map (λ (e : K × (V × ℕ)). e.0) (slice_get es i) ≡ Some key → HasDistinctKeys eq es
@@ -92,20 +72,12 @@ module _ {K V : Type 0} {eq : K → K → Bool} (laws : IsEquivalence eq) where
       let keys : keys_of (es ++ (key, entry) ∷ []) ≡ keys_of es ++ key ∷ [] = map_push (λ (e : K × (V × ℕ)). e.0) es (key, entry) in
       (rw keys (IsDistinct-push laws (keys_of es) key distinct free), λ q. rw (← whole) (lookup-insert laws key entry q es (length es) none))
 
-  -- a key that stands nowhere is taken out by no change
-  pub absent : (key : K) (es : Base K V) → find eq es key ≡ None → SetsOnly eq es es key None
-  absent key es h q = by_key (eq key q) refl where
-    by_key : (b : Bool) → eq key q ≡ b → find eq es q ≡ cond b None (find eq es q)
-    by_key false is = refl
-    by_key true is = find_same laws key q is es ∙ h
-
 -- whether an entry still stands at a moment
 abbrev pub is_live : {V : Type 0} → ℕ → V × ℕ → Bool
 is_live now e = nat_lt now e.1
 
 if_live-filter : {V : Type 0} (now : ℕ) (o : Option (V × ℕ)) → option_filter (is_live now) o ≡ if_live now o
-if_live-filter now None = refl
-if_live-filter now (Some e) = refl
+if_live-filter now o = grind (arith, common_steps)
 
 -- after the expired entries are gone
 pub lives : {K V : Type 0} {eq : K → K → Bool} (laws : IsEquivalence eq) (now : ℕ) (q : K) (es : Base K V) → HasDistinctKeys eq es → find eq (filter (λ (e : K × (V × ℕ)). is_live now e.1) es) q ≡ if_live now (find eq es q)
@@ -114,14 +86,7 @@ lives {K} {V} {eq} laws now q es distinct = lookup-filter-values laws (is_live n
 -- where none goes, the list is as it was
 pub none_filtered : {X : Type 0} (p : X → Bool) (xs : List X) → length xs ≤ length (filter p xs) → filter p xs ≡ xs
 none_filtered p [] h = refl
-none_filtered {X} p (x ∷ xs) h = by_head (p x) refl (none_filtered p xs) where
-  by_head : (b : Bool) → p x ≡ b → (length xs ≤ length (filter p xs) → filter p xs ≡ xs) → filter p (x ∷ xs) ≡ x ∷ xs
-  by_head true is others =
-      let stays : filter p (x ∷ xs) ≡ x ∷ filter p xs = rw is refl in
-      stays ∙ ap (λ (l : List X). x ∷ l) (others (omega (arith, h, ap length stays)))
-  by_head false is others =
-      let goes : filter p (x ∷ xs) ≡ filter p xs = rw is refl in
-      absurd (omega (arith, h, ap length goes, length-filter p xs, count_by-le-length p xs))
+none_filtered {X} p (x ∷ xs) h = grind (arith, common_steps, length-filter, count_by-le-length, (none_filtered p xs))
 
 -- what holds of the moments up to a place holds with one more
 pub more_live : {E : Type 0} (moment : E → ℕ) (now : ℕ) (xs : List E) (i : ℕ) (x : E) → slice_get xs i ≡ Some x → now < moment x

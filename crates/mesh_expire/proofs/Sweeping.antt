@@ -1,5 +1,5 @@
 -- Entries that stand up to a moment, and a look over their places from the last on.
-use Rattle.mesh_expire.proofs.Common.{◌≡◌, ℕ, ◌+◌, ◌<◌, ◌≤◌, arith, Bool, true, false, cond, length, Option, Some, None, refl, sym, ap, subst, ◌∙◌, inl, inr, slice_get, swap_remove, if◌then◌else◌, is_some, IfSome, IsEquivalence, lt-ltb, cases_order, lookup_from_place, slice_get_within, Base, HasDistinctKeys, find, SetsOnly, IsFresh, if_live, Expires, none_is_some, changed_at, TakesExpired}
+use Rattle.mesh_expire.proofs.Common.{common_steps, ◌≡◌, ℕ, ◌+◌, ◌<◌, ◌≤◌, arith, Bool, true, false, cond, length, Option, Some, None, refl, sym, ap, subst, ◌∙◌, inl, inr, slice_get, swap_remove, if◌then◌else◌, is_some, IfSome, IsEquivalence, cases_order, lookup_from_place, Base, HasDistinctKeys, find, SetsOnly, if_live, Expires, none_is_some, changed_at, TakesExpired}
 use Rattle.mesh_expire.specs.Swept.{AreNotBefore}
 use Rattle.mesh_expire.proofs.Gone.{live_without, all_expired}
 use Rattle.mesh_expire.proofs.Laws.{walked, swapped_at, sets-changed_at}
@@ -10,10 +10,6 @@ held : {A : Type 0} (P : A → Type 0) (o : Option A) (x : A) → o ≡ Some x �
 held {A} P o x is h = subst (λ (r : Option A). IfSome r P) is h
 
 module _ {K V : Type 0} (eq : K → K → Bool) where
-  -- no moment has come yet
-  pub fresh_before : (soonest now : ℕ) (base : Base K V) → AreNotBefore eq soonest base → now < soonest → IsFresh eq now base
-  fresh_before soonest now base before early q value until found = lt-ltb now until (omega (arith, before q (value, until) found, early))
-
   -- what stands at a key changes
   pub not_before_changed : (laws : IsEquivalence eq) (soonest : ℕ) (base base' : Base K V) (key : K) (change : V × ℕ → V × ℕ) (was : V × ℕ) → AreNotBefore eq soonest base → find eq base key ≡ Some was
       → base' ≡ changed_at eq base key change → soonest ≤ (change was).1 → AreNotBefore eq soonest base'
@@ -31,10 +27,7 @@ module _ {K V : Type 0} (eq : K → K → Bool) where
   -- the same, of the entry that a search found
   pub taken_found : (laws : IsEquivalence eq) (now : ℕ) (es es' : Base K V) (place : ℕ) (x : K × (V × ℕ)) → Some x ≡ slice_get es place → (e : K × (V × ℕ)) × (slice_get es place ≡ Some e) × (e.1.1 ≤ now) → HasDistinctKeys eq es
       → SetsOnly eq es es' x.0 None → TakesExpired eq now x.0 x.1.0 es es'
-  taken_found laws now es es' place x at (e, there, late) distinct gone =
-      let both : Some e ≡ Some x = sym there ∙ sym at in
-      let is : e ≡ x = cc in
-      taken_at laws now es es' place x (sym at) (subst (λ (y : K × (V × ℕ)). y.1.1 ≤ now) is late) distinct gone
+  taken_found laws now es es' place x at h7 distinct gone = grind (arith, common_steps, taken_at)
 
   -- the old base has come to `es` by a look over the places from the last on down to `place`: the expired entries there are gone, and no other is before `soonest`
   pub record IsSwept (now soonest : ℕ) (old es : Base K V) (place : ℕ) : Type 0 where
@@ -43,15 +36,6 @@ module _ {K V : Type 0} (eq : K → K → Bool) where
     pub few : length es ≤ length old
     pub all : length es ≡ length old → es ≡ old
     pub stands : (i : ℕ) (e : K × (V × ℕ)) → place ≤ i → slice_get es i ≡ Some e → (now < e.1.1) × (soonest ≤ e.1.1)
-
-  pub swept_none : (now soonest : ℕ) (es : Base K V) (place : ℕ) → place ≡ length es → HasDistinctKeys eq es → IsSwept now soonest es es place
-  swept_none now soonest es place end distinct = record {
-    distinct = distinct;
-    live = λ _. refl;
-    few = omega arith;
-    all = λ _. refl;
-    stands = λ i e from at. absurd (omega (arith, slice_get_within es i e at, from, end));
-  }
 
   pub swept_all : (exact : (a b : K) → eq a b ≡ true → a ≡ b) (now soonest : ℕ) (old es : Base K V) (place : ℕ) → IsSwept now soonest old es place → place ≤ 0 → Expires eq now old es × AreNotBefore eq soonest es
   swept_all exact now soonest old es place swept front = (

@@ -1,24 +1,19 @@
 -- Text that is put and written in pieces.
-use Rattle.mesh_io.proofs.Common.{◌≡◌, ℕ, ◌+◌, Bool, true, false, ltb, List, [], ◌++◌, length, take, Option, Some, None, refl, sym, ap, ◌∙◌, arith, append_assoc, Appends, Keeps, ltb-true, ltb-false, take-append-add, take-append-le, take_all, take_at, append-nil}
+use Rattle.mesh_io.proofs.Common.{common_steps, ◌≡◌, ℕ, ◌+◌, Bool, true, false, ltb, List, [], ◌++◌, length, take, Option, refl, ap, ◌∙◌, arith, append_assoc, Appends, Keeps, ltb-true, ltb-false, take-append-add, take-append-le, take_all, take_at}
 use Rattle.mesh_io.proofs.Steps.{appends_more}
 
 -- a piece stands at the end now
 pub record Adds (old piece new : List ℕ) : Type 0 where
   pub is : new ≡ old ++ piece
 
-pub adds : (old piece new : List ℕ) → new ≡ old ++ piece → Adds old piece new
-adds old piece new e = record { is = e }
-
 pub join : {old first between second new : List ℕ} → Adds old first between → Adds between second new → Adds old (first ++ second) new
 join {old} {first} {between} {second} {new} h k = record { is = k.is ∙ ap (λ (l : List ℕ). l ++ second) h.is ∙ append_assoc old first second }
 
 pub keeps_same : (o : Option (List ℕ)) → Keeps o o
-keeps_same None = tt
-keeps_same (Some x) = refl
+keeps_same o = grind (arith, common_steps)
 
 pub appends_none : (o : Option (List ℕ)) → Appends o o []
-appends_none None = tt
-appends_none (Some x) = sym (append-nil x)
+appends_none o = grind (arith, common_steps)
 
 -- a front of `x` is a front of `x ++ y`
 pub front_first : (a b : Option (List ℕ)) (x y : List ℕ) → (n : ℕ) × Appends a b (take n x) → (n : ℕ) × Appends a b (take n (x ++ y))

@@ -1,5 +1,5 @@
 -- Output in pieces: one piece, and what is put behind pieces that were put before.
-use Rattle.mesh_io.proofs.Common.{◌≡◌, ℕ, ◌≤◌, List, [], ◌∷◌, ◌++◌, take, Option, Some, None, Result, Ok, Err, refl, sym, subst, append_assoc, IsErrAnd, Appends, append-nil, concat-append, Rose}
+use Rattle.mesh_io.proofs.Common.{arith, common_steps, ◌≡◌, ℕ, ◌≤◌, List, [], ◌∷◌, ◌++◌, take, Option, Some, None, Result, Err, refl, sym, subst, append_assoc, IsErrAnd, Appends, append-nil, concat-append, Rose}
 use Rattle.std.specs.List.{concat}
 use Rattle.mesh_io.specs.Pieces.{MakesOne, PutsAll, PutsFront, PutsPieces}
 use Rattle.mesh_io.specs.declared.stop.Stop.{Stop}
@@ -40,16 +40,13 @@ stops_behind Makes Makes' to before a b c f g h stop.Write none put le (rose, pi
   n,
   rw (concat-append, append_assoc) (appends_more a b c (concat before) (concat pieces ++ take n piece) put stands),
 )
-stops_behind {B = B} Makes Makes' to before a b c f g h stop.Memory none put le (pieces, made, stands) joined =
-    (before ++ pieces, subst (λ (y : Option B). Makes' (before ++ pieces) y) none (joined pieces None made), pieces_more a b c before pieces put stands)
+stops_behind {B = B} Makes Makes' to before a b c f g h stop.Memory none put le (pieces, made, stands) joined = grind (arith, common_steps, pieces_more)
 
 -- a part that stopped is a part of the whole
 pub stops_in : {A B : Type 0} (Makes : List (List ℕ) → Option A → Type 0) (Makes' : List (List ℕ) → Option B → Type 0) (to : Option A → Option B) (a b : Option (List ℕ)) (f g : ℕ) (e : Stop)
     → to None ≡ None → PutsPieces Makes a b f g (Err e) → ((pieces : List (List ℕ)) (x : Option A) → Makes pieces x → Makes' pieces (to x)) → PutsPieces Makes' a b f g (Err e)
-stops_in Makes Makes' to a b f g stop.Write none (rose, pieces, piece, x, made, n, stands) part = (rose, pieces, piece, to x, part (pieces ++ piece ∷ []) x made, n, stands)
-stops_in {B = B} Makes Makes' to a b f g stop.Memory none (pieces, made, stands) part = (pieces, subst (λ (y : Option B). Makes' pieces y) none (part pieces None made), stands)
+stops_in Makes Makes' to a b f g e none h9 part = grind (arith, common_steps)
 
 -- an answer of this fault
 pub answers_stop : {A : Type 0} (Makes : List (List ℕ) → Option A → Type 0) (a b : Option (List ℕ)) (f g : ℕ) (e : Stop) (r : Result A Stop) → IsErrAnd r (λ x. x ≡ e) → PutsPieces Makes a b f g (Err e) → PutsPieces Makes a b f g r
-answers_stop Makes a b f g e (Ok x) is h = absurd is
-answers_stop {A} Makes a b f g e (Err x) is h = subst (λ (s : Stop). PutsPieces {A = A} Makes a b f g (Err s)) (sym is) h
+answers_stop Makes a b f g e r is h = grind (arith, common_steps)

@@ -1,9 +1,8 @@
 -- What is kept in stores that grow at their end.
-use Rattle.mesh_io.proofs.Common.{◌≡◌, ℕ, ◌+◌, ◌^◌, ◌<◌, ◌≤◌, min, Bool, true, false, ltb, cond, List, [], ◌∷◌, ◌++◌, length, map, take, drop, Option, Some, None, refl, sym, ap, ◌∙◌, arith, ltb-true, ltb-false, take-append-le, drop-append-le, take_all, take_at, length-take, length-drop, length-append, drop-append_seam, Endpoint, Attached_to, Handed, lying, report_of, told_more, Lies, AllLie, IsRoomy, LogState}
+use Rattle.mesh_io.proofs.Common.{common_steps, ◌≡◌, ℕ, ◌+◌, ◌^◌, ◌<◌, ◌≤◌, min, Bool, true, false, ltb, cond, List, [], ◌∷◌, ◌++◌, length, map, take, drop, Option, Some, None, refl, sym, ap, ◌∙◌, arith, ltb-true, ltb-false, take_all, take_at, length-take, drop-append_seam, Endpoint, lying, report_of, told_more, Lies, AllLie, IsRoomy, LogState}
 use Rattle.mesh_io.specs.Airs.{Report}
 use Rattle.mesh_io.specs.declared.air_room.AirRoom.{AirRoom}
 use Rattle.mesh_io.specs.declared.air_room.LoggedCall.{LoggedCall}
-use Rattle.mesh_io.specs.declared.air_room.LoggedCall.TheVariants as entry
 use Rattle.mesh_io.specs.declared.air_room.MemEar.{MemEar}
 
 -- of a longer frame the first 65,507 octets stand at the buffer's start
@@ -27,8 +26,7 @@ pub grew_nothing : {A : Type 0} (s : List A) → s ≡ s ++ [] → Grew s s
 grew_nothing s e = record { more = []; is = e }
 
 lying_on : {A : Type 0} (old new : List A) (from count : ℕ) → Grew old new → from + count ≤ length old → lying new from count ≡ lying old from count
-lying_on old new from count g within = rw (g.is, drop-append-le from old g.more (omega arith))
-    (take-append-le count (drop from old) g.more (omega (arith, length-drop from old)))
+lying_on old new from count g within = grind (arith, common_steps)
 
 lying_last : {A : Type 0} (old more : List A) → lying (old ++ more) (length old) (length more) ≡ more
 lying_last old more = rw (drop-append_seam old more) (take_all (length more) more (omega arith))
@@ -39,10 +37,7 @@ lying_at old new more from e f = rw (e, f) (lying_last old more)
 -- an entry tells the same
 tells_on : (scripts : List (List MemEar)) (peers peers' : List Endpoint) (octets octets' : List ℕ) (e : LoggedCall) → Grew peers peers' → Grew octets octets' → Lies (length peers) (length octets) e
     → report_of scripts peers' octets' e ≡ report_of scripts peers octets e
-tells_on scripts peers peers' octets octets' (entry.Attached local from count) g h lies = ap (λ (l : List Endpoint). Attached_to local l) (lying_on peers peers' from count g lies)
-tells_on scripts peers peers' octets octets' (entry.Heard iface place) g h lies = refl
-tells_on scripts peers peers' octets octets' (entry.Fault iface) g h lies = refl
-tells_on scripts peers peers' octets octets' (entry.Handed iface from count answer) g h lies = ap (λ (l : List ℕ). Handed iface l answer) (lying_on octets octets' from count h lies)
+tells_on scripts peers peers' octets octets' e g h lies = grind (arith, common_steps, lying_on)
 
 all_tell_on : (scripts : List (List MemEar)) (peers peers' : List Endpoint) (octets octets' : List ℕ) (es : List LoggedCall) (e : LoggedCall) → Grew peers peers' → Grew octets octets' → AllLie (length peers) (length octets) es
     → map (report_of scripts peers' octets') (es ++ e ∷ []) ≡ map (report_of scripts peers octets) es ++ report_of scripts peers' octets' e ∷ []
@@ -60,10 +55,7 @@ told_on true scripts peers peers' octets octets' es es' e r put g h lie is =
 
 -- all lies in the stores still
 lies_on : (p p' o o' : ℕ) (e : LoggedCall) → p ≤ p' → o ≤ o' → Lies p o e → Lies p' o' e
-lies_on p p' o o' (entry.Attached local from count) g h lies = omega (arith, g, lies)
-lies_on p p' o o' (entry.Heard iface place) g h lies = tt
-lies_on p p' o o' (entry.Fault iface) g h lies = tt
-lies_on p p' o o' (entry.Handed iface from count answer) g h lies = omega (arith, h, lies)
+lies_on p p' o o' e g h lies = grind (arith, common_steps)
 
 pub all_lie_on : (p p' o o' : ℕ) (es : List LoggedCall) (e : LoggedCall) → p ≤ p' → o ≤ o' → Lies p' o' e → AllLie p o es → AllLie p' o' (es ++ e ∷ [])
 all_lie_on p p' o o' [] e g h last lie = (last, tt)
@@ -80,10 +72,4 @@ pub roomy_on : (es es' : List LoggedCall) (e : LoggedCall) (p p' o o' capacity c
     → IsRoomy es p o capacity peer_capacity octet_capacity attached left → es' ≡ es ++ e ∷ [] → capacity ≤ capacity' → p ≤ p' → o ≤ o' → Lies p' o' e
     → left'.attaches + left'.ears + left'.frames + 1 ≤ left.attaches + left.ears + left.frames → left'.peers + p' ≤ peer_capacity' → left'.octets + o' ≤ octet_capacity' → attached' + left'.attaches < 2 ^ 64
     → IsRoomy es' p' o' capacity' peer_capacity' octet_capacity' attached' left'
-roomy_on es es' e p p' o o' capacity capacity' peer_capacity peer_capacity' octet_capacity octet_capacity' attached attached' left left' h put grown more_peers more_octets lies less peers_fit octets_fit attached_fit = record {
-  lie = rw put (all_lie_on p p' o o' es e more_peers more_octets lies h.lie);
-  entries_fit = omega (arith, h.entries_fit, grown, less, ap length put, length-append es (e ∷ []));
-  peers_fit = peers_fit;
-  octets_fit = octets_fit;
-  attached_fit = attached_fit;
-}
+roomy_on es es' e p p' o o' capacity capacity' peer_capacity peer_capacity' octet_capacity octet_capacity' attached attached' left left' h put grown more_peers more_octets lies less peers_fit octets_fit attached_fit = grind (arith, common_steps, all_lie_on)

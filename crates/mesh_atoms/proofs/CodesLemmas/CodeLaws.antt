@@ -1,7 +1,6 @@
 -- Greater codes stand for greater times and costs, and rounding up gives the least.
-use Rattle.mesh_atoms.proofs.Common.{◌≡◌, ℕ, zero, suc, ◌+◌, ◌*◌, ◌/◌, ◌%◌, ◌^◌, ◌<◌, ◌≤◌, ◌⊎◌, inl, inr, min, List, ◌∷◌, length, get_or, drop, refl, sym, ap, subst, ◌∙◌, arith, drop-cons, pow-succ', mul-le-mul_left, mul-le-mul_right, mul-lt-mul_of_pos_right, lt_of_mul-lt-mul_right, le-mul_of_pos_right, pow_pos, cases_order, cases_lt, lt-ltb, ne_eqb, Metric, cost_of, metric_value, time_value, IsSentCode, time_at_distance}
+use Rattle.mesh_atoms.proofs.Common.{common_steps, ◌≡◌, ℕ, suc, ◌+◌, ◌*◌, ◌/◌, ◌%◌, ◌^◌, ◌<◌, ◌≤◌, ◌⊎◌, inl, inr, min, List, ◌∷◌, length, get_or, drop, refl, ap, subst, arith, drop-cons, pow-succ', mul-le-mul_left, mul-le-mul_right, mul-lt-mul_of_pos_right, le-mul_of_pos_right, pow_pos, ne_eqb, Metric, cost_of, metric_value, time_value, IsSentCode, time_at_distance, div_ceil_times}
 use Rattle.std.proofs.Math.Pow.{pow_mono}
-use Rattle.std.proofs.lemmas.Grind.{div_ceil_times}
 
 -- ---- mantissas and exponents
 
@@ -26,33 +25,16 @@ scaled_less low top m m' e e' narrow le ge (inr both) =
 
 -- n over the power, rounded up, is a mantissa that reaches n
 pub ceil_reaches : (n p q : ℕ) → 0 < p → n / p + min 1 (n % p) ≤ q → n ≤ q * p
-ceil_reaches n p q pos le =
-    let times = div_ceil_times n p pos in
-    let up : (n / p + min 1 (n % p)) * p ≤ q * p = mul-le-mul_right p le in
-    omega (arith, times.0)
+ceil_reaches n p q pos le = grind (arith, common_steps, div_ceil_times)
 
 -- and none below it does
 pub ceil_least : (n m p : ℕ) → 0 < p → n ≤ m * p → n / p + min 1 (n % p) ≤ m
-ceil_least n m p pos reached =
-    let times = div_ceil_times n p pos in
-    let less : (n / p + min 1 (n % p)) * p < (m + 1) * p = omega (arith, times.1) in
-    let lt : n / p + min 1 (n % p) < m + 1 = lt_of_mul-lt-mul_right p less in
-    omega arith
+ceil_least n m p pos reached = grind (arith, common_steps, div_ceil_times)
 
 -- no exponent and mantissa before these reach n
 pub rounded_least : (n low top e q e' m' : ℕ) → ((k : ℕ) → k < e → top * 2 ^ k < n) → (q ≤ low) ⊎ (q ≤ n / 2 ^ e + min 1 (n % 2 ^ e)) → low ≤ m' → m' ≤ top → n ≤ m' * 2 ^ e' →
     (e < e') ⊎ ((e ≡ e') × (q ≤ m'))
-rounded_least n low top e q e' m' fewer is ge le reached = elim (cases_order e e') [
-  | inl same ↦
-      let here : n ≤ m' * 2 ^ e = subst (λ (k : ℕ). n ≤ m' * 2 ^ k) (sym same) reached in
-      let least : n / 2 ^ e + min 1 (n % 2 ^ e) ≤ m' = ceil_least n m' (2 ^ e) (pow_pos e) here in
-      inr (same, elim is [ inl a ↦ omega arith | inr b ↦ omega arith ])
-  | inr (inl lt) ↦ inl lt
-  | inr (inr gt) ↦
-      let under : top * 2 ^ e' < n = fewer e' gt in
-      let all : m' * 2 ^ e' ≤ top * 2 ^ e' = mul-le-mul_right (2 ^ e') le in
-      absurd (omega arith)
-]
+rounded_least n low top e q e' m' fewer is ge le reached = grind (arith, common_steps, ceil_least)
 
 -- ---- metrics
 
@@ -71,25 +53,14 @@ metric_above_zero metric = cost_above_zero metric.code
 
 -- a greater code stands for a greater cost
 pub cost-less : (a b : ℕ) → a < b → cost_of a < cost_of b
-cost-less a b lt =
-    let way : (a / 256 < b / 256) ⊎ ((a / 256 ≡ b / 256) × (257 + a % 256 < 257 + b % 256)) =
-    elim (cases_lt (a / 256) (b / 256)) [ inl l ↦ inl l | inr g ↦ inr (omega arith, omega arith) ] in
-    let less = scaled_less 257 512 (257 + a % 256) (257 + b % 256) (a / 256) (b / 256) (omega arith) (omega arith) (omega arith) way in
-    omega (arith, less, scaled_cost a, scaled_cost b)
+cost-less a b lt = grind (arith, common_steps, scaled_less, scaled_cost)
 
 pub cost-le : (a b : ℕ) → a ≤ b → cost_of a ≤ cost_of b
-cost-le a b le = elim (cases_lt a b) [
-  | inl lt ↦ let less : cost_of a < cost_of b = cost-less a b lt in omega (arith, less)
-  | inr ge ↦ let same : a ≡ b = omega arith in subst (λ (k : ℕ). cost_of a ≤ cost_of k) same (omega arith)
-]
+cost-le a b le = grind (arith, common_steps, cost-less)
 
 -- the cost tells the code
 pub cost-injective : (a b : ℕ) → cost_of a ≡ cost_of b → a ≡ b
-cost-injective a b e = elim (cases_order a b) [
-  | inl same ↦ same
-  | inr (inl lt) ↦ absurd (omega (arith, cost-less a b lt, e))
-  | inr (inr gt) ↦ absurd (omega (arith, cost-less b a gt, e))
-]
+cost-injective a b e = grind (arith, common_steps, cost-less)
 
 -- ---- times
 
@@ -104,26 +75,10 @@ time_scaled code = rw (ne_eqb (suc code) 0 (omega arith)) refl
 
 -- a greater code stands for a longer time
 pub time-less : (a b : ℕ) → a < b → time_value a < time_value b
-time-less a zero lt = absurd (omega arith)
-time-less zero (suc b) lt = omega (arith, scaled_time (suc b), time_scaled b)
-time-less (suc a) (suc b) lt =
-    let way : (suc a / 8 < suc b / 8) ⊎ ((suc a / 8 ≡ suc b / 8) × (8 + suc a % 8 < 8 + suc b % 8)) =
-    elim (cases_lt (suc a / 8) (suc b / 8)) [ inl l ↦ inl l | inr g ↦ inr (omega arith, omega arith) ] in
-    rw (time_scaled a, time_scaled b) (scaled_less 8 15 (8 + suc a % 8) (8 + suc b % 8) (suc a / 8) (suc b / 8) (omega arith) (omega arith) (omega arith) way)
+time-less a b lt = grind (arith, common_steps, scaled_time, time_scaled, scaled_less)
 
 pub time-le : (a b : ℕ) → a ≤ b → time_value a ≤ time_value b
-time-le a b le = elim (cases_lt a b) [
-  | inl lt ↦ let less : time_value a < time_value b = time-less a b lt in omega (arith, less)
-  | inr ge ↦ let same : a ≡ b = omega arith in subst (λ (k : ℕ). time_value a ≤ time_value k) same (omega arith)
-]
-
--- the time tells the code
-pub time-injective : (a b : ℕ) → time_value a ≡ time_value b → a ≡ b
-time-injective a b e = elim (cases_order a b) [
-  | inl same ↦ same
-  | inr (inl lt) ↦ absurd (omega (arith, time-less a b lt, e))
-  | inr (inr gt) ↦ absurd (omega (arith, time-less b a gt, e))
-]
+time-le a b le = grind (arith, common_steps, time-less)
 
 -- 254 is the greatest code that is sent
 pub sent_most : (code : ℕ) → IsSentCode code → time_value code ≤ 14 * 2 ^ 31
@@ -133,25 +88,14 @@ sent_most code sent = time-le code 254 sent.1
 
 -- the two octets that stand at a place, and the rest
 two_there : (s : List ℕ) (at : ℕ) → at + 1 < length s → drop at s ≡ get_or s at 0 ∷ get_or s (at + 1) 0 ∷ drop (at + 2) s
-two_there s at lt =
-    let one : suc at ≡ at + 1 = omega arith in
-    let two : suc (at + 1) ≡ at + 2 = omega arith in
-    let first : drop at s ≡ get_or s at 0 ∷ drop (at + 1) s = subst (λ (n : ℕ). drop at s ≡ get_or s at 0 ∷ drop n s) one (drop-cons s at 0 (omega arith)) in
-    let second : drop (at + 1) s ≡ get_or s (at + 1) 0 ∷ drop (at + 2) s = subst (λ (n : ℕ). drop (at + 1) s ≡ get_or s (at + 1) 0 ∷ drop n s) two (drop-cons s (at + 1) 0 lt) in
-    first ∙ ap (λ (l : List ℕ). get_or s at 0 ∷ l) second
+two_there s at lt = grind (arith, common_steps, drop-cons)
 
 -- where a pair does not reach, the time is that of the rest
 pub time_further : (distance : ℕ) (s : List ℕ) (at : ℕ) → at + 1 < length s → get_or s (at + 1) 0 < distance → time_at_distance distance (drop at s) ≡ time_at_distance distance (drop (at + 2) s)
-time_further distance s at lt short =
-    rw (two_there s at lt, lt-ltb (get_or s (at + 1) 0) distance short) refl
+time_further distance s at lt short = grind (arith, common_steps, two_there)
 
 -- ---- what is rounded up stays what it was
 
 -- the least code for the time of a code that is sent is that code
 pub time_again : (code least : ℕ) → IsSentCode code → time_value code ≤ time_value least → ((other : ℕ) → IsSentCode other → time_value code ≤ time_value other → least ≤ other) → least ≡ code
-time_again code least sent enough low =
-    let le : least ≤ code = low code sent (omega arith) in
-    elim (cases_lt least code) [
-      | inl lt ↦ absurd (omega (arith, time-less least code lt))
-      | inr ge ↦ omega arith
-    ]
+time_again code least sent enough low = grind (arith, common_steps, time-less)

@@ -1,34 +1,9 @@
 -- The moments of a table, in order, and at each the keys of the entries that end at it.
-use Rattle.mesh_expire.proofs.Common.{lt-ltb, le-ltb, eqb-true, ◌≡◌, ℕ, zero, suc, ◌+◌, ◌-◌, ◌<◌, ◌≤◌, arith, Bool, true, false, cond, ◌&&◌, List, [], ◌∷◌, ◌++◌, length, drop, take, Option, Some, None, Result, Ok, Err, refl, sym, ap, subst, ◌∙◌, nat_eq, if◌then◌else◌, is_some, IsSome, OnErr, OnOk, OnSome, option_map, slice_get, unwrap_or, nat_cmp, IsEquivalence, unsigned_ties, nat_eq_equiv, BTreeMap, get, is_at, set_value, lookup_from_place, Base, HasDistinctKeys, find, SetsOnly, Expires, IsFresh, if_live, once_if, times_in, times_at, PutsAt, TakesAt, is_moment, until_of, AreMomentsOf, SetsMoment, changed_at, TakesExpired, none_is_some}
+use Rattle.mesh_expire.proofs.Common.{common_steps, lt-ltb, le-ltb, eqb-true, ◌≡◌, ℕ, zero, suc, ◌+◌, ◌-◌, ◌<◌, ◌≤◌, arith, Bool, true, false, cond, ◌&&◌, List, [], ◌∷◌, ◌++◌, length, drop, take, Option, Some, None, refl, sym, ap, subst, ◌∙◌, nat_eq, if◌then◌else◌, is_some, option_map, slice_get, unwrap_or, nat_cmp, IsEquivalence, nat_eq_equiv, BTreeMap, get, is_at, set_value, lookup_from_place, Base, HasDistinctKeys, find, SetsOnly, Expires, IsFresh, if_live, once_if, times_in, times_at, PutsAt, TakesAt, is_moment, until_of, AreMomentsOf, SetsMoment, changed_at, TakesExpired, none_is_some}
 use Rattle.mesh_expire.proofs.Laws.{find_same, find-changed_at, changed_at-set_value}
 
--- one pair comes in, where its key had none
-comes : (a e : Bool) (x : ℕ) → x ≡ cond e 0 x → x + once_if (a && e) ≡ cond e (once_if a) x
-comes true true x h = omega (arith, h)
-comes false true x h = omega (arith, h)
-comes true false x h = omega arith
-comes false false x h = omega arith
-
--- one pair comes in and another goes
-moves : (a b e : Bool) (x : ℕ) → (a ≡ true → b ≡ false) → x ≡ cond e (once_if b) x → (x + once_if (a && e)) - once_if (b && e) ≡ cond e (once_if a) x
-moves true true true x f h = absurd (let no : true ≡ false = f refl in cc)
-moves true false true x f h = omega (arith, h)
-moves false true true x f h = omega (arith, h)
-moves false false true x f h = omega (arith, h)
-moves true true false x f h = omega arith
-moves true false false x f h = omega arith
-moves false true false x f h = omega arith
-moves false false false x f h = omega arith
-
 goes : (b e : Bool) (x : ℕ) → x ≡ cond e (once_if b) x → x - once_if (b && e) ≡ cond e 0 x
-goes true true x h = omega (arith, h)
-goes false true x h = omega (arith, h)
-goes true false x h = omega arith
-goes false false x h = omega arith
-
--- two numbers are not both equal to a third where they differ
-not_both : (until before moment : ℕ) → nat_eq before until ≡ false → nat_eq until moment ≡ true → nat_eq before moment ≡ false
-not_both until before moment apart h = grind (arith, apart, h)
+goes b e x h = grind (arith, common_steps)
 
 -- what has a moment is an entry
 found_moment : {V : Type 0} (entry : Option (V × ℕ)) (moment : ℕ) → 0 < once_if (is_moment (until_of entry) moment) → (value : V) × (entry ≡ Some (value, moment))
@@ -43,16 +18,6 @@ same_until {V} x y h = let same : x ≡ y = cc in ap (λ (z : V × ℕ). z.1) sa
 
 gone : {V : Type 0} (now moment : ℕ) (value : V) → moment ≤ now → None ≡ if_live now (Some (value, moment))
 gone now moment value h = rw (le-ltb now moment h) refl
-
--- what holds where there is something
-pub on_some : {A P : Type 0} (o : Option A) → IsSome o → OnSome o P → P
-on_some None some h = absurd cc
-on_some (Some x) some h = h
-
--- of two settings of one place the later holds
-cond_twice : {A : Type 0} (b : Bool) (x y z : A) → cond b x (cond b y z) ≡ cond b x z
-cond_twice true x y z = refl
-cond_twice false x y z = refl
 
 module _ {K : Type 0} (eq : K → K → Bool) where
   -- a key behind a list
@@ -73,9 +38,7 @@ module _ {K : Type 0} (eq : K → K → Bool) where
 
   -- the key of a place goes, and those before it come behind
   pub times_turned : (keys : List K) (i : ℕ) (key q : K) → slice_get keys i ≡ Some key → times_in eq (drop (i + 1) keys ++ take i keys) q + once_if (eq key q) ≡ times_in eq keys q
-  times_turned keys i key q at =
-      let next : i + 1 ≡ suc i = omega arith in
-      rw next (omega (arith, times_append (drop (suc i) keys) (take i keys) q, times_split keys i key q at))
+  times_turned keys i key q at = grind (arith, common_steps, times_append, times_split)
 
   -- the first of the keys stands there
   pub first_stands : (laws : IsEquivalence eq) (keys : List K) (key : K) → slice_get keys 0 ≡ Some key → 0 < times_in eq keys key
@@ -87,11 +50,7 @@ module _ {K : Type 0} (eq : K → K → Bool) where
       → ((m : ℕ) → get nat_cmp new m ≡ cond (is_at (nat_cmp moment) m) bucket (get nat_cmp old m))
       → ((q : K) → times_in eq (unwrap_or bucket []) q ≡ op (times_at eq old moment q) (once_if (eq key q)))
       → (m : ℕ) (q : K) → times_at eq new m q ≡ op (times_at eq old m q) (once_if (nat_eq moment m && eq key q))
-  changes_at op neutral old new moment key bucket sets there m q =
-      ap (λ (o : Option (List K)). times_in eq (unwrap_or o []) q) (sets m ∙ ap (λ (b : Bool). cond b bucket (get nat_cmp old m)) (sym (unsigned_ties moment m))) ∙ by_moment (nat_eq moment m) refl where
-        by_moment : (b : Bool) → nat_eq moment m ≡ b → times_in eq (unwrap_or (cond b bucket (get nat_cmp old m)) []) q ≡ op (times_at eq old m q) (once_if (b && eq key q))
-        by_moment true is = there q ∙ ap (λ n. op (times_at eq old n q) (once_if (eq key q))) (eqb-true moment m is)
-        by_moment false is = sym (neutral (times_at eq old m q))
+  changes_at op neutral old new moment key bucket sets there m q = grind (arith, common_steps)
 
   -- the keys of a bucket
   at_bucket : (moments : BTreeMap ℕ (List K)) (moment : ℕ) (bucket : Option (List K)) (q : K) → bucket ≡ get nat_cmp moments moment → times_in eq (unwrap_or bucket []) q ≡ times_at eq moments moment q
@@ -112,35 +71,11 @@ module _ {K : Type 0} (eq : K → K → Bool) where
   -- the only key of a bucket goes with it
   pub takes_only : (old new : BTreeMap ℕ (List K)) (moment : ℕ) (key : K) (keys : List K) → get nat_cmp old moment ≡ Some keys → slice_get keys 0 ≡ Some key → length keys ≡ 1
       → ((m : ℕ) → get nat_cmp new m ≡ cond (is_at (nat_cmp moment) m) None (get nat_cmp old m)) → TakesAt eq old new moment key
-  takes_only old new moment key keys is at one gone =
-      changes_at (λ x y. x - y) (λ x. omega arith) old new moment key None gone
-      (λ q. let one : once_if (eq key q) + 0 ≡ times_at eq old moment q = at_bucket old moment (Some (key ∷ [])) q (ap Some (sym (alone keys key at one)) ∙ sym is) in omega (arith, one))
-
-  -- a first moment of a key
-  pub comes_in : (old new : BTreeMap ℕ (List K)) (key : K) (until : ℕ) → SetsMoment eq old old key None → PutsAt eq old new until key → SetsMoment eq old new key (Some until)
-  comes_in old new key until was h m q = h m q ∙ comes (nat_eq until m) (eq key q) (times_at eq old m q) (was m q)
-
-  -- another moment of a key in place of its first
-  pub moves_in : (old mid new : BTreeMap ℕ (List K)) (key : K) (before until : ℕ) → nat_eq before until ≡ false → SetsMoment eq old old key (Some before)
-      → PutsAt eq old mid until key → TakesAt eq mid new before key → SetsMoment eq old new key (Some until)
-  moves_in old mid new key before until apart was h k m q =
-      k m q ∙ ap (λ n. n - once_if (nat_eq before m && eq key q)) (h m q) ∙ moves (nat_eq until m) (nat_eq before m) (eq key q) (times_at eq old m q) (not_both until before m apart) (was m q)
+  takes_only old new moment key keys is at one gone = grind (arith, common_steps, changes_at, at_bucket, alone)
 
   -- the moment of a key goes
   pub goes_out : (old new : BTreeMap ℕ (List K)) (key : K) (before : ℕ) → SetsMoment eq old old key (Some before) → TakesAt eq old new before key → SetsMoment eq old new key None
   goes_out old new key before was h m q = h m q ∙ goes (nat_eq before m) (eq key q) (times_at eq old m q) (was m q)
-
-  -- what a key's moment is set to, it has
-  pub set_once : (old new : BTreeMap ℕ (List K)) (key : K) (until : Option ℕ) → SetsMoment eq old new key until → SetsMoment eq new new key until
-  set_once old new key until h m q = by_key (eq key q) (h m q) where
-    by_key : (e : Bool) → times_at eq new m q ≡ cond e (once_if (is_moment until m)) (times_at eq old m q) → times_at eq new m q ≡ cond e (once_if (is_moment until m)) (times_at eq new m q)
-    by_key true is = is
-    by_key false is = refl
-
-  -- of two settings of one key the later holds
-  pub set_twice : (old mid new : BTreeMap ℕ (List K)) (key : K) (first last : Option ℕ) → SetsMoment eq old mid key first → SetsMoment eq mid new key last → SetsMoment eq old new key last
-  set_twice old mid new key first last h k m q =
-      k m q ∙ ap (λ n. cond (eq key q) (once_if (is_moment last m)) n) (h m q) ∙ cond_twice (eq key q) (once_if (is_moment last m)) (once_if (is_moment first m)) (times_at eq old m q)
 
   module _ {V : Type 0} where
     -- a key's moment and its entry are set together

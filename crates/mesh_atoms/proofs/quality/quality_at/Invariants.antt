@@ -1,4 +1,4 @@
-use Rattle.mesh_atoms.proofs.Common.{◌≡◌, ◌≤◌, drop, min, map, fold, filter, list_any, addr_eq}
+use Rattle.mesh_atoms.proofs.Common.{◌≡◌, ◌≤◌, drop, min, map, filter, fold, list_any, addr_eq}
 use Rattle.mesh_atoms.specs.Quality.{quality_of, quality_at}
 use Rattle.mesh_atoms.proofs.quality.quality_at.Given as goal
 

@@ -1,4 +1,5 @@
-use Rattle.mesh_expire.proofs.Common.{◌≡◌, ◌≤◌, length, find, if_live, AreKeys}
+use Rattle.mesh_expire.proofs.Common.{◌≡◌, ◌≤◌, length, find, if_live}
+use Rattle.mesh_expire.specs.Keyed.{AreKeys}
 use Rattle.mesh_expire.proofs.keyed.expire_keyed.Given as goal
 
 abbrev pub invariant-loop-gone : goal.invariant-loop-gone

@@ -1,11 +1,10 @@
-use Rattle.mesh_expire.proofs.Common.{sym, ap, ◌∙◌}
+use Rattle.mesh_expire.proofs.Common.{arith, common_steps, sym}
 use Rattle.mesh_expire.proofs.Laws.{changed_at-absent}
 use Rattle.mesh_expire.proofs.IndexLemmas.Moments.{written}
 use Rattle.mesh_expire.proofs.swept_table.set_until_in.Goals as goal
 
 pub returns-in_default-clause-changed : goal.returns-in_default-clause-changed
-returns-in_default-clause-changed g c =
-    ap (λ m. m.entries) c.get_mut.follows.holds-at-none ∙ sym (changed_at-absent g.K.PartialEq.eq c.args.key.now (λ e. (e.0, c.args.until)) c.args.map.now.entries (sym c.in_default.ensures.value))
+returns-in_default-clause-changed g c = grind (arith, common_steps, changed_at-absent, c.in_default.ensures.value)
 
 pub returns-clause-changed : goal.returns-clause-changed
 returns-clause-changed g c =

@@ -1,11 +1,10 @@
-use Rattle.mesh_expire.proofs.Common.{sym, subst, IfNone, IsFresh}
+use Rattle.mesh_expire.proofs.Common.{arith, common_steps}
 use Rattle.mesh_expire.proofs.Places.{all_fresh}
 use Rattle.mesh_expire.proofs.Sweeping.{taken_found}
 use Rattle.mesh_expire.proofs.swept_table.take_next.Goals as goal
 
 pub returns-in_err-place-clause-fresh : goal.returns-in_err-place-clause-fresh
-returns-in_err-place-clause-fresh g c =
-    subst (λ o. IfNone o (IsFresh g.K.PartialEq.eq c.args.now c.args.map.now.entries)) (sym c.from_residual.ensures) (all_fresh g.met.K.Key.exact c.args.now c.args.map.now.entries c.in_err-place.ensures.none)
+returns-in_err-place-clause-fresh g c = grind (arith, common_steps, all_fresh, c.from_residual.ensures, c.in_err-place.ensures.none)
 
 pub returns-clause-some : goal.returns-clause-some
 returns-clause-some g c =

@@ -1,39 +1,16 @@
-use Rattle.mesh_expire.proofs.Common.{on_err_of, Some, sym, ap, subst, ◌∙◌, option_map, set_value_same, until_of, SetsMoment}
-use Rattle.mesh_expire.proofs.Laws.{changed_at-absent, sets-changed_at}
-use Rattle.mesh_expire.proofs.IndexLemmas.Moments.{written, told, tells_set}
+use Rattle.mesh_expire.proofs.Common.{arith, common_steps, on_err_of, sym, set_value_same}
+use Rattle.mesh_expire.proofs.Laws.{changed_at-absent}
+use Rattle.mesh_expire.proofs.IndexLemmas.Moments.{written}
 use Rattle.mesh_expire.proofs.index.index_table.renew_in.Goals as goal
 
 pub returns-in_default-clause-ok : goal.returns-in_default-clause-ok
-returns-in_default-clause-ok g c =
-    ap (λ m. m.entries) c.get_mut.follows.holds-at-none ∙ sym (changed_at-absent g.K.PartialEq.eq c.args.key.now (λ _. (c.args.value, c.args.until)) c.args.map.now.entries (sym c.in_default.ensures.value))
-
-pub move_moment-requires : goal.move_moment-requires
-move_moment-requires g c =
-    let eq = g.K.PartialEq.eq in
-    subst (λ o. SetsMoment eq c.args.moments.now c.args.moments.now c.args.key.now (until_of o)) (sym c.in-Some.ensures.value) (told eq g.met.K.Eq.laws c.args.moments.now c.args.map.now.entries c.args.key.now c.requires)
+returns-in_default-clause-ok g c = grind (arith, common_steps, changed_at-absent, c.in_default.ensures.value)
 
 pub returns-in_err-move_moment-clause-err : goal.returns-in_err-move_moment-clause-err
-returns-in_err-move_moment-clause-err g c =
-    on_err_of c.from_residual.result ((c.get_mut.follows.holds c.in-Some.entry.now).0 ∙ set_value_same (g.K.PartialEq.eq c.args.key.now) c.args.map.now.entries c.in-Some.entry.now (sym c.in-Some.ensures.value))
-
-pub returns-in_err-move_moment-clause-tells : goal.returns-in_err-move_moment-clause-tells
-returns-in_err-move_moment-clause-tells g c moment key =
-    let same = (c.get_mut.follows.holds c.in-Some.entry.now).0 ∙ set_value_same (g.K.PartialEq.eq c.args.key.now) c.args.map.now.entries c.in-Some.entry.now (sym c.in-Some.ensures.value) in
-    rw (c.in_err-move_moment.ensures.err, same) (c.requires moment key)
+returns-in_err-move_moment-clause-err g c = grind (arith, common_steps, on_err_of, set_value_same, c.in-Some.ensures.value)
 
 pub returns-clause-ok : goal.returns-clause-ok
 returns-clause-ok g c =
     rw c.replace-before.ensures.after
     (written g.K.PartialEq.eq g.met.K.Eq.laws c.args.map.now.entries _ c.args.key.now (λ _. (c.args.value, c.args.until)) c.in-Some.entry.now c.in-Some.ensures.unique
     (sym c.in-Some.ensures.value) (c.get_mut.follows.holds (c.args.value, c.args.until)).0)
-
-pub returns-clause-tells : goal.returns-clause-tells
-returns-clause-tells g c =
-    let entry = c.in-Some.entry.now in
-    let found = sym c.in-Some.ensures.value in
-    tells_set g.K.PartialEq.eq c.args.moments.now c.move_moment.new.moments c.args.map.now.entries _ c.args.key.now (Some (c.args.value, c.args.until)) c.requires c.in_ok-move_moment.ensures.ok
-    (rw (c.replace-before.ensures.after, written g.K.PartialEq.eq g.met.K.Eq.laws c.args.map.now.entries _ c.args.key.now (λ _. (c.args.value, c.args.until)) entry c.in-Some.ensures.unique found (c.get_mut.follows.holds (c.args.value, c.args.until)).0)
-    (sets-changed_at g.met.K.Eq.laws c.args.key.now (λ _. (c.args.value, c.args.until)) c.args.map.now.entries entry found))
-
-pub returns-clause-before : goal.returns-clause-before
-returns-clause-before g c = rw c.replace-before.ensures.value (ap (option_map (λ e. e.0)) c.in-Some.ensures.value)

@@ -1,4 +1,5 @@
-use Rattle.mesh_expire.proofs.Common.{Some, cond, is_some, sym, ap, ◌∙◌, nat_cmp, get, is_at, set_value_same, on_ok_weaker, on_err_weaker}
+use Rattle.mesh_expire.proofs.Common.{arith, common_steps, Some, cond, is_some, sym, ap, ◌∙◌, nat_cmp, get, is_at, set_value_same}
+use Rattle.std.proofs.lemmas.Result.{on_ok_weaker}
 use Rattle.mesh_expire.proofs.IndexLemmas.Moments.{puts_behind}
 use Rattle.mesh_expire.proofs.index.moments.put_key.Goals as goal
 
@@ -10,6 +11,4 @@ returns-in-Some-clause-ok g c =
     (λ m. sets m ∙ ap (λ w. cond (is_at (nat_cmp c.args.moment) m) (Some w) (get nat_cmp old m)) h)) c.push.ensures.ok
 
 pub returns-in-Some-clause-err : goal.returns-in-Some-clause-err
-returns-in-Some-clause-err g c =
-    on_err_weaker c.push.result (λ h. (c.get_mut.follows.holds c.push.new.self).0
-    ∙ set_value_same (is_at (nat_cmp c.args.moment)) c.args.moments.now.entries c.push.new.self (sym c.in-Some.ensures.value ∙ ap Some (sym h))) c.push.ensures.err
+returns-in-Some-clause-err g c = grind (arith, common_steps, set_value_same, is_at, c.in-Some.ensures.value, c.push.ensures.err)

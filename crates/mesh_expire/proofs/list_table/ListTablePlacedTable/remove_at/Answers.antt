@@ -1,11 +1,5 @@
 use Rattle.mesh_expire.proofs.list_table.ListTablePlacedTable.remove_at.Goals as goal
 
-pub remove_from_place-requires : goal.remove_from_place-requires
-remove_from_place-requires g c = c.self.invariant
-
-pub invariant_of-self : goal.invariant_of-self
-invariant_of-self g c = c.remove_from_place.ensures.distinct
-
 pub returns : goal.returns
 returns g c = rw (← c.self.view_is) (record {
   found = c.remove_from_place.ensures.found;

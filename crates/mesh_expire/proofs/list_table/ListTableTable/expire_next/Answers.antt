@@ -1,11 +1,5 @@
 use Rattle.mesh_expire.proofs.list_table.ListTableTable.expire_next.Goals as goal
 
-pub take_next-requires : goal.take_next-requires
-take_next-requires g c = c.self.invariant
-
-pub invariant_of-self : goal.invariant_of-self
-invariant_of-self g c = c.take_next.ensures.distinct
-
 pub returns : goal.returns
 returns g c = rw (← c.self.view_is) (record {
   some = c.take_next.ensures.some;

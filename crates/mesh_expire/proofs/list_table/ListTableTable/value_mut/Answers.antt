@@ -1,6 +1,6 @@
-use Rattle.mesh_expire.proofs.Common.{arith, refl, sym, ap, option_map}
+use Rattle.mesh_expire.proofs.Common.{common_steps, arith, refl, sym, ap, option_map}
 use Rattle.mesh_expire.proofs.Laws.{changed_at-absent, distinct-changed_at}
-use Rattle.mesh_expire.proofs.Places.{changes, within}
+use Rattle.mesh_expire.proofs.Places.{changes}
 use Rattle.mesh_expire.proofs.list_table.ListTableTable.value_mut.Goals as goal
 
 pub invariant_of-self-lent : goal.invariant_of-self-lent
@@ -17,14 +17,7 @@ returns-in-Some g c =
     )
 
 pub returns-in-None : goal.returns-in-None
-returns-in-None g c =
-    rw (← c.self.view_is) (
-      (refl, λ w. sym (changed_at-absent g.K.PartialEq.eq c.args.key.now (λ e. (w, e.1)) c.self.inside.entries.items c.in-None.ensures.none), refl),
-      record { lends = tt; value = sym (ap (option_map (λ e. e.0)) c.in-None.ensures.none); distinct = c.self.invariant },
-    )
-
-pub index_mut-requires : goal.index_mut-requires
-index_mut-requires g c = omega (arith, within c.self.inside.entries.items c.in-Some.i c.args.key.now c.in-Some.ensures.some)
+returns-in-None g c = grind (arith, common_steps, changed_at-absent, c.in-None.ensures.none, c.self.invariant)
 
 pub invariant_of-self : goal.invariant_of-self
 invariant_of-self g c = c.self.invariant

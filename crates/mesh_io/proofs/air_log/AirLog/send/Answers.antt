@@ -1,4 +1,4 @@
-use Rattle.mesh_io.proofs.Common.{◌≡◌, ℕ, ◌+◌, List, length, sym, ap, ◌∙◌, arith, append-nil, length-append, Handed, LogState}
+use Rattle.mesh_io.proofs.Common.{◌≡◌, ℕ, ◌+◌, List, length, sym, ap, ◌∙◌, arith, length-append, append-nil, Handed, LogState}
 use Rattle.mesh_io.proofs.Stores.{told_on, lying_at, grew_nothing, log_with, roomy_on}
 use Rattle.mesh_io.proofs.air_log.AirLog.send.Goals as goal
 

@@ -1,4 +1,4 @@
-use Rattle.mesh_expire.proofs.Common.{refl, sym, ap, ◌∙◌, option_map}
+use Rattle.mesh_expire.proofs.Common.{arith, common_steps, refl, sym, ap, option_map}
 use Rattle.mesh_expire.proofs.Laws.{changed_at-absent}
 use Rattle.mesh_expire.proofs.IndexLemmas.Moments.{written, still_told}
 use Rattle.mesh_expire.proofs.index.index_table.IndexTableTable.value_mut.Goals as goal
@@ -16,8 +16,4 @@ returns-in-Some g c =
     )
 
 pub returns-in-None : goal.returns-in-None
-returns-in-None g c =
-    rw (← c.self.view_is) (
-      (refl, λ w. ap (λ m. m.entries) c.get_mut.follows.holds-at-none ∙ sym (changed_at-absent g.K.PartialEq.eq c.args.key.now (λ e. (w, e.1)) c.self.inside.map.entries (sym c.in-None.ensures.value)), ap (λ m. m.entries) c.get_mut.follows.holds-at-none),
-      record { lends = tt; value = ap (option_map (λ e. e.0)) c.in-None.ensures.value; distinct = c.in-None.ensures.unique },
-    )
+returns-in-None g c = grind (arith, common_steps, changed_at-absent, c.in-None.ensures.value, c.in-None.ensures.unique)
