@@ -1,12 +1,10 @@
 -- The best of the choices within the limits, as the search finds it.
-use Rattle.mesh_addr.proofs.Common.{◌≡◌, ℕ, ◌+◌, ◌-◌, ◌*◌, ◌<◌, ◌≤◌, Bool, true, false, cond, ltb, refl, arith, common_steps, ltb-false, ltb-true, mul-add, mul-le-mul_right, Choice, TailForm, tail_len, tail_rank, choice_rank, cost, weight, cheaper, IsWithinLimits, IsBestOf, HasHead}
+use Rattle.mesh_addr.proofs.Common.{◌≡◌, ℕ, ◌+◌, ◌-◌, ◌*◌, ◌<◌, ◌≤◌, Bool, true, false, ltb, refl, arith, common_steps, ltb-false, ltb-true, mul-add, mul-le-mul_right, Choice, TailForm, tail_len, tail_rank, choice_rank, cost, weight, cheaper, IsWithinLimits, IsBestOf, HasHead}
 use Rattle.mesh_addr.specs.declared.choices.Limits.{Limits}
 use Rattle.mesh_addr.specs.declared.choices.TailForm.TheVariants as tails
 
 rank_most : (t : TailForm) → tail_rank t ≤ 2
-rank_most tails.Absent = omega arith
-rank_most (tails.Zeros n) = omega arith
-rank_most (tails.Full n) = omega arith
+rank_most t = grind (arith, common_steps)
 
 -- a rank is less than one octet weighs
 pub rank_below : (w : ℕ) (choice : Choice) → w ≤ 16 → choice.head + tail_len choice.tail ≤ w → choice_rank choice < 867
@@ -18,10 +16,7 @@ cheaper_least w count a b small fits fits' before = grind (arith, common_steps, 
 
 -- what holds of both holds of the cheaper one
 pub cheaper_either : (P : Choice → Type 0) (w count : ℕ) (a b : Choice) → P a → P b → P (cheaper w count a b)
-cheaper_either P w count a b h k = either (ltb (cost w count b) (cost w count a)) where
-  either : (q : Bool) → P (cond q b a)
-  either true = k
-  either false = h
+cheaper_either P w count a b h k = grind (arith, common_steps)
 
 -- ---- the tails of one head
 

@@ -1,5 +1,5 @@
 -- The cheapest choice is spelled, and no spelling has fewer octets.
-use Rattle.mesh_addr.proofs.Common.{◌≡◌, ℕ, zero, suc, ◌+◌, ◌-◌, ◌*◌, ◌<◌, ◌≤◌, Bool, true, false, cond, eqb, List, [], ◌∷◌, ◌++◌, length, take, refl, sym, ap, subst, ◌∙◌, arith, append_assoc, length-append, common_steps, slice_range, replicate, not, ◌&&◌, eq-eqb, eqb-true, ne_eqb, take_at, drop_at, length-replicate, length-take, length-take-le, nil_from_length, between_from_start, has, range_length, RawAddr, Choice, TailForm, PrefixForm, padded, SpellsHead, SpellsTail, SpellsMids, SpellsPrefixes, AreAll, AreAtMost, prefixes, SpellsBlock, AreRaw, IsWritable, tail_len, last_octets, ShareHead, ShareTail, TailFits, IsPossible, head_cost, tail_cost, cost, tail_rank, choice_rank, weight, IsBestOf, have_prefix, form_of, tail_flag, form_flag, flags_of, head_text, tail_text, mids_text, prefixes_text, text_of, IsLeast, known_flags, rank, IsFirst}
+use Rattle.mesh_addr.proofs.Common.{◌≡◌, ℕ, ◌+◌, ◌-◌, ◌*◌, ◌<◌, ◌≤◌, Bool, true, false, cond, eqb, List, [], ◌∷◌, ◌++◌, length, take, refl, sym, ap, subst, ◌∙◌, arith, append_assoc, length-append, slice_range, replicate, not, ◌&&◌, length-take, common_steps, eq-eqb, eqb-true, take_at, drop_at, length-replicate, length-take-le, nil_from_length, between_from_start, has, range_length, RawAddr, Choice, TailForm, PrefixForm, padded, SpellsHead, SpellsTail, SpellsMids, SpellsPrefixes, AreAll, AreAtMost, prefixes, SpellsBlock, AreRaw, IsWritable, tail_len, last_octets, ShareHead, ShareTail, TailFits, IsPossible, head_cost, tail_cost, cost, tail_rank, choice_rank, weight, IsBestOf, have_prefix, form_of, tail_flag, form_flag, flags_of, head_text, tail_text, mids_text, prefixes_text, text_of, IsLeast, known_flags, rank, IsFirst}
 use Rattle.mesh_addr.proofs.Padding.{split_at}
 use Rattle.mesh_addr.proofs.Choosing.{rank_below}
 use Rattle.mesh_addr.specs.declared.choices.TailForm.TheVariants as tails
@@ -40,8 +40,7 @@ head_cost_most : (n : ℕ) → head_cost n ≤ 1 + n
 head_cost_most n = grind (arith, common_steps)
 
 head_least : (b : Bool) (head text : List ℕ) → SpellsHead b head text → head_cost (length head) ≤ length text
-head_least true head text h = omega (arith, ap length h, head_cost_most (length head))
-head_least false head text h = omega (arith, ap (λ (l : List ℕ). head_cost (length l)) h.0)
+head_least b head text h = grind (arith, common_steps, head_cost_most)
 
 -- what a tail's spelling tells of its form
 record FormIs (w : ℕ) (first : RawAddr) (full zeros : Bool) (tail text : List ℕ) : Type 0 where
@@ -51,10 +50,7 @@ record FormIs (w : ℕ) (first : RawAddr) (full zeros : Bool) (tail text : List 
   fits : last_octets w (length tail) first ≡ tail → TailFits w first (tail_for full zeros (length tail))
 
 form_is : (w : ℕ) (first : RawAddr) (full zeros : Bool) (tail text : List ℕ) → SpellsTail full zeros tail text → FormIs w first full zeros tail text
-form_is w first true false tail text h = record { len_is = refl; rank_is = refl; costs = rw h (omega arith); fits = λ is. tt }
-form_is w first false true tail text h = record { len_is = refl; rank_is = refl; costs = rw h.1 (omega arith); fits = λ is. is ∙ h.0 }
-form_is w first false false tail text h = record { len_is = sym (ap length h.0); rank_is = refl; costs = omega arith; fits = λ is. tt }
-form_is w first true true tail text h = absurd h
+form_is w first full zeros tail text h = grind (arith, common_steps)
 
 -- the choice of a spelling
 record Chosen (w : ℕ) (first : RawAddr) (addrs : List RawAddr) (text prefix_text : List ℕ) (rank : ℕ) : Type 0 where
@@ -97,12 +93,10 @@ three_parts w head tail octets fits long =
     ∙ ap (λ (l : List ℕ). take head octets ++ l) (split_at octets head (w - tail) w (omega arith) (omega arith) long)
 
 both_are : (a b : Bool) → a && b ≡ true → (a ≡ true) × (b ≡ true)
-both_are true b e = (refl, e)
-both_are false b e = absurd cc
+both_are a b e = grind (arith, common_steps)
 
 head_spelled : (head : ℕ) (first : RawAddr) → length (take head first.octets) ≡ head → SpellsHead (not (eqb head 0)) (take head first.octets) (head_text head first)
-head_spelled zero first long = (refl, refl)
-head_spelled (suc n) first long = rw (ne_eqb (suc n) 0 (λ z. absurd (omega (arith, z)))) (ap (λ (m : ℕ). m ∷ take (suc n) first.octets) (sym long))
+head_spelled head first long = grind (arith, common_steps)
 
 abbrev is_full : TailForm → Bool
 is_full tails.Absent = false
@@ -115,9 +109,7 @@ is_zeros (tails.Zeros n) = true
 is_zeros (tails.Full n) = false
 
 tail_spelled : (w : ℕ) (first : RawAddr) (t : TailForm) → length (last_octets w (tail_len t) first) ≡ tail_len t → TailFits w first t → SpellsTail (is_full t) (is_zeros t) (last_octets w (tail_len t) first) (tail_text t w first)
-tail_spelled w first tails.Absent long fit = (nil_from_length (last_octets w 0 first) long, refl)
-tail_spelled w first (tails.Zeros n) long fit = (fit ∙ ap (λ (k : ℕ). replicate k 0) (sym long), ap (λ (k : ℕ). k ∷ []) (sym long))
-tail_spelled w first (tails.Full n) long fit = ap (λ (k : ℕ). k ∷ last_octets w n first) (sym long)
+tail_spelled w first t long fit = grind (arith, common_steps, nil_from_length)
 
 module _ (w head tail : ℕ) (first : RawAddr) (small : w ≤ 16) (fits : head + tail ≤ w) (long_first : w ≤ length first.octets) where
   mids_spelled : (addrs : List RawAddr) → AreRaw w addrs → ShareHead first addrs head → ShareTail w first addrs tail → SpellsMids (take head first.octets) (last_octets w tail first) (w - (length (take head first.octets) + length (last_octets w tail first))) addrs (mids_text head (w - tail) addrs)
@@ -161,18 +153,10 @@ is_each forms.Each = true
 -- the form of the prefix lengths is one of the block, and the shortest one
 form_spelled : (w : ℕ) (first : RawAddr) (more : List RawAddr) (none one : Bool) → AreRaw w (first ∷ more) → have_prefix (8 * w) (first ∷ more) ≡ none → have_prefix first.prefix (first ∷ more) ≡ one
     → SpellsPrefixes (is_one (form_for none one)) (is_each (form_for none one)) (8 * w) (prefixes (first ∷ more)) (prefixes_text (form_for none one) first (first ∷ more))
-form_spelled w first more true one raw is is' = (all_have_so (8 * w) (first ∷ more) is, refl)
-form_spelled w first more false true raw is is' = (first.prefix, raw.1, all_have_so first.prefix (first ∷ more) is', refl)
-form_spelled w first more false false raw is is' = (raw_most w (first ∷ more) raw, refl)
+form_spelled w first more none one raw is is' = grind (arith, common_steps, all_have_so, raw_most)
 
 form_least : (w : ℕ) (first : RawAddr) (more : List RawAddr) (none one b16 b8 : Bool) (text : List ℕ) → have_prefix (8 * w) (first ∷ more) ≡ none → have_prefix first.prefix (first ∷ more) ≡ one → SpellsPrefixes b16 b8 (8 * w) (prefixes (first ∷ more)) text → length (prefixes_text (form_for none one) first (first ∷ more)) ≤ length text
-form_least w first more true one b16 b8 text is is' h = omega arith
-form_least w first more false one false false text is is' h = let no : have_prefix (8 * w) (first ∷ more) ≡ true = so_all_have (8 * w) (first ∷ more) h.0 in absurd (false_true (sym is ∙ no))
-form_least w first more false true true false text is is' h = rw h.3 (omega arith)
-form_least w first more false false true false text is is' h = grind (arith, common_steps, first_all, false_true, so_all_have)
-form_least w first more false true false true text is is' h = rw h.1 (omega arith)
-form_least w first more false false false true text is is' h = rw h.1 (omega arith)
-form_least w first more false one true true text is is' h = absurd h
+form_least w first more none one b16 b8 text is is' h = grind (arith, common_steps, so_all_have, false_true, first_all)
 
 abbrev head_bit : Bool → ℕ
 head_bit none = cond none 0 128
@@ -204,9 +188,7 @@ head_text_long : (head : ℕ) (first : RawAddr) → length (take head first.octe
 head_text_long head first long = grind (arith, common_steps)
 
 tail_text_long : (w : ℕ) (first : RawAddr) (t : TailForm) → length (last_octets w (tail_len t) first) ≡ tail_len t → length (tail_text t w first) ≡ tail_cost t
-tail_text_long w first tails.Absent long = refl
-tail_text_long w first (tails.Zeros n) long = refl
-tail_text_long w first (tails.Full n) long = omega (arith, long)
+tail_text_long w first t long = grind (arith, common_steps)
 
 module _ (w : ℕ) (first : RawAddr) (more : List RawAddr) (choice : Choice) (small : w ≤ 16) (raw : AreRaw w (first ∷ more)) (can : IsPossible w first (first ∷ more) choice) where
   abbrev none : Bool
@@ -260,9 +242,7 @@ module _ (w : ℕ) (first : RawAddr) (more : List RawAddr) (choice : Choice) (sm
   text_long = grind (arith, common_steps, choice, head_long, tail_long, mids_long, mids_are, head_text_long, tail_text_long, length-append)
 
 tail_bits : (t : TailForm) → cond (is_full t) 2 (cond (is_zeros t) 1 0) ≡ tail_rank t
-tail_bits tails.Absent = refl
-tail_bits (tails.Zeros n) = refl
-tail_bits (tails.Full n) = refl
+tail_bits t = grind (arith, common_steps)
 
 abbrev form_rank : Bool → Bool → ℕ
 form_rank one each = cond one 1 (cond each 2 0)
@@ -272,13 +252,7 @@ rank_of_form form = form_rank (is_one form) (is_each form)
 
 -- no form that comes before is one of the block
 form_first : (w : ℕ) (first : RawAddr) (more : List RawAddr) (none one b16 b8 : Bool) (text : List ℕ) → have_prefix (8 * w) (first ∷ more) ≡ none → have_prefix first.prefix (first ∷ more) ≡ one → SpellsPrefixes b16 b8 (8 * w) (prefixes (first ∷ more)) text → rank_of_form (form_for none one) ≤ form_rank b16 b8
-form_first w first more true one b16 b8 text is is' h = omega arith
-form_first w first more false one false false text is is' h = let no : have_prefix (8 * w) (first ∷ more) ≡ true = so_all_have (8 * w) (first ∷ more) h.0 in absurd (false_true (sym is ∙ no))
-form_first w first more false true true false text is is' h = omega arith
-form_first w first more false false true false text is is' h = grind (arith, common_steps, first_all, false_true, so_all_have)
-form_first w first more false true false true text is is' h = omega arith
-form_first w first more false false false true text is is' h = omega arith
-form_first w first more false one true true text is is' h = absurd h
+form_first w first more none one b16 b8 text is is' h = grind (arith, common_steps, so_all_have, false_true, first_all)
 
 text_rank : (w : ℕ) (first : RawAddr) (more : List RawAddr) (choice : Choice) (small : w ≤ 16) (raw : AreRaw w (first ∷ more)) (can : IsPossible w first (first ∷ more) choice)
     → rank (text_spelled w first more choice small raw can) ≡ choice_rank choice * 3 + rank_of_form (form_for (have_prefix (8 * w) (first ∷ more)) (have_prefix first.prefix (first ∷ more)))
@@ -313,26 +287,17 @@ module _ (w : ℕ) (first : RawAddr) (more : List RawAddr) (choice : Choice) (sm
   not_longer = omega (arith, text_long w first more choice small raw best.among, spelled_choice.costs, no_lighter, rank_small, prefixes_short)
 
   not_later : length other ≡ length best_text → rank (text_spelled w first more choice small raw best.among) ≤ rank h
-  not_later same =
-      let form = form_first w first more (have_prefix (8 * w) (first ∷ more)) (have_prefix first.prefix (first ∷ more)) (has h.flags 16) (has h.flags 8) h.prefixes_text refl refl h.prefixes_is in
-      let cheap : cost w (length (first ∷ more)) spelled_choice.choice ≤ cost w (length (first ∷ more)) choice = omega (arith, text_long w first more choice small raw best.among, spelled_choice.costs, prefixes_short, same) in
-      let ranked : choice_rank choice ≤ choice_rank spelled_choice.choice = omega (arith, cheap, no_lighter) in
-      rw (text_rank w first more choice small raw best.among) (omega (arith, ranked, form, spelled_choice.ranked))
+  not_later same = grind (arith, common_steps, form_first, spelled_choice, text_long, prefixes_short, no_lighter, text_rank)
 
 -- no reserved flag is written
 flag_of_head : (none : Bool) → cond (not none) 128 0 ≡ head_bit none
-flag_of_head true = refl
-flag_of_head false = refl
+flag_of_head none = grind (arith, common_steps)
 
 flags_of_tail : (t : TailForm) → cond (is_full t) 64 0 + cond (is_zeros t) 32 0 ≡ tail_flag t
-flags_of_tail tails.Absent = refl
-flags_of_tail (tails.Zeros n) = refl
-flags_of_tail (tails.Full n) = refl
+flags_of_tail t = grind (arith, common_steps)
 
 flags_of_form : (f : PrefixForm) → cond (is_one f) 16 0 + cond (is_each f) 8 0 ≡ form_flag f
-flags_of_form forms.Absent = refl
-flags_of_form forms.One = refl
-flags_of_form forms.Each = refl
+flags_of_form f = grind (arith, common_steps)
 
 unreserved_flags : (choice : Choice) (form : PrefixForm) → flags_of choice form ≡ known_flags (flags_of choice form)
 unreserved_flags choice form = grind (arith, common_steps, bits_are, choice, flag_of_head, flags_of_tail, flags_of_form)
@@ -348,6 +313,4 @@ least_text w first more choice small raw best = record {
 }
 
 pub least_of_first : (w : ℕ) (first : RawAddr) (addrs : List RawAddr) (choice : Choice) → IsFirst first addrs → IsWritable w addrs → IsBestOf w (length addrs) (IsPossible w first addrs) choice → IsLeast w addrs (text_of w first addrs choice (form_of w first addrs))
-least_of_first w first [] choice is h best = absurd is
-least_of_first w first (a ∷ addrs) choice is h best =
-    subst (λ (b : RawAddr). IsLeast w (a ∷ addrs) (text_of w b (a ∷ addrs) choice (form_of w b (a ∷ addrs)))) (sym is) (least_text w a addrs choice h.narrow h.raw (subst (λ (b : RawAddr). IsBestOf w (length (a ∷ addrs)) (IsPossible w b (a ∷ addrs)) choice) is best))
+least_of_first w first addrs choice is h best = grind (arith, common_steps, least_text)

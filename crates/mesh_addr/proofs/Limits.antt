@@ -1,5 +1,5 @@
 -- How far head, tail and zeros of a block reach.
-use Rattle.mesh_addr.proofs.Common.{◌≡◌, ℕ, ◌+◌, ◌-◌, ◌≤◌, Bool, true, false, List, take, drop, sym, ap, subst, ◌∙◌, arith, slice_range, not, take-take, drop-take, drop-drop, drop-replicate, not-false, RawAddr, EndsInZeros, IsLimit}
+use Rattle.mesh_addr.proofs.Common.{common_steps, ◌≡◌, ℕ, ◌+◌, ◌-◌, ◌≤◌, Bool, true, false, List, take, drop, sym, ap, ◌∙◌, arith, slice_range, not, take-take, drop-take, drop-drop, drop-replicate, not-false, RawAddr, EndsInZeros, IsLimit}
 use Rattle.std.specs.Str.{bytes_eq}
 use Rattle.std.proofs.lemmas.Slice.Eq.{bytes_eq-Decides}
 use Rattle.mesh_atoms.proofs.Options.{not_both}
@@ -14,10 +14,7 @@ is_other r xs ys e differ same = not_both (bytes_eq xs ys) ((bytes_eq-Decides xs
 
 -- one less, where the fact doesn't hold yet
 pub one_less : (most len : ℕ) (P : ℕ → Type 0) → ((n : ℕ) → n ≤ most → P n → n ≤ len) → (P len → ⊥) → (n : ℕ) → n ≤ most → P n → n ≤ len - 1
-one_less most len P h fails n le p =
-    let small : n ≤ len = h n le p in
-    let apart : n ≡ len → ⊥ = λ e. fails (subst P e p) in
-    omega (arith, small, apart)
+one_less most len P h fails n le p = grind (arith, common_steps)
 
 -- the fact holds, and of less as well
 pub limit_found : (most len : ℕ) (P : ℕ → Type 0) → len ≤ most → ((n : ℕ) → n ≤ most → P n → n ≤ len) → P len → ((n : ℕ) → n ≤ len → P len → P n) → IsLimit most P len

@@ -1,5 +1,5 @@
 -- Reading one after the other, as a loop does.
-use Rattle.mesh_addr.proofs.Common.{◌≡◌, ℕ, suc, ◌+◌, ◌-◌, ◌*◌, ◌≤◌, ◌<◌, List, [], ◌∷◌, ◌++◌, Result, Ok, Err, refl, sym, ap, ◌∙◌, append_assoc, arith, common_steps, slice_range, append-nil, lt-ltb, le-ltb, suc-mul, Refusal, ◌>>=◌, refuse, RawAddr, ShapeFields, mid_of, addr_of, parts_end, own_at, addrs_at}
+use Rattle.mesh_addr.proofs.Common.{◌≡◌, ℕ, suc, ◌+◌, ◌-◌, ◌*◌, ◌≤◌, ◌<◌, List, [], ◌∷◌, ◌++◌, Result, Ok, Err, refl, sym, ◌∙◌, arith, slice_range, common_steps, append-nil, lt-ltb, le-ltb, suc-mul, Refusal, ◌>>=◌, refuse, RawAddr, ShapeFields, mid_of, addr_of, parts_end, own_at, addrs_at}
 
 -- so many parts and one more
 pub next_part : (i size : ℕ) → (i + 1) * size ≡ i * size + size
@@ -26,8 +26,7 @@ abbrev pub with_front : List RawAddr → Result (List RawAddr × ℕ) Refusal �
 with_front front read = read >>= λ x. Ok (front ++ x.0, x.1)
 
 regroup : (front : List RawAddr) (a : RawAddr) (read : Result (List RawAddr × ℕ) Refusal) → with_front front (read >>= λ x. Ok (a ∷ x.0, x.1)) ≡ with_front (front ++ a ∷ []) read
-regroup front a (Ok x) = ap (λ (l : List RawAddr). Ok (l, x.1)) (simp append_assoc)
-regroup front a (Err f) = refl
+regroup front a read = grind (arith, common_steps)
 
 module _ (frame : List ℕ) (shape : ShapeFields) (front : List RawAddr) (limit i mid at end : ℕ) (total : Result (List RawAddr × ℕ) Refusal) (so_far : with_front front (addrs_at (limit - i) frame shape mid at end) ≡ total) where
   pub goes_on : i < limit → (prefix after : ℕ) → own_at frame shape.prefix at end shape.width ≡ Ok (prefix, after) → with_front (front ++ addr_of shape (slice_range frame mid (mid + mid_of shape)) prefix ∷ []) (addrs_at (limit - (i + 1)) frame shape (mid + mid_of shape) after end) ≡ total

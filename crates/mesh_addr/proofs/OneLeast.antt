@@ -1,34 +1,19 @@
 -- A block has at most one least spelling: its rank tells the lengths of head and tail and the forms of tail and prefix lengths,
 -- and with them all that is written.
-use Rattle.mesh_addr.proofs.Common.{◌≡◌, ℕ, ◌+◌, ◌-◌, ◌*◌, ◌≤◌, Bool, true, false, cond, List, [], ◌∷◌, ◌++◌, length, take, drop, refl, sym, ap, subst, ◌∙◌, arith, append_assoc, length-append, common_steps, slice_range, take_at, drop_at, has, RawAddr, padded, SpellsHead, SpellsTail, SpellsMids, SpellsPrefixes, AreAll, prefixes, SpellsBlock, IsLeast, known_flags, rank}
+use Rattle.mesh_addr.proofs.Common.{◌≡◌, ℕ, ◌+◌, ◌-◌, ◌*◌, ◌≤◌, Bool, cond, List, [], ◌∷◌, ◌++◌, length, take, drop, refl, sym, ap, subst, ◌∙◌, arith, append_assoc, length-append, slice_range, common_steps, take_at, drop_at, has, RawAddr, padded, SpellsHead, SpellsTail, SpellsMids, SpellsPrefixes, AreAll, prefixes, SpellsBlock, IsLeast, known_flags, rank}
 use Rattle.mesh_addr.proofs.ReadAgain.{first_all}
 use Rattle.mesh_addr.proofs.Fewest.{one_ends}
 
 -- heads that are the same, written in as many octets
 heads_once : (b c : Bool) (head text more : List ℕ) → SpellsHead b head text → SpellsHead c head more → length text ≡ length more → (b ≡ c) × (text ≡ more)
-heads_once true true head text more h k e = (refl, h ∙ sym k)
-heads_once false false head text more h k e = (refl, h.1 ∙ sym k.1)
-heads_once true false head text more h k e = absurd (omega (arith, ap length h, ap length k.1, e))
-heads_once false true head text more h k e = absurd (omega (arith, ap length h.1, ap length k, e))
+heads_once b c head text more h k e = grind (arith, common_steps)
 
 abbrev tail_rank : Bool → Bool → ℕ
 tail_rank full zeros = cond full 2 (cond zeros 1 0)
 
 -- tails that are the same, of one form
 tails_once : (f z g y : Bool) (tail text more : List ℕ) → SpellsTail f z tail text → SpellsTail g y tail more → tail_rank f z ≡ tail_rank g y → (f ≡ g) × (z ≡ y) × (text ≡ more)
-tails_once true true g y tail text more h k e = absurd h
-tails_once true false true true tail text more h k e = absurd k
-tails_once true false true false tail text more h k e = (refl, refl, h ∙ sym k)
-tails_once true false false true tail text more h k e = absurd (omega (arith, e))
-tails_once true false false false tail text more h k e = absurd (omega (arith, e))
-tails_once false true true true tail text more h k e = absurd k
-tails_once false true true false tail text more h k e = absurd (omega (arith, e))
-tails_once false true false true tail text more h k e = (refl, refl, h.1 ∙ sym k.1)
-tails_once false true false false tail text more h k e = absurd (omega (arith, e))
-tails_once false false true true tail text more h k e = absurd k
-tails_once false false true false tail text more h k e = absurd (omega (arith, e))
-tails_once false false false true tail text more h k e = absurd (omega (arith, e))
-tails_once false false false false tail text more h k e = (refl, refl, h.1 ∙ sym k.1)
+tails_once f z g y tail text more h k e = grind (arith, common_steps)
 
 abbrev form_rank : Bool → Bool → ℕ
 form_rank one each = cond one 1 (cond each 2 0)
@@ -38,19 +23,7 @@ one_for_all p q r ps h k = sym (first_all p r ps h).0 ∙ (first_all q r ps k).0
 
 -- prefix lengths that are the same, of one form
 prefixes_once : (o e p f : Bool) (most r : ℕ) (ps text more : List ℕ) → SpellsPrefixes o e most (r ∷ ps) text → SpellsPrefixes p f most (r ∷ ps) more → form_rank o e ≡ form_rank p f → (o ≡ p) × (e ≡ f) × (text ≡ more)
-prefixes_once true true p f most r ps text more h k i = absurd h
-prefixes_once true false true true most r ps text more h k i = absurd k
-prefixes_once true false true false most r ps text more h k i = (refl, refl, h.3 ∙ ap (λ (n : ℕ). n ∷ []) (one_for_all h.0 k.0 r ps h.2 k.2) ∙ sym k.3)
-prefixes_once true false false true most r ps text more h k i = absurd (omega (arith, i))
-prefixes_once true false false false most r ps text more h k i = absurd (omega (arith, i))
-prefixes_once false true true true most r ps text more h k i = absurd k
-prefixes_once false true true false most r ps text more h k i = absurd (omega (arith, i))
-prefixes_once false true false true most r ps text more h k i = (refl, refl, h.1 ∙ sym k.1)
-prefixes_once false true false false most r ps text more h k i = absurd (omega (arith, i))
-prefixes_once false false true true most r ps text more h k i = absurd k
-prefixes_once false false true false most r ps text more h k i = absurd (omega (arith, i))
-prefixes_once false false false true most r ps text more h k i = absurd (omega (arith, i))
-prefixes_once false false false false most r ps text more h k i = (refl, refl, h.1 ∙ sym k.1)
+prefixes_once o e p f most r ps text more h k i = grind (arith, common_steps, one_for_all)
 
 -- where an address has its middle part
 mid_is : (head mid tail octets : List ℕ) → octets ≡ padded (head ++ (mid ++ tail)) → take (length mid) (drop (length head) octets) ≡ mid
@@ -64,14 +37,10 @@ mids_once head tail size (a ∷ addrs) text more h k =
     h.5 ∙ ap (λ (l : List ℕ). l ++ h.1) mid ∙ ap (λ (l : List ℕ). k.0 ++ l) (mids_once head tail size addrs h.1 k.1 h.4 k.4) ∙ sym k.5
 
 tail_rank_small : (f z : Bool) → tail_rank f z ≤ 2
-tail_rank_small true z = omega arith
-tail_rank_small false true = omega arith
-tail_rank_small false false = omega arith
+tail_rank_small f z = grind (arith, common_steps)
 
 form_rank_small : (o e : Bool) → form_rank o e ≤ 2
-form_rank_small true e = omega arith
-form_rank_small false true = omega arith
-form_rank_small false false = omega arith
+form_rank_small o e = grind (arith, common_steps)
 
 -- what a rank tells, where tails have at most 16 octets
 told : (h t n p h' t' n' p' : ℕ) → t ≤ 2 → t' ≤ 2 → n ≤ 16 → n' ≤ 16 → p ≤ 2 → p' ≤ 2 → ((h * 3 + t) * 17 + n) * 3 + p ≡ ((h' * 3 + t') * 17 + n') * 3 + p' → (h ≡ h') × (t ≡ t') × (n ≡ n') × (p ≡ p')

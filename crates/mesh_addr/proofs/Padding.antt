@@ -1,5 +1,5 @@
 -- Octets laid one after the other where zeros stand.
-use Rattle.mesh_addr.proofs.Common.{◌≡◌, ℕ, ◌+◌, ◌-◌, ◌≤◌, List, ◌++◌, length, take, drop, refl, sym, ap, subst, ◌∙◌, arith, length-append, append_assoc, replicate, slice_range, take_at, length-replicate, drop-replicate, take-append-drop, take-put_mid, drop-put_mid, range_split, padded}
+use Rattle.mesh_addr.proofs.Common.{common_steps, ◌≡◌, ℕ, ◌+◌, ◌-◌, ◌≤◌, List, ◌++◌, length, take, drop, refl, sym, ap, subst, ◌∙◌, arith, length-append, append_assoc, replicate, slice_range, take_at, drop-replicate, take-append-drop, take-put_mid, drop-put_mid, range_split, padded}
 use Rattle.std.proofs.Math.Seq.{drop-append-add, drop-append_seam}
 use borrow.Rule.Slice.PartMut.{put_mid}
 
@@ -7,17 +7,7 @@ abbrev pub zeros : ℕ → List ℕ
 zeros n = replicate n 0
 
 pub laid : (front piece old new : List ℕ) (at : ℕ) → at ≡ length front → old ≡ padded front → at + length piece ≤ 16 → new ≡ piece → put_mid at (at + length piece - at) old new ≡ padded (front ++ piece)
-laid front piece old new at at_is old_is fits is =
-    let n : ℕ = at + length piece in
-    let k : at + length piece - at ≡ length piece = omega arith in
-    let size : length old ≡ 16 = ap length old_is ∙ length-append front (zeros (16 - length front)) ∙ omega (arith, length-replicate {A = ℕ} (16 - length front) 0) in
-    let put : List ℕ = put_mid at (length piece) old piece in
-    let low : take n put ≡ front ++ piece = take-put_mid at (length piece) old piece n refl (omega arith) ∙ ap (λ (l : List ℕ). l ++ piece) (ap (take at) old_is ∙ take_at front (zeros (16 - length front)) at (sym at_is)) in
-    let place : n ≡ length front + length piece = omega arith in
-    let high : drop n put ≡ zeros (16 - length (front ++ piece)) =
-    drop-put_mid at (length piece) old piece n (omega arith) (omega arith) refl ∙ ap (drop n) old_is ∙ ap (λ (m : ℕ). drop m (padded front)) place
-    ∙ drop-append-add front (zeros (16 - length front)) (length piece) ∙ drop-replicate {X = ℕ} (length piece) (16 - length front) 0 ∙ ap zeros (omega (arith, length-append front piece)) in
-    rw (is, k) (sym (take-append-drop n put) ∙ ap (λ (l : List ℕ). l ++ drop n put) low ∙ ap (λ (l : List ℕ). (front ++ piece) ++ l) high)
+laid front piece old new at at_is old_is fits is = grind (arith, common_steps, take-put_mid, drop-put_mid, drop-replicate)
 
 -- the same over a part as long
 pub relaid : (head gap tail mid old new : List ℕ) (at : ℕ) → at ≡ length head → length gap ≡ length mid → old ≡ padded (head ++ (gap ++ tail)) → new ≡ mid → put_mid at (at + length mid - at) old new ≡ padded (head ++ (mid ++ tail))

@@ -1,5 +1,5 @@
 -- What is spelled is read, whatever follows.
-use Rattle.mesh_addr.proofs.Common.{◌≡◌, ℕ, zero, suc, ◌+◌, ◌-◌, ◌*◌, ◌<◌, ◌≤◌, Bool, true, false, List, [], ◌∷◌, ◌++◌, length, Option, Some, None, Result, Ok, refl, sym, ap, subst, ◌∙◌, arith, length-append, common_steps, slice_range, replicate, ◌&&◌, le-ltb, ne_eqb, suc-mul, Refusal, ◌>>=◌, has, Stands, stands_first, stands_next, octet_again, front_is, piece_again, RawAddr, padded, SpellsHead, SpellsTail, SpellsMids, SpellsPrefixes, AreAll, AreAtMost, prefixes, SpellsBlock, ShapeFields, addr_of, count_at, flags_at, number_at, counted_at, head_at, tail_at, parts_end, prefix_at, common_at, addrs_at, block_at}
+use Rattle.mesh_addr.proofs.Common.{◌≡◌, ℕ, zero, suc, ◌+◌, ◌-◌, ◌*◌, ◌<◌, ◌≤◌, Bool, true, false, List, [], ◌∷◌, ◌++◌, length, Option, Some, None, Result, Ok, refl, sym, ap, subst, ◌∙◌, arith, length-append, slice_range, replicate, ◌&&◌, common_steps, le-ltb, ne_eqb, suc-mul, Refusal, ◌>>=◌, has, Stands, stands_first, stands_next, octet_again, front_is, piece_again, RawAddr, padded, SpellsHead, SpellsTail, SpellsMids, SpellsPrefixes, AreAll, AreAtMost, prefixes, SpellsBlock, ShapeFields, addr_of, count_at, flags_at, number_at, counted_at, head_at, tail_at, parts_end, prefix_at, common_at, addrs_at, block_at}
 use Rattle.mesh_atoms.proofs.Lists.{heads_equal, tails_equal}
 
 abbrev done : {A : Type 0} → A → Result A Refusal
@@ -28,8 +28,7 @@ nothing_read at = let e : at ≡ at + 0 = omega arith in ap (λ (n : ℕ). done 
 
 pub head_again : (s : List ℕ) (flags at width : ℕ) (head text rest : List ℕ) (end : ℕ) (b : Bool) → has flags 128 ≡ b → SpellsHead b head text → length head ≤ width → Stands s at text rest end → head_at s flags at end width ≡ Ok (head, at + length text)
 unfolding head_at
-head_again s flags at width head text rest end true is h le stands = rw (is, h) (counted_again s at width head rest end (subst (λ (l : List ℕ). Stands s at l rest end) h stands) le)
-head_again s flags at width head text rest end false is h le stands = rw (is, h.0, h.1) (nothing_read at)
+head_again s flags at width head text rest end b is h le stands = grind (arith, common_steps, counted_again, nothing_read)
 
 pub tail_again : (s : List ℕ) (flags at room : ℕ) (tail text rest : List ℕ) (end : ℕ) (full zeros : Bool) → has flags 64 ≡ full → has flags 32 ≡ zeros → SpellsTail full zeros tail text → length tail ≤ room → Stands s at text rest end → tail_at s flags at end room ≡ Ok (tail, at + length text)
 unfolding tail_at
@@ -41,14 +40,10 @@ tail_again s flags at room tail text rest end false false is is' h le stands = r
 tail_again s flags at room tail text rest end true true is is' h le stands = absurd h
 
 tails_apart : (full zeros : Bool) (tail text : List ℕ) → SpellsTail full zeros tail text → full && zeros ≡ false
-tails_apart true true tail text h = absurd h
-tails_apart true false tail text h = refl
-tails_apart false zeros tail text h = refl
+tails_apart full zeros tail text h = grind (arith, common_steps)
 
 prefixes_apart : (one each : Bool) (most : ℕ) (ps text : List ℕ) → SpellsPrefixes one each most ps text → one && each ≡ false
-prefixes_apart true true most ps text h = absurd h
-prefixes_apart true false most ps text h = refl
-prefixes_apart false each most ps text h = refl
+prefixes_apart one each most ps text h = grind (arith, common_steps)
 
 pub parts_again : (n at end size : ℕ) → at + n * size ≤ end → parts_end n at end size ≡ Ok (at + n * size)
 unfolding parts_end
@@ -99,8 +94,7 @@ module _ (s : List ℕ) (end width : ℕ) (head tail : List ℕ) where
   prefixes_again flags addrs mid_at at mids text rest others false false is is' h k stands stands' = grind (arith, common_steps, common_again)
   prefixes_again flags addrs mid_at at mids text rest others true false is is' h k stands stands' =
       rw (is, prefix_again s at k.0 width others end (subst (λ (l : List ℕ). Stands s at l others end) k.3 stands') k.1, common_again k.0 addrs mid_at (at + 1) mids rest h k.2 stands, k.3) refl
-  prefixes_again flags addrs mid_at at mids text rest others false true is is' h k stands stands' =
-      rw (is, is', k.1) (each_again addrs mid_at at mids rest others h k.0 stands (subst (λ (l : List ℕ). Stands s at l others end) k.1 stands'))
+  prefixes_again flags addrs mid_at at mids text rest others false true is is' h k stands stands' = grind (arith, common_steps, each_again)
   prefixes_again flags addrs mid_at at mids text rest others true true is is' h k stands stands' = absurd k
 
 pub mids_long : (head tail : List ℕ) (part : ℕ) (addrs : List RawAddr) (text : List ℕ) → SpellsMids head tail part addrs text → length text ≡ length addrs * part

@@ -1,5 +1,5 @@
 -- A first fault is the one that is refused.
-use Rattle.mesh_addr.proofs.Common.{◌≡◌, ℕ, zero, suc, ◌+◌, ◌-◌, ◌*◌, ◌<◌, ◌≤◌, Bool, true, false, cond, List, [], ◌∷◌, ◌++◌, length, None, Ok, refl, sym, ap, subst, ◌∙◌, arith, length-append, slice_range, ◌&&◌, ◌||◌, le-ltb, lt-ltb, suc-mul, ◌>>=◌, refuse, has, Stands, behind, stands_first, stands_next, octet_again, octet_cut, piece_cut, AreAtMost, CountedFault, ZerosFault, PrefixFault, BeginsBlock, Shaped, BlockFault, prefix_count, count_at, flags_at, number_at, counted_at, head_at, tail_at, parts_end, prefix_at, common_at, addrs_at, block_at}
+use Rattle.mesh_addr.proofs.Common.{common_steps, ◌≡◌, ℕ, zero, suc, ◌+◌, ◌-◌, ◌*◌, ◌<◌, ◌≤◌, Bool, true, false, cond, List, [], ◌∷◌, ◌++◌, length, None, Ok, refl, sym, ap, subst, ◌∙◌, arith, length-append, slice_range, ◌&&◌, ◌||◌, le-ltb, lt-ltb, suc-mul, ◌>>=◌, refuse, has, Stands, behind, stands_first, stands_next, octet_again, octet_cut, piece_cut, CountedFault, ZerosFault, PrefixFault, BeginsBlock, Shaped, BlockFault, count_at, flags_at, number_at, counted_at, head_at, tail_at, parts_end, prefix_at, common_at, addrs_at, block_at}
 use Rattle.mesh_addr.specs.Grammar as fault
 use Rattle.mesh_addr.proofs.ReadAgain.{count_again, flags_again, number_again, head_again, tail_again, parts_again, prefix_again}
 use Rattle.mesh_addr.proofs.Loops.{next_part}
@@ -59,12 +59,10 @@ module _ (s : List ℕ) (end : ℕ) (fits : end ≤ length s) where
       rw (prefix_again s at x width (before ++ p ∷ rest) end one h.0, addrs_fault n width (mid + (width - (length head + length tail))) (at + 1) (length before) 11 head tail (omega (arith, b.1)) (omega arith) (before ++ p ∷ rest) b.0 (fault.PrefixFault.prefix_above before p rest refl h.1 above)) (moved (at + 1 + length before) (at + suc (length before)) 11 (omega arith))
 
   and_left : (a b : Bool) → a && b ≡ false → b ≡ true → a ≡ false
-  and_left true b e is = absurd (cc)
-  and_left false b e is = refl
+  and_left a b e is = grind (arith, common_steps)
 
   or_right : (a b : Bool) → b ≡ true → a || b ≡ true
-  or_right true b e = refl
-  or_right false b e = e
+  or_right a b e = grind (arith, common_steps)
 
   -- what is read of a block that begins so
   record Begun (at count flags : ℕ) (rest : List ℕ) : Type 0 where

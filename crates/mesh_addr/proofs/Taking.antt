@@ -1,5 +1,5 @@
 -- What is read is spelled so, and what is refused has its first fault there.
-use Rattle.mesh_addr.proofs.Common.{◌≡◌, ℕ, zero, suc, ◌+◌, ◌-◌, ◌*◌, ◌<◌, ◌≤◌, Bool, true, false, eqb, ltb, List, [], ◌∷◌, ◌++◌, length, Option, Some, None, refl, sym, ap, subst, ◌∙◌, arith, inl, inr, ◌⊎◌, common_steps, slice_range, MatchResult, replicate, ◌&&◌, ltb-false, ltb-true, eqb-true, eqb-false, or_cases as or_true, or_parts as or_false, length-replicate, suc-mul, MatchResult-weaker, Refusal, has, octet_at, piece_at, meets_bind, meets_if, range_length, Takes, takes_none, takes_both, Faulty, octet_takes, piece_takes, RawAddr, SpellsHead, SpellsTail, SpellsMids, SpellsPrefixes, AreAll, AreAtMost, prefixes, SpellsBlock, CountedFault, ZerosFault, PrefixFault, BeginsBlock, Shaped, BlockFault, prefix_count, ShapeFields, mid_of, clashes, count_at, flags_at, number_at, counted_at, head_at, tail_at, parts_end, prefix_at, common_at, own_at, addrs_at, block_at}
+use Rattle.mesh_addr.proofs.Common.{◌≡◌, ℕ, zero, suc, ◌+◌, ◌-◌, ◌*◌, ◌<◌, ◌≤◌, Bool, true, false, eqb, ltb, List, [], ◌∷◌, ◌++◌, length, Option, Some, None, refl, sym, ap, subst, ◌∙◌, arith, inl, inr, ◌⊎◌, slice_range, MatchResult, replicate, ◌&&◌, common_steps, ltb-false, ltb-true, eqb-true, eqb-false, or_cases as or_true, or_parts as or_false, length-replicate, suc-mul, MatchResult-weaker, Refusal, has, octet_at, piece_at, meets_bind, meets_if, range_length, Takes, takes_none, takes_both, Faulty, octet_takes, piece_takes, RawAddr, SpellsHead, SpellsTail, SpellsMids, SpellsPrefixes, AreAll, AreAtMost, prefixes, SpellsBlock, CountedFault, ZerosFault, PrefixFault, BeginsBlock, Shaped, BlockFault, prefix_count, ShapeFields, mid_of, clashes, count_at, flags_at, number_at, counted_at, head_at, tail_at, parts_end, prefix_at, common_at, own_at, addrs_at, block_at}
 use Rattle.mesh_addr.proofs.Padding.{split_at}
 use Rattle.mesh_addr.specs.Grammar as fault
 use Rattle.mesh_addr.proofs.Loops.{next_part}
@@ -162,12 +162,10 @@ own_takes s (Some p) at end width le fits = ([], (refl, refl), takes_none s at e
 own_takes s None at end width le fits = MatchResult-weaker (prefix_at s at end width) {P = Took s at end (IsPrefix width)} {P' = Took s at end (IsOwn None (8 * width))} {Q = OnePrefixFault width s at end} {Q' = λ e. (◌≡◌ {A = Option ℕ} None None) × OnePrefixFault width s at end e} (prefix_takes s at end width fits) (λ x t. t) (λ e h. (refl, h))
 
 own_none : (o : Option ℕ) (most : ℕ) → AreOwn o most [] []
-own_none (Some p) most = (refl, refl)
-own_none None most = (tt, refl)
+own_none o most = grind (arith, common_steps)
 
 own_more : (o : Option ℕ) (most q : ℕ) (qs text more : List ℕ) → IsOwn o most q text → AreOwn o most qs more → AreOwn o most (q ∷ qs) (text ++ more)
-own_more (Some p) most q qs text more h k = (rw h.0 (ap (λ (l : List ℕ). p ∷ l) k.0), rw (h.1, k.1) refl)
-own_more None most q qs text more h k = ((h.0, k.0), rw (h.1, k.1) refl)
+own_more o most q qs text more h k = grind (arith, common_steps)
 
 prefix_behind : (most q k reason : ℕ) (rest : List ℕ) → q ≤ most → PrefixFault most rest k reason → PrefixFault most (q ∷ rest) (suc k) reason
 prefix_behind most q k reason rest le (fault.PrefixFault.no_prefix h) = fault.PrefixFault.no_prefix (le, h)
@@ -207,9 +205,7 @@ addrs_take (suc n) s shape mid at end le fits room =
     )))
 
 prefixes_spelled : (one each : Bool) (width : ℕ) (o : Option ℕ) (ps text more : List ℕ) → IsCommon one each width o text → AreOwn o (8 * width) ps more → SpellsPrefixes one each (8 * width) ps (text ++ more)
-prefixes_spelled one each width (Some p) ps text more (inl h) k = rw (h.0, h.1) (p, h.2, k.0, rw (h.3, k.1) refl)
-prefixes_spelled one each width (Some p) ps text more (inr h) k = rw (h.0, h.1) (subst (λ (q : ℕ). AreAll q ps) h.2 k.0, rw (h.3, k.1) refl)
-prefixes_spelled one each width None ps text more h k = rw (h.0, h.1) (k.0, rw (h.2, k.1) refl)
+prefixes_spelled one each width o ps text more h7 k = grind (arith, common_steps)
 
 abbrev pub IsFault : ℕ → List ℕ → ℕ → ℕ → Refusal → Type 0
 IsFault width s at end e = Faulty at (BlockFault width (slice_range s at end)) e

@@ -1,5 +1,5 @@
 -- What is read meets the writer's conditions.
-use Rattle.mesh_addr.proofs.Common.{◌≡◌, ℕ, ◌+◌, ◌-◌, ◌*◌, ◌<◌, ◌≤◌, Bool, true, false, List, [], ◌∷◌, ◌++◌, length, get_or, take, drop, sym, ap, ◌∙◌, arith, length-append, slice_range, replicate, take_at, length-take, RawAddr, padded, SpellsMids, SpellsPrefixes, AreAll, AreAtMost, AreRaw, IsWritable, prefixes, SpellsBlock}
+use Rattle.mesh_addr.proofs.Common.{common_steps, ◌≡◌, ℕ, ◌+◌, ◌-◌, ◌*◌, ◌<◌, ◌≤◌, Bool, List, [], ◌∷◌, ◌++◌, length, get_or, take, drop, sym, ap, ◌∙◌, arith, length-append, slice_range, replicate, length-take, take_at, RawAddr, padded, SpellsMids, SpellsPrefixes, AreAll, AreAtMost, AreRaw, IsWritable, prefixes, SpellsBlock}
 use Rattle.std.proofs.lemmas.List.Edits.{get_or-between}
 use Rattle.mesh_addr.proofs.ReadAgain.{first_all}
 pub use Rattle.std.proofs.lemmas.Result.{IfOk-weaker as if_ok}
@@ -9,10 +9,7 @@ all_most p most [] le h = tt
 all_most p most (q ∷ ps) le h = let all = first_all p q ps h in (rw all.0 le, all_most p most ps le all.1)
 
 prefixes_most : (one each : Bool) (most : ℕ) (ps text : List ℕ) → SpellsPrefixes one each most ps text → AreAtMost most ps
-prefixes_most false false most ps text h = all_most most most ps (omega arith) h.0
-prefixes_most true false most ps text h = all_most h.0 most ps h.1 h.2
-prefixes_most false true most ps text h = h.0
-prefixes_most true true most ps text h = absurd h
+prefixes_most one each most ps text h = grind (arith, common_steps, all_most)
 
 raw_so : (w : ℕ) (head tail : List ℕ) → length head + length tail ≤ w → (addrs : List RawAddr) (text : List ℕ) → SpellsMids head tail (w - (length head + length tail)) addrs text → AreAtMost (8 * w) (prefixes addrs) → AreRaw w addrs
 raw_so w head tail fits [] text h k = tt

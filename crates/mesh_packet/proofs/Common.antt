@@ -26,9 +26,9 @@ pub use Rattle.mesh_tlv.specs.Items.{FirstFaultAt, ItemsFault, SpellsItems, item
 pub use Rattle.mesh_tlv.specs.Least.{AreTooLong, flag, least_addr_tlv, least_block, least_short, least_tlv}
 pub use Rattle.mesh_tlv.specs.Reading.{addr_tlv_at, block_at, tlv_at}
 pub use Rattle.std.proofs.Common.{All, Bool, Err, IfOk, List, MatchResult, None, Ok, Option, Result, Some, [], ap, append_assoc, arith, drop, eqb, false, get_or, inl, inr, length, length-append, ltb, map, refl, replicate, slice_get, slice_range, subst, suc, sym, take, true, zero, ℕ, ◌%◌, ◌&&◌, ◌*◌, ◌++◌, ◌+◌, ◌-◌, ◌/◌, ◌<◌, ◌||◌, ◌∙◌, ◌∷◌, ◌≡◌, ◌≤◌, ◌⊎◌}
-pub use Rattle.std.proofs.lemmas.Bool.{and_parts, eq-eqb, eqb-false, eqb-true, le-ltb, lt-ltb, ltb-false, ltb-true, ne_eqb, or_cases, or_parts}
+pub use Rattle.std.proofs.lemmas.Bool.{and_parts, eq-eqb, eqb-false, eqb-true, le-ltb, lt-ltb, ltb-false, ltb-true, or_cases, or_parts}
 pub use Rattle.std.proofs.lemmas.Grind.{common_steps}
-pub use Rattle.std.proofs.lemmas.List.{append-nil, get_or-append-add, get_or_append_left, get_or_past, length-drop, length-replicate, length-take, map_push, take-append-drop, take_all, take_at}
+pub use Rattle.std.proofs.lemmas.List.{append-nil, get_or-append-add, get_or_append_left, get_or_past, length-drop, length-take, map_push, take-append-drop, take_all}
 pub use Rattle.std.proofs.lemmas.List.Elements.{All-cons, All-head, All-nil, All-tail}
 pub use Rattle.std.proofs.lemmas.Result.{IfOk-weaker, MatchResult-weaker, err_from_is_err_and, on_ok_weaker}
 pub use Rattle.std.specs.List.{flat_map, sum_by, zip}

@@ -1,5 +1,5 @@
 -- What octets spell can be encoded.
-use Rattle.mesh_packet.proofs.Common.{◌≡◌, ℕ, ◌+◌, ◌-◌, ◌<◌, ◌≤◌, Bool, true, false, List, [], ◌∷◌, ◌++◌, length, get_or, Option, Some, None, refl, sym, subst, arith, common_steps, All, slice_range, take_all, take_at, get_or_append_left, get_or-append-add, get_or_past, All-nil, All-cons, ltb-true, ltb-false, ltb, has, RawAddr, SpellsItems, Span, BlockFields, MessageFields, PacketFields, SpellsOriginator, SpellsPair, SpellsBody, SpellsMessage, SpellsMessages, Spells, width_of, IsPaddedOriginator, IsEncodableBlock, IsEncodableMessage, IsEncodable}
+use Rattle.mesh_packet.proofs.Common.{◌≡◌, ℕ, ◌+◌, ◌-◌, ◌<◌, ◌≤◌, Bool, true, false, List, [], ◌∷◌, ◌++◌, length, get_or, Option, refl, sym, subst, arith, All, slice_range, ltb, common_steps, take_all, get_or_append_left, get_or-append-add, get_or_past, All-nil, All-cons, ltb-true, ltb-false, has, RawAddr, SpellsItems, Span, BlockFields, MessageFields, PacketFields, SpellsOriginator, SpellsPair, SpellsBody, SpellsMessage, SpellsMessages, Spells, width_of, IsPaddedOriginator, IsEncodableBlock, IsEncodableMessage, IsEncodable}
 use Rattle.mesh_addr.specs.Grammar as addresses
 use Rattle.mesh_addr.proofs.Writable.{spelled_writable}
 use Rattle.mesh_tlv.proofs.Fit.{all_fit}
@@ -40,10 +40,7 @@ pair_encodable width wide narrow x text octets h = record {
 }
 
 originator_whole : (set : Bool) (width : ℕ) (x : Option RawAddr) (text : List ℕ) → SpellsOriginator set width x text → IsPaddedOriginator width x
-originator_whole true width (Some a) text h = grind (arith, common_steps, take_at)
-originator_whole true width None text h = absurd h
-originator_whole false width (Some a) text h = absurd h
-originator_whole false width None text h = tt
+originator_whole set width x text h = grind (arith, common_steps)
 
 message_encodable : (m : MessageFields) (text : List ℕ) → AreOctets text → SpellsMessage m text → IsEncodableMessage m
 message_encodable m text octets h =

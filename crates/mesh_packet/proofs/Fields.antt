@@ -1,5 +1,5 @@
 -- The fields of a fixed size that a flag says are there: read, spelled and cut off.
-use Rattle.mesh_packet.proofs.Common.{◌≡◌, ℕ, ◌+◌, ◌*◌, ◌<◌, ◌≤◌, Bool, true, false, List, [], ◌∷◌, length, Option, Some, None, Ok, refl, sym, ap, subst, ◌∙◌, arith, MatchResult, slice_range, MatchResult-weaker, Refusal, SpellsShort, Reading, refuse, octet_at, short_at, piece_at, meets_bind, Takes, takes_none, Stands, octet_takes, octet_again, octet_cut, short_takes, short_again, short_cut, two_long, piece_takes, piece_again, piece_cut, single_of, RawAddr, padded, SpellsIf, SpellsOctet, SpellsNumber, SpellsAddress, SpellsOriginator, size_if, if_flagged, octet_if, short_if, address_at, originator_if}
+use Rattle.mesh_packet.proofs.Common.{common_steps, ◌≡◌, ℕ, ◌+◌, ◌*◌, ◌<◌, ◌≤◌, Bool, true, false, List, [], ◌∷◌, length, Option, Some, None, Ok, refl, sym, ap, subst, ◌∙◌, arith, MatchResult, slice_range, MatchResult-weaker, Refusal, SpellsShort, Reading, refuse, octet_at, short_at, piece_at, meets_bind, Takes, takes_none, Stands, octet_takes, octet_again, octet_cut, short_takes, short_again, short_cut, two_long, piece_takes, piece_again, piece_cut, single_of, RawAddr, padded, SpellsIf, SpellsOctet, SpellsNumber, SpellsAddress, SpellsOriginator, size_if, if_flagged, octet_if, short_if, address_at, originator_if}
 
 -- the fault of a field that is cut off
 abbrev pub IsCut : List ℕ → ℕ → ℕ → ℕ → Refusal → Type 0
@@ -35,24 +35,7 @@ flagged {A} true read Says size field = record {
   long : (x : Option A) (text : List ℕ) → SpellsIf true Says x text → length text ≡ size
   long (Some n) text e = field.long n text e
   long None text e = absurd e
-flagged {A} false read Says size field = record {
-  takes = λ s at end le fits. ([], refl, takes_none s at end le);
-  again = again;
-  cut = λ s at end fits short. absurd (omega arith);
-  long = long;
-  some = some;
-} where
-  again : (s : List ℕ) (at : ℕ) (x : Option A) (text rest : List ℕ) (end : ℕ) → Stands s at text rest end → SpellsIf false Says x text → if_flagged false at (read s at end) ≡ Ok (x, at + length text)
-  again s at None text rest end h e = let z : at ≡ at + length text = omega (arith, ap length e) in ap (λ (k : ℕ). Ok (None, k)) z
-  again s at (Some n) text rest end h e = absurd e
-
-  long : (x : Option A) (text : List ℕ) → SpellsIf false Says x text → length text ≡ 0
-  long None text e = ap length e
-  long (Some n) text e = absurd e
-
-  some : (text : List ℕ) → length text ≡ 0 → (x : Option A) × SpellsIf false Says x text
-  some [] e = (None, refl)
-  some (n ∷ l) e = absurd (omega arith)
+flagged {A} false read Says size field = grind (arith, common_steps, takes_none)
 
 octet : IsField (octet_at 1) (λ n bytes. bytes ≡ n ∷ []) 1
 octet = record {

@@ -1,5 +1,5 @@
 -- Each flag and the width are told from the sum that is written, by trying all sums.
-use Rattle.mesh_packet.proofs.Common.{◌≡◌, ℕ, zero, suc, ◌+◌, ◌%◌, ◌<◌, ◌≤◌, Bool, true, false, ◌&&◌, eqb, refl, sym, subst, arith, and_parts, eqb-true, eqb-false, has, flag}
+use Rattle.mesh_packet.proofs.Common.{common_steps, ◌≡◌, ℕ, zero, suc, ◌+◌, ◌%◌, ◌<◌, ◌≤◌, Bool, true, ◌&&◌, eqb, refl, arith, and_parts, eqb-true, has, flag}
 use Rattle.mesh_tlv.proofs.Trying.{both, both_is, same, same_is}
 
 -- of all numbers below
@@ -8,8 +8,7 @@ below zero f = true
 below (suc n) f = f n && below n f
 
 at_last : (n : ℕ) (f : ℕ → Bool) (i : ℕ) → i < suc n → f n ≡ true → (i < n → f i ≡ true) → (b : Bool) → eqb i n ≡ b → f i ≡ true
-at_last n f i lt last before true e = subst (λ (k : ℕ). f k ≡ true) (sym (eqb-true i n e)) last
-at_last n f i lt last before false e = before (omega (arith, lt, eqb-false i n e))
+at_last n f i lt last before b e = grind (arith, common_steps)
 
 below_is : (n : ℕ) (f : ℕ → Bool) → below n f ≡ true → (i : ℕ) → i < n → f i ≡ true
 below_is zero f h i lt = absurd (omega (arith, lt))
@@ -51,8 +50,7 @@ pub tells_4 : (a b : Bool) → has (flag a 8 + flag b 4) 4 ≡ b
 tells_4 a b = same_is _ _ (both_is (λ b. same (has (flag a 8 + flag b 4) 4) b) (both_is (λ a. both (λ b. same (has (flag a 8 + flag b 4) 4) b)) refl a) b)
 
 flag_most : (a : Bool) (n : ℕ) → flag a n ≤ n
-flag_most true n = omega arith
-flag_most false n = omega arith
+flag_most a n = grind (arith, common_steps)
 
 pub version_none : (a b : Bool) → flag a 8 + flag b 4 < 16
 version_none a b = omega (arith, flag_most a 8, flag_most b 4)

@@ -1,5 +1,5 @@
 -- Where a message's head is cut off it is refused there, and octets of its size always are one.
-use Rattle.mesh_packet.proofs.Common.{◌≡◌, ℕ, ◌+◌, ◌-◌, ◌≤◌, List, ◌++◌, length, take, drop, Option, Ok, refl, sym, ap, subst, ◌∙◌, arith, common_steps, slice_range, length-take, length-drop, take-append-drop, Reading, refuse, has, Stands, behind, range_length, RawAddr, MessageHeader, SpellsMessageHead, HeadCut, originator_cut, limit_cut, count_cut, sequence_cut, width_of, originator_size, limit_size, count_size, head_size, head_at}
+use Rattle.mesh_packet.proofs.Common.{◌≡◌, ℕ, ◌+◌, ◌-◌, ◌≤◌, List, ◌++◌, length, take, drop, Option, Ok, sym, ap, subst, ◌∙◌, arith, slice_range, common_steps, length-take, length-drop, take-append-drop, Reading, refuse, has, Stands, behind, range_length, RawAddr, MessageHeader, SpellsMessageHead, HeadCut, originator_cut, limit_cut, count_cut, sequence_cut, width_of, originator_size, limit_size, count_size, head_size, head_at}
 use Rattle.mesh_packet.proofs.Fields.{IsField, octet_field, number_field, originator_field}
 
 -- octets of the head's size are a head
@@ -62,9 +62,7 @@ passes {A} read Says size field s at end le fits enough =
 pub head_cut_again : (flags : ℕ) (s : List ℕ) (at end place : ℕ) → at ≤ end → end ≤ length s → HeadCut flags (slice_range s at end) place → head_at flags s at end ≡ refuse (at + place) 1
 unfolding head_at
 head_cut_again flags s at end place le fits (originator_cut cut) = grind (arith, common_steps, originator_field)
-head_cut_again flags s at end place le fits (limit_cut enough cut) =
-    let p1 = passes _ _ (originator_size flags) (originator_field (has flags 128) (width_of flags)) s at end le fits enough in
-    rw (p1.reads, (octet_field (has flags 64)).cut s (at + originator_size flags) end fits (omega (arith, cut, p1.left))) refl
+head_cut_again flags s at end place le fits (limit_cut enough cut) = grind (arith, common_steps, originator_size, originator_field, octet_field)
 head_cut_again flags s at end place le fits (count_cut enough cut) =
     let n1 : ℕ = originator_size flags in
     let n2 : ℕ = limit_size flags in

@@ -1,5 +1,5 @@
 -- What a message has before its TLVs: read, spelled and cut off.
-use Rattle.mesh_packet.proofs.Common.{◌≡◌, ℕ, ◌+◌, ◌<◌, ◌≤◌, List, ◌++◌, length, Option, Ok, ap, subst, ◌∙◌, arith, append_assoc, common_steps, MatchResult, slice_range, length-append, Refusal, has, meets_bind, Takes, takes_both, Stands, stands_first, stands_next, RawAddr, MessageHeader, SpellsMessageHead, HeadCut, originator_cut, limit_cut, count_cut, sequence_cut, width_of, originator_size, limit_size, count_size, sequence_size, head_size, octet_if, short_if, originator_if, head_at}
+use Rattle.mesh_packet.proofs.Common.{◌≡◌, ℕ, ◌+◌, ◌<◌, ◌≤◌, List, ◌++◌, length, Option, Ok, ap, subst, ◌∙◌, arith, append_assoc, MatchResult, slice_range, length-append, common_steps, Refusal, has, meets_bind, Takes, takes_both, Stands, stands_first, stands_next, RawAddr, MessageHeader, SpellsMessageHead, HeadCut, originator_cut, limit_cut, count_cut, sequence_cut, width_of, originator_size, limit_size, count_size, sequence_size, head_size, octet_if, short_if, originator_if, head_at}
 use Rattle.mesh_packet.proofs.Fields.{Took, octet_field, number_field, originator_field}
 
 abbrev pub SpellsOpening : ℕ → MessageHeader → List ℕ → Type 0

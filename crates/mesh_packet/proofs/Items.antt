@@ -1,5 +1,5 @@
 -- Items of a list, one after the other: put there one by one, and parted at one of them.
-use Rattle.mesh_packet.proofs.Common.{◌≡◌, ℕ, zero, suc, ◌+◌, ◌<◌, ◌≤◌, List, [], ◌∷◌, ◌++◌, length, map, take, get_or, refl, sym, ap, subst, ◌∙◌, arith, append_assoc, common_steps, append-nil, length-append, take_all, map_push, SpellsItems, Passes, Wrote}
+use Rattle.mesh_packet.proofs.Common.{◌≡◌, ℕ, zero, suc, ◌+◌, ◌<◌, List, [], ◌∷◌, ◌++◌, length, map, take, get_or, refl, sym, ap, subst, ◌∙◌, arith, append_assoc, length-append, common_steps, append-nil, map_push, SpellsItems, Passes, Wrote}
 use Rattle.std.proofs.Math.Seq.{take-suc}
 use Rattle.mesh_packet.proofs.OneForm.{HasOneText, items_once}
 
@@ -31,15 +31,9 @@ module _ {A B : Type 0} (view : A → B) (Says : B → List ℕ → Type 0) wher
         whole = h.4 ∙ ap (λ (l : List ℕ). h.0 ++ l) p.whole ∙ sym (append_assoc h.0 p.front (p.one ++ p.rest));
       }
 
-  pub wrote_none : (old : List ℕ) → Wrote (SpellsItems Says []) old old
-  wrote_none old = ([], sym (append-nil old), refl)
-
   -- the next item of a loop
   pub wrote_next : (xs : List A) (i : ℕ) (x : A) (old mid new : List ℕ) → i < length xs → x ≡ get_or xs i x → Wrote (SpellsItems Says (map view (take i xs))) old mid → Wrote (Says (view x)) mid new → Wrote (SpellsItems Says (map view (take (i + 1) xs))) old new
   wrote_next xs i x old mid new lt is h k = grind (arith, common_steps, take-suc, map_push, get_or, append_assoc, items_push)
-
-  pub wrote_all : (xs : List A) (i : ℕ) (old new : List ℕ) → length xs ≤ i → Wrote (SpellsItems Says (map view (take i xs))) old new → Wrote (SpellsItems Says (map view xs)) old new
-  wrote_all xs i old new le h = subst (λ (l : List A). Wrote (SpellsItems Says (map view l)) old new) (take_all i xs le) h
 
   -- behind what was written, the next item passes the limit, and so do all items together
   pub items_pass : HasOneText Says → (xs : List A) (i : ℕ) (x : A) (old mid : List ℕ) → i < length xs → x ≡ get_or xs i x → Wrote (SpellsItems Says (map view (take i xs))) old mid → Passes (Says (view x)) (length mid) → Passes (SpellsItems Says (map view xs)) (length old)

@@ -1,5 +1,5 @@
 -- Each address block that can be written has a least spelling: the best of all choices is found by trying each.
-use Rattle.mesh_packet.proofs.Common.{◌≡◌, ℕ, zero, suc, ◌+◌, ◌-◌, ◌<◌, ◌≤◌, ◌⊎◌, inl, inr, Bool, true, false, ltb, eqb, List, [], ◌∷◌, length, take, refl, sym, ap, subst, ◌∙◌, arith, replicate, eqb-true, eqb-false, ltb-true, ltb-false, RawAddr, IsWritable, IsLeast, heads_equal, tails_equal}
+use Rattle.mesh_packet.proofs.Common.{common_steps, ◌≡◌, ℕ, zero, suc, ◌+◌, ◌-◌, ◌<◌, ◌≤◌, ◌⊎◌, inl, inr, List, [], ◌∷◌, length, take, refl, sym, ap, subst, ◌∙◌, arith, replicate, RawAddr, IsWritable, IsLeast, heads_equal, tails_equal}
 use Rattle.mesh_addr.specs.declared.choices.Choice.{Choice}
 use Rattle.mesh_addr.specs.declared.choices.TailForm.{TailForm}
 use Rattle.mesh_addr.specs.declared.choices.TailForm.TheVariants as tails
@@ -12,28 +12,19 @@ abbrev Decided : Type 0 → Type 0
 Decided P = P ⊎ (P → ⊥)
 
 both_decided : {P Q : Type 0} → Decided P → Decided Q → Decided (P × Q)
-both_decided (inl p) (inl q) = inl (p, q)
-both_decided (inr n) q = inr (λ h. n h.0)
-both_decided (inl p) (inr n) = inr (λ h. n h.1)
+both_decided h0 h1 = grind (arith, common_steps)
 
 most_decided : (m n : ℕ) → Decided (m ≤ n)
-most_decided m n = by (ltb n m) refl where
-  by : (b : Bool) → ltb n m ≡ b → Decided (m ≤ n)
-  by true e = inr (λ h. omega (arith, h, ltb-true n m e))
-  by false e = inl (ltb-false n m e)
+most_decided m n = grind (arith, common_steps)
 
 number_decided : (m n : ℕ) → Decided (m ≡ n)
-number_decided m n = by (eqb m n) refl where
-  by : (b : Bool) → eqb m n ≡ b → Decided (m ≡ n)
-  by true e = inl (eqb-true m n e)
-  by false e = inr (eqb-false m n e)
+number_decided m n = grind (arith, common_steps)
 
 no_front : (x : ℕ) (xs : List ℕ) → x ∷ xs ≡ [] → ⊥
 no_front x xs e = absurd (omega (arith, ap length e))
 
 cons_decided : (x y : ℕ) (xs ys : List ℕ) → Decided ((x ≡ y) × (xs ≡ ys)) → Decided (x ∷ xs ≡ y ∷ ys)
-cons_decided x y xs ys (inl h) = inl (rw (h.0, h.1) refl)
-cons_decided x y xs ys (inr n) = inr (λ e. n (heads_equal x y xs ys e, tails_equal x y xs ys e))
+cons_decided x y xs ys h4 = grind (arith, common_steps, heads_equal, tails_equal)
 
 list_decided : (xs ys : List ℕ) → Decided (xs ≡ ys)
 list_decided [] [] = inl refl
@@ -55,11 +46,7 @@ zeros_decided w first (tails.Zeros n) = list_decided (last_octets w n first) (re
 zeros_decided w first (tails.Full n) = inl tt
 
 possible_decided : (w : ℕ) (first : RawAddr) (addrs : List RawAddr) (choice : Choice) → Decided (IsPossible w first addrs choice)
-possible_decided w first addrs choice =
-    told (both_decided (most_decided (choice.head + tail_len choice.tail) w) (both_decided (head_decided first addrs choice.head) (both_decided (tail_decided w first addrs (tail_len choice.tail)) (zeros_decided w first choice.tail)))) where
-      told : Decided ((choice.head + tail_len choice.tail ≤ w) × (ShareHead first addrs choice.head × (ShareTail w first addrs (tail_len choice.tail) × TailFits w first choice.tail))) → Decided (IsPossible w first addrs choice)
-      told (inl h) = inl (record { fits = h.0; heads = h.1.0; tails = h.1.1.0; zeros = h.1.1.1 })
-      told (inr n) = inr (λ p. n (p.fits, (p.heads, (p.tails, p.zeros))))
+possible_decided w first addrs choice = grind (arith, common_steps, both_decided, most_decided, tail_len, head_decided, tail_decided, zeros_decided)
 
 -- ---- the best of some choices
 
@@ -75,22 +62,12 @@ module _ (cost : Choice → ℕ) (Among : Choice → Type 0) (decide : (choice :
     by (inr n) = inl (λ d e k. n (subst Among e k))
 
   sought_fewer : (These Those : Choice → Type 0) → ((c : Choice) → Those c → These c) → Sought These → Sought Those
-  sought_fewer These Those part (inl none) = inl (λ c h. none c (part c h))
-  sought_fewer These Those part (inr x) = inr (x.0, x.1, λ c h. x.2 c (part c h))
+  sought_fewer These Those part h3 = grind (arith, common_steps)
 
   sought_both : (These Those : Choice → Type 0) → Sought These → Sought Those → Sought (λ c. These c ⊎ Those c)
-  sought_both These Those (inl a) (inl b) = inl none where
-    none : (c : Choice) → These c ⊎ Those c → Among c → ⊥
-    none c (inl h) = a c h
-    none c (inr h) = b c h
-  sought_both These Those (inr x) (inl b) = inr (x.0, x.1, least) where
-    least : (c : Choice) → These c ⊎ Those c → Among c → cost x.0 ≤ cost c
-    least c (inl h) k = x.2 c h k
-    least c (inr h) k = absurd (b c h k)
-  sought_both These Those (inl a) (inr y) = inr (y.0, y.1, least) where
-    least : (c : Choice) → These c ⊎ Those c → Among c → cost y.0 ≤ cost c
-    least c (inl h) k = absurd (a c h k)
-    least c (inr h) k = y.2 c h k
+  sought_both These Those (inl a) (inl b) = grind (arith, common_steps)
+  sought_both These Those (inr x) (inl b) = grind (arith, common_steps)
+  sought_both These Those (inl a) (inr y) = grind (arith, common_steps)
   sought_both These Those (inr x) (inr y) = by (most_decided (cost x.0) (cost y.0)) where
     first : cost x.0 ≤ cost y.0 → (c : Choice) → These c ⊎ Those c → Among c → cost x.0 ≤ cost c
     first le c (inl h) k = x.2 c h k
@@ -109,10 +86,7 @@ module _ (cost : Choice → ℕ) (Among : Choice → Type 0) (decide : (choice :
   Below n These c = (i : ℕ) × (i < n) × These i c
 
   last_or_before : (n : ℕ) (These : ℕ → Choice → Type 0) (c : Choice) → Below (suc n) These c → Below n These c ⊎ These n c
-  last_or_before n These c h = by (number_decided h.0 n) where
-    by : Decided (h.0 ≡ n) → Below n These c ⊎ These n c
-    by (inl e) = inr (subst (λ (k : ℕ). These k c) e h.2)
-    by (inr ne) = inl (h.0, omega (arith, h.1, ne), h.2)
+  last_or_before n These c h = grind (arith, common_steps, number_decided)
 
   sought_below : (n : ℕ) (These : ℕ → Choice → Type 0) → ((i : ℕ) → Sought (These i)) → Sought (Below n These)
   sought_below zero These each = inl (λ c h k. absurd (omega (arith, h.1)))
@@ -132,9 +106,7 @@ module _ (cost : Choice → ℕ) (Among : Choice → Type 0) (decide : (choice :
       (sought_both (Below 17 zeros) (Below 17 full) (sought_below 17 zeros (λ n. sought_one (record { head = head; tail = tails.Zeros n }))) (sought_below 17 full (λ n. sought_one (record { head = head; tail = tails.Full n }))))
 
   has_head : (head : ℕ) (tail : TailForm) → head + tail_len tail ≤ 16 → HasHead head (record { head = head; tail = tail })
-  has_head head tails.Absent le = inl refl
-  has_head head (tails.Zeros n) le = inr (inl (n, omega (arith, le), refl))
-  has_head head (tails.Full n) le = inr (inr (n, omega (arith, le), refl))
+  has_head head tail le = grind (arith, common_steps)
 
   small : (c : Choice) → c.head + tail_len c.tail ≤ 16 → Below 17 HasHead c
   small c le = (c.head, omega (arith, le), has_head c.head c.tail le)

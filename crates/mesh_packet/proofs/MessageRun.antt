@@ -1,5 +1,5 @@
 -- Messages one after the other, as the loop over them reads them, with where each stands.
-use Rattle.mesh_packet.proofs.Common.{◌≡◌, ℕ, ◌+◌, ◌-◌, ◌<◌, ◌≤◌, eqb, true, List, [], ◌∷◌, ◌++◌, length, map, Ok, refl, sym, ap, ◌∙◌, arith, length-append, zip, map_push, Fails, items_at, Span, MessageFields, message_at, sized_at, spans_from, messages_at, fails_on}
+use Rattle.mesh_packet.proofs.Common.{common_steps, ◌≡◌, ℕ, ◌+◌, ◌-◌, ◌<◌, ◌≤◌, eqb, true, List, [], ◌∷◌, ◌++◌, length, map, Ok, refl, arith, zip, map_push, Fails, items_at, Span, MessageFields, message_at, sized_at, spans_from, messages_at, fails_on}
 use Rattle.mesh_atoms.specs.declared.refusal.DecodeFault.{DecodeFault}
 use Rattle.mesh_tlv.proofs.Loop.{with_front, goes_on, fails, is_done, is_at_end}
 use Rattle.mesh_packet.proofs.Sizes.{zip_push, zip_firsts, zip_seconds, spans_push, total, total_push}
@@ -21,25 +21,11 @@ pub record SoFar (frame : List ℕ) (at end turns : ℕ) (messages : List Messag
 module _ (frame : List ℕ) (at end turns : ℕ) (messages : List MessageFields) (spans : List Span) (place : ℕ) (h : SoFar frame at end turns messages spans place) where
   pub one_more : turns < end - at → (place ≡ end → ⊥) → (message : MessageFields) (after : ℕ) → message_at frame place end ≡ Ok (message, after) → place ≤ after → SoFar frame at end (turns + 1) (messages ++ message ∷ []) (spans ++ record { start = place; len = after - place } ∷ []) after
   unfolding sized_at
-  one_more lt apart message after read le =
-      let span : Span = record { start = place; len = after - place } in
-      let size : sizes (spans ++ span ∷ []) ≡ sizes spans ++ (after - place) ∷ [] = map_push (λ (s : Span). s.len) spans span in
-      let one : sized_at frame place end ≡ Ok ((message, after - place), after) = rw read refl in
-      let many : length messages ≡ length (sizes spans) = h.as_many ∙ long spans in
-      record {
-        reads = rw (size, zip_push messages (sizes spans) message (after - place) many) (goes_on (sized_at frame) (zip messages (sizes spans)) (end - at) turns place end _ h.reads lt apart (message, after - place) after one);
-        as_many = omega (arith, h.as_many, length-append messages (message ∷ []), length-append spans (span ∷ []));
-        in_row =
-            rw (size, spans_push at (sizes spans) (after - place))
-            (ap (λ (l : List Span). l ++ span ∷ []) h.in_row ∙ ap (λ (k : ℕ). spans_from at (sizes spans) ++ record { start = k; len = after - place } ∷ []) h.reached);
-        reached = rw size (omega (arith, h.reached, total_push (sizes spans) (after - place)));
-      }
+  one_more lt apart message after read le = grind (arith, common_steps, map_push, long, zip_push, goes_on, spans_push, total_push)
 
   both : items_at (sized_at frame) (end - at) at end ≡ Ok (zip messages (sizes spans), place) → messages_at frame at end ≡ Ok ((messages, spans), place)
   unfolding messages_at
-  both e =
-      let many : length messages ≡ length (sizes spans) = h.as_many ∙ long spans in
-      rw (e, zip_firsts messages (sizes spans) many, zip_seconds messages (sizes spans) many) (ap (λ (l : List Span). Ok ((messages, l), place)) (sym h.in_row))
+  both e = grind (arith, common_steps, long, zip_firsts, zip_seconds)
 
   pub all_turns : end - at ≤ turns → messages_at frame at end ≡ Ok ((messages, spans), place)
   all_turns le = both (is_done (sized_at frame) (zip messages (sizes spans)) (end - at) turns place end _ h.reads le)
@@ -49,5 +35,4 @@ module _ (frame : List ℕ) (at end turns : ℕ) (messages : List MessageFields)
 
   pub one_fails : turns < end - at → (place ≡ end → ⊥) → (fault : DecodeFault) → Fails fault (message_at frame place end) → Fails fault (messages_at frame at end)
   unfolding sized_at messages_at
-  one_fails lt apart fault f =
-      fails_on (items_at (sized_at frame) (end - at) at end) _ fault (fails (sized_at frame) (zip messages (sizes spans)) (end - at) turns place end _ h.reads lt apart fault (fails_on (message_at frame place end) _ fault f))
+  one_fails lt apart fault f = grind (arith, common_steps, fails_on, items_at, fails)

@@ -1,11 +1,9 @@
 -- Messages: read, spelled and refused as their parts are.
-use Rattle.mesh_packet.proofs.Common.{◌≡◌, ℕ, ◌+◌, ◌-◌, ◌<◌, ◌≤◌, ltb, ◌||◌, true, false, Bool, List, [], ◌∷◌, ◌++◌, length, Ok, refl, sym, ap, subst, ◌∙◌, arith, append_assoc, inl, inr, ◌⊎◌, MatchResult, slice_range, ltb-false, ltb-true, le-ltb, lt-ltb, or_cases as either, or_parts as neither, length-append, MatchResult-weaker, Refusal, SpellsShort, refuse, octet_at, short_at, meets_bind, meets_if, Takes, takes_both, takes_range, Stands, stands_first, stands_next, behind, front_is, range_length, octet_takes, octet_again, octet_cut, short_takes, short_again, short_cut, two_long, FirstFaultAt, IsReader, Took, MessageFields, SpellsMessage, SpellsBody, MessageFault, BodyFault, flags_cut, size_cut, size_wrong, in_body, body_at, message_at}
+use Rattle.mesh_packet.proofs.Common.{common_steps, ◌≡◌, ℕ, ◌+◌, ◌-◌, ◌<◌, ◌≤◌, ltb, ◌||◌, true, Bool, List, [], ◌∷◌, ◌++◌, length, Ok, refl, sym, ap, subst, ◌∙◌, arith, append_assoc, inl, inr, ◌⊎◌, MatchResult, slice_range, length-append, ltb-false, ltb-true, le-ltb, lt-ltb, or_cases as either, or_parts as neither, MatchResult-weaker, Refusal, SpellsShort, refuse, octet_at, short_at, meets_bind, meets_if, Takes, takes_both, takes_range, Stands, stands_first, stands_next, behind, front_is, range_length, octet_takes, octet_again, octet_cut, short_takes, short_again, short_cut, two_long, FirstFaultAt, IsReader, Took, MessageFields, SpellsMessage, SpellsBody, MessageFault, BodyFault, flags_cut, size_cut, size_wrong, in_body, body_at, message_at}
 use Rattle.mesh_packet.proofs.Bodies.{BodyTook, body_takes, body_again, body_fault}
 
 or_is : (a b : Bool) → (a ≡ true) ⊎ (b ≡ true) → a || b ≡ true
-or_is true b h = refl
-or_is false b (inr h) = h
-or_is false b (inl h) = absurd cc
+or_is a b h = grind (arith, common_steps)
 
 message_takes : (s : List ℕ) (at end : ℕ) → at < end → end ≤ length s → MatchResult (message_at s at end) (Took s at end SpellsMessage) (FirstFaultAt MessageFault s at end)
 unfolding message_at

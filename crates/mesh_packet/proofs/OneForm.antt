@@ -1,5 +1,5 @@
 -- A packet has at most one least form, since each address block has at most one.
-use Rattle.mesh_packet.proofs.Common.{◌≡◌, ℕ, ◌+◌, List, [], ◌∷◌, ◌++◌, length, sym, ap, ◌∙◌, SpellsItems, least_short, least_tlv, least_addr_tlv, least_block, least_head, least_number, least_header_tlvs, message_flags, packet_flags, LeastPair, LeastBody, LeastMessage, LeastForm}
+use Rattle.mesh_packet.proofs.Common.{arith, common_steps, ◌≡◌, ℕ, ◌+◌, List, [], ◌∷◌, ◌++◌, length, sym, ap, ◌∙◌, SpellsItems, least_short, least_tlv, least_addr_tlv, least_block, least_head, least_number, least_header_tlvs, message_flags, packet_flags, LeastPair, LeastBody, LeastMessage, LeastForm}
 use Rattle.mesh_addr.proofs.OneLeast.{one_least}
 
 -- an item has at most one text
@@ -8,8 +8,7 @@ HasOneText {B} Least = (x : B) (a b : List ℕ) → Least x a → Least x b → 
 
 pub items_once : {B : Type 0} (Least : B → List ℕ → Type 0) → HasOneText Least → HasOneText (SpellsItems Least)
 items_once Least once [] a b h k = h ∙ sym k
-items_once Least once (x ∷ xs) a b h k =
-    h.4 ∙ ap (λ (l : List ℕ). l ++ h.1) (once x h.0 k.0 h.2 k.2) ∙ ap (λ (l : List ℕ). k.0 ++ l) (items_once Least once xs h.1 k.1 h.3 k.3) ∙ sym k.4
+items_once Least once (x ∷ xs) a b h k = grind (arith, common_steps, (items_once Least once xs h.1 k.1 h.3 k.3))
 
 pair_once : HasOneText LeastPair
 pair_once b x y h k =

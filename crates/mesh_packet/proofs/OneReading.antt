@@ -1,5 +1,5 @@
 -- Octets spell one packet or have one first fault, since each is what the reading of the octets gives.
-use Rattle.mesh_packet.proofs.Common.{◌≡◌, ℕ, ◌⊎◌, inl, inr, List, Result, Ok, Err, ap, arith, common_steps, MatchResult, Refusal, Span, PacketFields, Spells, FirstFault, packet_of}
+use Rattle.mesh_packet.proofs.Common.{◌≡◌, ℕ, ◌⊎◌, inl, inr, List, Result, Ok, Err, ap, arith, MatchResult, common_steps, Refusal, Span, PacketFields, Spells, FirstFault, packet_of}
 use Rattle.mesh_atoms.proofs.Options.{same_ok, ok_not_err}
 use Rattle.mesh_packet.proofs.Packets.{IsFault, IsSpelled, packet_takes, packet_again, packet_fault}
 

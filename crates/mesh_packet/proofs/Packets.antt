@@ -1,5 +1,5 @@
 -- Packets: read, spelled and refused as their parts are.
-use Rattle.mesh_packet.proofs.Common.{◌≡◌, ℕ, ◌+◌, ◌-◌, ◌/◌, ◌<◌, ◌≤◌, Bool, true, false, eqb, List, [], ◌∷◌, ◌++◌, length, map, Ok, Err, refl, sym, ap, subst, ◌∙◌, arith, append_assoc, common_steps, MatchResult, slice_range, eqb-true, eqb-false, ne_eqb, Refusal, ◌>>=◌, Reading, refuse, has, octet_at, meets_bind, meets_if, Takes, takes_range, Stands, stands_next, behind, octet_takes, octet_again, TlvFields, SpellsItems, ItemsFault, FirstFaultAt, items_at, SpellsTlv, SpellsTlvBlock, TlvBlockFault, TlvFault, tlv_at, block_at, IsReader, ItemsTook, items_take, items_again, items_fault, block_takes, block_again, block_refuses, tlv_reader, Span, MessageFields, PacketFields, SpellsNumber, SpellsMessage, SpellsMessages, SpellsHeaderTlvs, Spells, MessageFault, BeginsPacket, no_octet, version, number_cut, in_header_tlvs, in_message, size_if, short_if, message_at, sized_at, spans_from, messages_at, flags_at, header_tlvs_at, packet_of}
+use Rattle.mesh_packet.proofs.Common.{◌≡◌, ℕ, ◌+◌, ◌-◌, ◌/◌, ◌<◌, ◌≤◌, Bool, true, false, eqb, List, [], ◌∷◌, ◌++◌, length, map, Ok, Err, refl, sym, ap, subst, ◌∙◌, arith, append_assoc, MatchResult, slice_range, common_steps, eqb-true, eqb-false, Refusal, ◌>>=◌, Reading, refuse, has, octet_at, meets_bind, meets_if, Takes, takes_range, Stands, stands_next, behind, octet_takes, octet_again, TlvFields, SpellsItems, ItemsFault, FirstFaultAt, items_at, SpellsTlv, SpellsTlvBlock, TlvBlockFault, TlvFault, tlv_at, block_at, IsReader, ItemsTook, items_take, items_again, items_fault, block_takes, block_again, block_refuses, tlv_reader, Span, MessageFields, PacketFields, SpellsNumber, SpellsMessage, SpellsMessages, SpellsHeaderTlvs, Spells, MessageFault, BeginsPacket, no_octet, version, number_cut, in_header_tlvs, in_message, size_if, short_if, message_at, sized_at, spans_from, messages_at, flags_at, header_tlvs_at, packet_of}
 use Rattle.mesh_packet.specs.Grammar as grammar
 use Rattle.mesh_packet.proofs.Fields.{Took, IsCut, number_field}
 use Rattle.mesh_packet.proofs.Messages.{message_reader}
@@ -26,8 +26,7 @@ sized_reader = record {
 -- messages beside their sizes, as messages with their spans
 with_spans : (at : ℕ) (xs : List (MessageFields × ℕ)) (text : List ℕ) → SpellsItems SpellsSized xs text → SpellsMessages at (map (λ m. m.0) xs) (spans_from at (map (λ m. m.1) xs)) text
 with_spans at [] text h = h
-with_spans at (x ∷ xs) text h =
-    (h.0, h.1, h.2.0, ap (λ (n : ℕ). record { start = at; len = n }) h.2.1, subst (λ (n : ℕ). SpellsMessages (at + n) (map (λ m. m.0) xs) (spans_from (at + x.1) (map (λ m. m.1) xs)) h.1) h.2.1 (with_spans (at + x.1) xs h.1 h.3), h.4)
+with_spans at (x ∷ xs) text h = grind (arith, common_steps, (with_spans (at + x.1) xs h.1 h.3))
 
 -- the way back
 record Sized (at : ℕ) (ms : List MessageFields) (ss : List Span) (text : List ℕ) : Type 0 where
@@ -181,8 +180,7 @@ packet_again s p spans h =
 pub packet_fault : (s : List ℕ) (place reason : ℕ) → grammar.FirstFault s place reason → packet_of s ≡ refuse place reason
 unfolding packet_of flags_at header_tlvs_at messages_at
 packet_fault s place reason (no_octet e) = rw e refl
-packet_fault s place reason (version flags rest e le) =
-    rw (octet_again 1 s 0 (length s) flags rest (omega arith) (all_of s ∙ e), ne_eqb (flags / 16) 0 (λ z. absurd (omega (arith, z, le)))) refl
+packet_fault s place reason (version flags rest e le) = grind (arith, common_steps, octet_again, all_of)
 packet_fault s place reason (number_cut flags rest e lt is cut) =
     let stands = first_stands s flags [] rest e in
     let short : length (slice_range s 1 (length s)) < size_if (has flags 8) 2 = subst (λ (b : Bool). length (slice_range s 1 (length s)) < size_if b 2) (sym is) (subst (λ (l : List ℕ). length l < 2) (sym stands.parts) cut) in

@@ -1,5 +1,5 @@
 -- An address block and the TLVs of its addresses: read, spelled and refused as its two parts are.
-use Rattle.mesh_packet.proofs.Common.{◌≡◌, ℕ, ◌+◌, ◌-◌, ◌<◌, ◌≤◌, List, ◌++◌, length, Ok, refl, sym, ap, subst, ◌∙◌, arith, common_steps, MatchResult, slice_range, length-append, Refusal, refuse, meets_bind, Takes, takes_both, takes_range, Stands, stands_first, stands_next, behind, FirstFaultAt, SpellsAddrTlv, AddrTlvBlockFault, TlvFault, addr_tlv_at, block_at, IsReader, Took, block_takes, block_again, block_refuses, addr_tlv_reader, BlockFields, SpellsPair, PairFault, in_addrs, in_addr_tlvs, pair_at}
+use Rattle.mesh_packet.proofs.Common.{◌≡◌, ℕ, ◌+◌, ◌-◌, ◌<◌, ◌≤◌, List, ◌++◌, length, Ok, refl, sym, ap, subst, ◌∙◌, arith, MatchResult, slice_range, length-append, common_steps, Refusal, refuse, meets_bind, Takes, takes_both, takes_range, Stands, stands_first, stands_next, behind, FirstFaultAt, SpellsAddrTlv, AddrTlvBlockFault, TlvFault, addr_tlv_at, block_at, IsReader, Took, block_takes, block_again, block_refuses, addr_tlv_reader, BlockFields, SpellsPair, PairFault, in_addrs, in_addr_tlvs, pair_at}
 use Rattle.mesh_addr.specs.Reading as addresses_read
 use Rattle.mesh_addr.proofs.Taking as address_laws
 use Rattle.mesh_addr.proofs.ReadAgain as address_back

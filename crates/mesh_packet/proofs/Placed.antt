@@ -1,5 +1,5 @@
 -- Each message of a frame that is spelled stands at its span.
-use Rattle.mesh_packet.proofs.Common.{◌≡◌, ℕ, zero, suc, ◌+◌, ◌≤◌, sym, ◌∙◌, ap, subst, arith, List, [], ◌∷◌, ◌++◌, length, Some, slice_get, append_assoc, common_steps, slice_range, text_is, Stands, stands_next, behind, Span, MessageFields, PacketFields, SpellsMessage, SpellsMessages, Spells, ArePlaced}
+use Rattle.mesh_packet.proofs.Common.{◌≡◌, ℕ, zero, suc, ◌+◌, ◌≤◌, sym, ◌∙◌, ap, subst, arith, List, [], ◌∷◌, ◌++◌, length, Some, slice_get, append_assoc, slice_range, common_steps, text_is, Stands, stands_next, behind, Span, MessageFields, PacketFields, SpellsMessage, SpellsMessages, Spells, ArePlaced}
 use Rattle.std.proofs.lemmas.Option.{slice_get_within}
 use Rattle.mesh_packet.proofs.Packets.{first_stands}
 

@@ -1,5 +1,5 @@
 -- The least form is a spelling.
-use Rattle.mesh_packet.proofs.Common.{◌≡◌, ℕ, ◌+◌, ◌-◌, ◌<◌, ◌≤◌, Bool, List, [], ◌∷◌, length, Option, Some, None, refl, sym, subst, arith, common_steps, All, length-append, length-take, length-replicate, All-head, All-tail, RawAddr, TlvFields, SpellsItems, least_short, least_tlv, least_addr_tlv, least_block, Span, BlockFields, MessageFields, PacketFields, SpellsOctet, SpellsNumber, SpellsOriginator, SpellsPair, SpellsMessageHead, SpellsBody, SpellsMessage, SpellsMessages, SpellsHeaderTlvs, Spells, width_of, IsPaddedOriginator, IsEncodableBlock, IsEncodableMessage, IsEncodable, least_octet, least_number, least_originator, least_head, message_flags, LeastPair, LeastBody, LeastMessage, has_tlvs, least_header_tlvs, packet_flags, LeastForm}
+use Rattle.mesh_packet.proofs.Common.{◌≡◌, ℕ, ◌+◌, ◌-◌, ◌<◌, ◌≤◌, Bool, List, [], ◌∷◌, length, Option, refl, sym, subst, arith, All, common_steps, All-head, All-tail, RawAddr, TlvFields, SpellsItems, least_short, least_tlv, least_addr_tlv, least_block, Span, BlockFields, MessageFields, PacketFields, SpellsOctet, SpellsNumber, SpellsOriginator, SpellsPair, SpellsMessageHead, SpellsBody, SpellsMessage, SpellsMessages, SpellsHeaderTlvs, Spells, width_of, IsPaddedOriginator, IsEncodableBlock, IsEncodableMessage, IsEncodable, least_octet, least_number, least_originator, least_head, message_flags, LeastPair, LeastBody, LeastMessage, has_tlvs, least_header_tlvs, packet_flags, LeastForm}
 use Rattle.std.specs.Option.{is_some}
 use Rattle.mesh_addr.specs.Grammar as addresses
 use Rattle.mesh_tlv.proofs.Spelled.{tlv_block_spelled, addr_tlv_block_spelled, short_spelled}
@@ -8,16 +8,13 @@ use Rattle.mesh_packet.proofs.FlagSums.{tells_128, tells_64, tells_32, tells_16,
 -- ---- optional parts
 
 octet_spelled : (x : Option ℕ) → SpellsOctet (is_some x) x (least_octet x)
-octet_spelled None = refl
-octet_spelled (Some n) = refl
+octet_spelled x = grind (arith, common_steps)
 
 number_spelled : (x : Option ℕ) → SpellsNumber (is_some x) x (least_number x)
-number_spelled None = refl
-number_spelled (Some n) = short_spelled n
+number_spelled x = grind (arith, common_steps, short_spelled)
 
 originator_spelled : (width : ℕ) (x : Option RawAddr) → width ≤ 16 → IsPaddedOriginator width x → SpellsOriginator (is_some x) width x (least_originator width x)
-originator_spelled width None le h = refl
-originator_spelled width (Some a) le h = grind (arith, common_steps, length-take, length-append, length-replicate)
+originator_spelled width x le h = grind (arith, common_steps)
 
 header_tlvs_spelled : (tlvs : List TlvFields) → SpellsHeaderTlvs (has_tlvs tlvs) tlvs (least_header_tlvs tlvs)
 header_tlvs_spelled [] = (refl, refl)
@@ -61,17 +58,7 @@ module _ (m : MessageFields) (fit : IsEncodableMessage m) where
 
   pub head_spelled : SpellsMessageHead (message_flags m) m.originator m.limit m.count m.sequence (least_head m)
   unfolding message_flags least_head
-  head_spelled = record {
-    originator_text = least_originator m.width m.originator;
-    limit_text = least_octet m.limit;
-    count_text = least_octet m.count;
-    sequence_text = least_number m.sequence;
-    originator_is = subst (λ (x : Bool). SpellsOriginator x (width_of (message_flags m)) m.originator (least_originator m.width m.originator)) (sym (tells_128 a b c d (m.width - 1) small)) (subst (λ (w : ℕ). SpellsOriginator a w m.originator (least_originator m.width m.originator)) (sym width_told) (originator_spelled m.width m.originator fit.narrow fit.originator));
-    limit_is = subst (λ (x : Bool). SpellsOctet x m.limit (least_octet m.limit)) (sym (tells_64 a b c d (m.width - 1) small)) (octet_spelled m.limit);
-    count_is = subst (λ (x : Bool). SpellsOctet x m.count (least_octet m.count)) (sym (tells_32 a b c d (m.width - 1) small)) (octet_spelled m.count);
-    sequence_is = subst (λ (x : Bool). SpellsNumber x m.sequence (least_number m.sequence)) (sym (tells_16 a b c d (m.width - 1) small)) (number_spelled m.sequence);
-    whole = refl;
-  }
+  head_spelled = grind (arith, common_steps, least_number, tells_128, small, width_told, originator_spelled, tells_64, octet_spelled, tells_32, tells_16, number_spelled)
 
   unfoldable pub body_spelled : (text : List ℕ) → LeastBody m text → SpellsBody (message_flags m) m text
   body_spelled text h = record {

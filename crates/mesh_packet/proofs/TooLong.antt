@@ -1,5 +1,5 @@
 -- What makes the least text of a value too long.
-use Rattle.mesh_packet.proofs.Common.{◌≡◌, ℕ, ◌+◌, ◌<◌, ◌≤◌, List, [], ◌∷◌, length, map, ap, arith, common_steps, flat_map, length-append, least_tlv, least_addr_tlv, least_block, least_short, AreTooLong, fields, BlockFields, MessageFields, LeastPair, LeastBody, LeastMessage, least_head, least_header_tlvs, Passes}
+use Rattle.mesh_packet.proofs.Common.{◌≡◌, ℕ, ◌+◌, ◌<◌, ◌≤◌, List, [], ◌∷◌, length, map, ap, arith, length-append, common_steps, flat_map, least_tlv, least_addr_tlv, least_block, least_short, AreTooLong, fields, BlockFields, MessageFields, LeastPair, LeastBody, LeastMessage, least_head, least_header_tlvs, Passes}
 use Rattle.mesh_tlv.specs.declared.tlv.Tlv.{Tlv}
 use Rattle.mesh_tlv.proofs.Lengths.{tlv_longer, addr_tlv_longer, block_longer}
 use Rattle.mesh_packet.proofs.OneForm.{body_once}

@@ -1,5 +1,5 @@
 -- What the writers put behind the old octets, part by part.
-use Rattle.mesh_packet.proofs.Common.{◌≡◌, ℕ, List, [], ◌++◌, length, Result, Err, refl, append_assoc, arith, common_steps, err_from_is_err_and, WroteLeast, SpellsItems, least_tlv, least_addr_tlv, least_block, BlockFields, MessageFields, LeastPair, LeastBody, least_head, Wrote, as_encode_fault}
+use Rattle.mesh_packet.proofs.Common.{◌≡◌, ℕ, List, [], ◌++◌, length, Result, Err, append_assoc, arith, common_steps, err_from_is_err_and, WroteLeast, SpellsItems, least_tlv, least_addr_tlv, least_block, BlockFields, MessageFields, LeastPair, LeastBody, least_head, Wrote, as_encode_fault}
 use Rattle.std.specs.Result.{IsErrAnd}
 use Rattle.mesh_tlv.specs.declared.tlv.WriteTlv.{WriteTlv}
 use Rattle.mesh_tlv.specs.declared.tlv.WriteTlv.TheVariants as tlvs
@@ -7,8 +7,7 @@ use Rattle.mesh_packet.specs.declared.packet.EncodeFault.{EncodeFault}
 use Rattle.mesh_packet.specs.declared.packet.EncodeFault.TheVariants as faults
 
 told : (f : WriteTlv) → as_encode_fault f ≡ faults.TooLong → f ≡ tlvs.TooLong
-told tlvs.TooLong h = refl
-told (tlvs.Memory e) h = absurd cc
+told f h = grind (arith, common_steps)
 
 -- what is handed on as too long was too long
 pub was_too_long : {A B : Type 0} (r : Result A EncodeFault) (w : Result B WriteTlv) (f : WriteTlv) → w ≡ Err f → IsErrAnd r (λ e. e ≡ as_encode_fault f) → r ≡ Err faults.TooLong → w ≡ Err tlvs.TooLong

@@ -1,5 +1,5 @@
 -- What is spelled so is read, whatever follows, and a first fault is the one that is answered.
-use Rattle.mesh_tlv.proofs.Common.{◌≡◌, ℕ, ◌+◌, ◌-◌, ◌%◌, ◌<◌, ◌≤◌, Bool, true, false, cond, ltb, ◌||◌, List, [], ◌∷◌, ◌++◌, length, Option, Some, None, Ok, refl, sym, ap, subst, ◌∙◌, arith, inl, inr, ◌⊎◌, append_assoc, common_steps, slice_range, le-ltb, lt-ltb, le-leb, lt-leb, ne_eqb, length-append, has, refuse, range_length, next_is, text_is, octet_again, octet_cut, short_again, short_cut, two_long, AddrTlvFields, flags_at, extension_at, index_octet_at, indexes_at, length_at, value_at, part_count, tlv_of_at, SpellsExtension, SpellsIndex, SpellsLength, SpellsValue, HasEqualParts, SpellsTlvOf, IsBroken, two_indexes, wide_nothing, multi_nothing, not_taken, Opens, Extends, Indexes, IsCut, TlvFault, flags_cut, flags_broken, ext_cut, start_cut, start_high, stop_cut, stop_wrong, length_cut, length_uneven, value_cut}
+use Rattle.mesh_tlv.proofs.Common.{◌≡◌, ℕ, ◌+◌, ◌-◌, ◌%◌, ◌<◌, ◌≤◌, Bool, true, false, cond, ltb, ◌||◌, List, [], ◌∷◌, ◌++◌, length, Option, Some, None, Ok, refl, sym, ap, subst, ◌∙◌, arith, inl, inr, ◌⊎◌, append_assoc, slice_range, common_steps, le-ltb, lt-ltb, le-leb, lt-leb, ne_eqb, length-append, has, refuse, range_length, next_is, text_is, octet_again, octet_cut, short_again, short_cut, two_long, AddrTlvFields, flags_at, extension_at, index_octet_at, indexes_at, length_at, value_at, part_count, tlv_of_at, SpellsExtension, SpellsIndex, SpellsLength, SpellsValue, HasEqualParts, SpellsTlvOf, IsBroken, two_indexes, Opens, Extends, Indexes, IsCut, TlvFault, flags_cut, flags_broken, ext_cut, start_cut, start_high, stop_cut, stop_wrong, length_cut, length_uneven, value_cut}
 use Rattle.mesh_tlv.proofs.Flags.{unsound_if, sound_if}
 use Rattle.mesh_tlv.proofs.Takes.{divides_if, divided_if}
 
@@ -45,8 +45,7 @@ length_again flags s at end n text rest true fits is h e = rw (is, short_again 4
 length_again flags s at end n text rest false fits is h e = rw (is, octet_again 4 s at end n rest fits (e ∙ ap (λ (l : List ℕ). l ++ rest) h), h) refl
 
 length_cut_again : (flags : ℕ) (s : List ℕ) (at end : ℕ) (wide : Bool) → end ≤ length s → has flags 8 ≡ wide → IsCut wide (slice_range s at end) → length_at flags s at end ≡ refuse at 4
-length_cut_again flags s at end true fits is h = rw (is, short_cut 4 s at end fits h) refl
-length_cut_again flags s at end false fits is h = rw (is, octet_cut 4 s at end fits h) refl
+length_cut_again flags s at end wide fits is h = grind (arith, common_steps, short_cut, octet_cut)
 
 value_again : (flags first last : ℕ) (s : List ℕ) (at end : ℕ) (v : Option (List ℕ)) (bytes rest : List ℕ) (some wide : Bool) → at ≤ end → end ≤ length s → has flags 16 ≡ some → has flags 8 ≡ wide → SpellsValue some wide v bytes → HasEqualParts (has flags 4) first last v → slice_range s at end ≡ bytes ++ rest → value_at flags (part_count (has flags 4) first last) s at end ≡ Ok (v, at + length bytes)
 unfolding value_at
@@ -64,10 +63,7 @@ value_again flags first last s at end (Some text) bytes rest false wide le fits 
 -- ---- a whole TLV
 
 not_broken : (barred count : ℕ) (tlv : AddrTlvFields) (bytes : List ℕ) (h : SpellsTlvOf barred count tlv bytes) → IsBroken barred h.flags → ⊥
-not_broken barred count tlv bytes h (two_indexes s m) = grind (arith, common_steps)
-not_broken barred count tlv bytes h (wide_nothing w v) = grind (arith, common_steps)
-not_broken barred count tlv bytes h (multi_nothing p v) = grind (arith, common_steps)
-not_broken barred count tlv bytes h (not_taken other) = other h.not_barred
+not_broken barred count tlv bytes h h5 = grind (arith, common_steps)
 
 pub tlv_of_again : (barred count : ℕ) (s : List ℕ) (at end : ℕ) (tlv : AddrTlvFields) (bytes rest : List ℕ) → at ≤ end → end ≤ length s → SpellsTlvOf barred count tlv bytes → slice_range s at end ≡ bytes ++ rest → tlv_of_at barred count s at end ≡ Ok (tlv, at + length bytes)
 unfolding tlv_of_at
@@ -153,10 +149,7 @@ module _ (barred count : ℕ) (s : List ℕ) (at end : ℕ) (le : at ≤ end) (f
   -- the first index, where one is flagged
   start_refused : (flags place reason : ℕ) (single multi : Bool) (at : ℕ) → has flags 64 ≡ single → has flags 32 ≡ multi → (single ≡ true) ⊎ (multi ≡ true) → index_octet_at 0 count s at end ≡ refuse place reason → indexes_at flags count s at end ≡ refuse place reason
   unfolding indexes_at
-  start_refused flags place reason true multi at is64 is32 some k = rw (is64, k) refl
-  start_refused flags place reason false true at is64 is32 some k = rw (is64, is32, k) refl
-  start_refused flags place reason false false at is64 is32 (inl p) k = absurd cc
-  start_refused flags place reason false false at is64 is32 (inr p) k = absurd cc
+  start_refused flags place reason single multi at is64 is32 some k = grind (arith, common_steps)
 
   stop_refused : (flags start place reason : ℕ) (single : Bool) (at : ℕ) (rest : List ℕ) → has flags 64 ≡ single → has flags 32 ≡ true → (IsBroken barred flags → ⊥) → start < count → slice_range s at end ≡ start ∷ rest → index_octet_at start count s (at + 1) end ≡ refuse place reason → indexes_at flags count s at end ≡ refuse place reason
   unfolding indexes_at
@@ -165,8 +158,7 @@ module _ (barred count : ℕ) (s : List ℕ) (at end : ℕ) (le : at ≤ end) (f
 
   pub fault_again : (distance reason : ℕ) → TlvFault barred count (slice_range s at end) distance reason → tlv_of_at barred count s at end ≡ refuse (at + distance) reason
   unfolding tlv_of_at flags_at extension_at index_octet_at value_at
-  fault_again distance reason (flags_cut kind e) =
-      rw (octet_again 4 s at end kind [] fits e, octet_cut 4 s (at + 1) end fits (next_is s at end kind [] fits e).2) refl
+  fault_again distance reason (flags_cut kind e) = grind (arith, common_steps, octet_again, octet_cut, next_is)
   fault_again distance reason (flags_broken kind flags rest e broken) =
       let n0 = next_is s at end kind (flags ∷ rest) fits e in
       rw (octet_again 4 s at end kind (flags ∷ rest) fits e, octet_again 4 s (at + 1) end flags rest fits n0.2, unsound_if barred flags broken) refl

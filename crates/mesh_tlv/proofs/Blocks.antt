@@ -1,5 +1,5 @@
 -- Blocks, which are a length of 16 bits and items that fill it: read, spelled and refused as their items are.
-use Rattle.mesh_tlv.proofs.Common.{◌≡◌, ℕ, ◌+◌, ◌-◌, ◌≤◌, ltb, List, ◌++◌, length, Ok, Err, refl, sym, ap, subst, ◌∙◌, arith, append_assoc, MatchResult, slice_range, ltb-false, ltb-true, le-ltb, lt-ltb, length-append, MatchResult-weaker, Refusal, SpellsShort, Reading, refuse, short_at, meets_bind, meets_if, Takes, takes_both, takes_range, range_length, text_is, short_takes, short_again, short_cut, two_long, SpellsItems, ItemsFault, FirstFaultAt, items_at, range_at, block_at, SpellsTlvs, TlvsFault, block_cut, block_long, in_block}
+use Rattle.mesh_tlv.proofs.Common.{common_steps, ◌≡◌, ℕ, ◌+◌, ◌-◌, ◌≤◌, ltb, List, ◌++◌, length, Ok, Err, refl, sym, ap, subst, ◌∙◌, arith, append_assoc, MatchResult, slice_range, ltb-false, ltb-true, le-ltb, lt-ltb, length-append, MatchResult-weaker, Refusal, SpellsShort, Reading, refuse, short_at, meets_bind, meets_if, Takes, takes_both, takes_range, range_length, text_is, short_takes, short_again, short_cut, two_long, SpellsItems, ItemsFault, FirstFaultAt, items_at, range_at, block_at, SpellsTlvs, TlvsFault, block_cut, block_long, in_block}
 use Rattle.mesh_tlv.proofs.Items.{IsReader, ItemsTook, items_take, items_again, items_fault}
 
 -- a block that was read stands between the places
@@ -107,6 +107,4 @@ module _ {A : Type 0} (one : List ℕ → ℕ → ℕ → Reading A) (Spells : A
       ) refl
 
   pub block_refuses : (s : List ℕ) (at end : ℕ) (refusal : Refusal) → at ≤ end → end ≤ length s → FirstFaultAt (TlvsFault Spells Fault) s at end refusal → block_at one s at end ≡ Err refusal
-  block_refuses s at end refusal le fits h =
-      block_fault s at end h.0 refusal.reason le fits h.2
-      ∙ ap (λ (place : ℕ). refuse {A = List A × ℕ} place refusal.reason) (sym h.1)
+  block_refuses s at end refusal le fits h = grind (arith, common_steps, block_fault)

@@ -13,7 +13,7 @@ unfoldable pub use Rattle.mesh_tlv.specs.Least.{least_flags, least_head}
 pub use Rattle.mesh_tlv.specs.Reading.{addr_tlv_at, is_sound, length_at, part_count}
 unfoldable pub use Rattle.mesh_tlv.specs.Reading.{block_at, extension_at, flags_at, index_octet_at, indexes_at, range_at, tlv_at, tlv_of_at, value_at}
 pub use Rattle.std.proofs.Common.{All, Bool, Err, List, MatchResult, None, Ok, Option, Some, [], ap, append_assoc, arith, bit_and, cond, eqb, false, get_or, inl, inr, leb, length, ltb, map, not, refl, slice_range, subst, suc, sym, take, true, zero, ℕ, ◌%◌, ◌&&◌, ◌++◌, ◌+◌, ◌-◌, ◌/◌, ◌<◌, ◌||◌, ◌∙◌, ◌∷◌, ◌≡◌, ◌≤◌, ◌⊎◌}
-pub use Rattle.std.proofs.lemmas.Bool.{and_parts, eq-eqb, eqb-false, eqb-true, false_from_ne_true, false≢true, le-leb, le-ltb, leb-false, leb-true, lt-leb, lt-ltb, ltb-false, ltb-true, ne_eqb, not-false, not-true}
+pub use Rattle.std.proofs.lemmas.Bool.{eq-eqb, eqb-false, eqb-true, false_from_ne_true, le-leb, le-ltb, leb-false, leb-true, lt-leb, lt-ltb, ltb-false, ltb-true, ne_eqb, not-false, not-true}
 pub use Rattle.std.proofs.lemmas.Grind.{common_steps}
 pub use Rattle.std.proofs.lemmas.List.{append-nil, length-append, map_push}
 pub use Rattle.std.proofs.lemmas.List.Elements.{All-cons, All-head, All-nil, All-tail, All-weaker}

@@ -1,11 +1,8 @@
 -- What is read of an address block's TLVs can be written.
-use Rattle.mesh_tlv.proofs.Common.{ℕ, ◌<◌, ◌≤◌, Bool, true, false, List, [], ◌∷◌, arith, common_steps, All, All-nil, All-cons, AddrTlvFields, SpellsItems, SpellsIndex, SpellsAddrTlv, IsFit}
+use Rattle.mesh_tlv.proofs.Common.{ℕ, ◌<◌, ◌≤◌, Bool, List, [], ◌∷◌, arith, All, common_steps, All-nil, All-cons, AddrTlvFields, SpellsItems, SpellsIndex, SpellsAddrTlv, IsFit}
 
 index_fit : (single several : Bool) (count first last : ℕ) (text : List ℕ) → 0 < count → SpellsIndex single several count first last text → (first ≤ last) × (last < count)
-index_fit true false count first last text pos h = (omega (arith, h.1), omega (arith, h.0, h.1))
-index_fit false true count first last text pos h = (h.0, h.1)
-index_fit false false count first last text pos h = (omega (arith, h.0), omega (arith, h.1))
-index_fit true true count first last text pos h = absurd h
+index_fit single several count first last text pos h = grind (arith, common_steps)
 
 tlv_fit : (count : ℕ) (tlv : AddrTlvFields) (bytes : List ℕ) → 0 < count → SpellsAddrTlv count tlv bytes → IsFit count tlv
 tlv_fit count tlv bytes pos h = grind (arith, common_steps, index_fit)

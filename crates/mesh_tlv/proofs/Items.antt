@@ -1,5 +1,5 @@
 -- Items that fill a range of a frame, one after the other: read, spelled and refused as each of them is.
-use Rattle.mesh_tlv.proofs.Common.{◌≡◌, ℕ, zero, suc, ◌+◌, ◌-◌, ◌<◌, ◌≤◌, eqb, List, [], ◌∷◌, ◌++◌, length, Ok, refl, sym, ap, subst, ◌∙◌, arith, append_assoc, MatchResult, slice_range, eqb-true, eqb-false, eq-eqb, ne_eqb, length-append, Reading, refuse, meets_bind, meets_if, Takes, range_length, range_nil, text_is, SpellsItems, ItemsFault, FirstFaultAt, items_at}
+use Rattle.mesh_tlv.proofs.Common.{common_steps, ◌≡◌, ℕ, zero, suc, ◌+◌, ◌-◌, ◌<◌, ◌≤◌, eqb, List, [], ◌∷◌, ◌++◌, length, Ok, refl, sym, ap, subst, ◌∙◌, arith, append_assoc, MatchResult, slice_range, eqb-true, eqb-false, eq-eqb, ne_eqb, length-append, Reading, refuse, meets_bind, meets_if, Takes, range_length, range_nil, text_is, SpellsItems, ItemsFault, FirstFaultAt, items_at}
 
 -- the text that a reader took from a place, and what it spells
 abbrev pub Took : {A : Type 0} → List ℕ → ℕ → ℕ → (A → List ℕ → Type 0) → A × ℕ → Type 0
@@ -94,11 +94,7 @@ module _ {A : Type 0} (one : List ℕ → ℕ → ℕ → Reading A) (Spells : A
   unfolding items_at
   fault_behind zero s at end inside reason before front rest le fits fuel h fault some e =
       absurd (omega (arith, ap length e, length-append front rest, range_length s at end fits))
-  fault_behind (suc n) s at end inside reason [] front rest le fits fuel h fault some e =
-      let there : slice_range s at end ≡ rest = e ∙ ap (λ (l : List ℕ). l ++ rest) h in
-      let apart : at ≡ end → ⊥ = λ same. absurd (omega (arith, same, some, ap length there, range_length s at end fits)) in
-      let sum : at + inside ≡ at + (length front + inside) = omega (arith, ap length h) in
-      rw (ne_eqb at end apart, reader.fault_again s at end inside reason le fits (subst (λ (l : List ℕ). Fault l inside reason) (sym there) fault), sum) refl
+  fault_behind (suc n) s at end inside reason [] front rest le fits fuel h fault some e = grind (arith, common_steps, range_length)
   fault_behind (suc n) s at end inside reason (x ∷ xs) front rest le fits fuel h fault some e =
       let there : slice_range s at end ≡ h.0 ++ (h.1 ++ rest) = e ∙ ap (λ (l : List ℕ). l ++ rest) h.4 ∙ append_assoc h.0 h.1 rest in
       let behind = text_is s at end h.0 (h.1 ++ rest) le fits there in
@@ -113,7 +109,4 @@ module _ {A : Type 0} (one : List ℕ → ℕ → ℕ → Reading A) (Spells : A
       ) refl
 
   pub items_fault : (n : ℕ) (s : List ℕ) (at end distance reason : ℕ) → at ≤ end → end ≤ length s → end - at ≤ n → ItemsFault Spells Fault (slice_range s at end) distance reason → items_at (one s) n at end ≡ refuse (at + distance) reason
-  items_fault n s at end distance reason le fits fuel h =
-      let sum : at + (length h.front + h.inside) ≡ at + distance = omega (arith, h.distance_is) in
-      fault_behind n s at end h.inside reason h.before h.front h.rest le fits fuel h.spelled h.fault h.some h.whole
-      ∙ ap (λ (place : ℕ). refuse {A = List A × ℕ} place reason) sum
+  items_fault n s at end distance reason le fits fuel h = grind (arith, common_steps, fault_behind)

@@ -1,5 +1,5 @@
 -- How long the items of a list are written.
-use Rattle.mesh_tlv.proofs.Common.{◌≡◌, ℕ, zero, suc, ◌+◌, ◌<◌, ◌≤◌, ◌++◌, ◌∙◌, [], ◌∷◌, append_assoc, sym, List, length, map, take, get_or, Option, Some, None, refl, arith, inl, inr, common_steps, flat_map, lt-ltb, length-append, append-nil, TlvFields, AddrTlvFields, fields, indexed, length_within, least_length, least_value, least_head, least_addr_tlv, least_tlv, IsLong, HasLongValue, AreTooLong}
+use Rattle.mesh_tlv.proofs.Common.{◌≡◌, ℕ, ◌+◌, ◌<◌, ◌≤◌, ◌∙◌, sym, List, length, map, take, get_or, Option, None, refl, arith, common_steps, flat_map, lt-ltb, length-append, TlvFields, AddrTlvFields, fields, indexed, length_within, least_value, least_head, least_addr_tlv, least_tlv, IsLong, HasLongValue, AreTooLong}
 use Rattle.std.proofs.lemmas.List.Folds.{length-flat_map-take, flat_map-map}
 use Rattle.mesh_tlv.specs.declared.tlv.Tlv.{Tlv}
 
@@ -16,8 +16,7 @@ module _ {A B : Type 0} (view : A → B) (least : B → List ℕ) (xs : List A) 
 -- ---- a long value makes its TLV long, and a long TLV its block
 
 value_longer : (v : Option (List ℕ)) → HasLongValue v → IsLong (least_value v)
-value_longer None h = absurd h
-value_longer (Some text) h = omega (arith, h, length-append (least_length (length text)) text)
+value_longer v h = grind (arith, common_steps)
 
 pub addr_tlv_longer : (count : ℕ) (tlv : AddrTlvFields) → HasLongValue tlv.value → IsLong (least_addr_tlv count tlv)
 addr_tlv_longer count tlv h = omega (arith, value_longer tlv.value h, length-append (least_head count tlv) (least_value tlv.value))
@@ -26,21 +25,7 @@ pub tlv_longer : (tlv : TlvFields) → HasLongValue tlv.value → IsLong (least_
 tlv_longer tlv h = addr_tlv_longer 1 (indexed tlv) h
 
 pub block_longer : {A : Type 0} (least : A → List ℕ) (value : A → Option (List ℕ)) → ((tlv : A) → HasLongValue (value tlv) → IsLong (least tlv)) → (tlvs : List A) → AreTooLong least value tlvs → IsLong (flat_map least tlvs)
-block_longer least value longer tlvs (inl long) = long
-block_longer least value longer tlvs (inr any) = grind (arith, common_steps, length-flat_map-take)
-
-written_next : {A B : Type 0} (view : A → B) (least : B → List ℕ) (xs : List A) (i : ℕ) (d : A) (old out new : List ℕ) → i < length xs
-    → out ≡ old ++ flat_map least (map view (take i xs)) → new ≡ out ++ least (view (get_or xs i d)) → new ≡ old ++ flat_map least (map view (take (suc i) xs))
-written_next view least (x ∷ xs) zero d old out new lt before is = grind (arith, common_steps, append-nil)
-written_next view least (x ∷ xs) (suc i) d old out new lt before is =
-    written_next view least xs i d (old ++ least (view x)) out new (omega (arith, lt)) (before ∙ sym (append_assoc old (least (view x)) (flat_map least (map view (take i xs))))) is
-    ∙ append_assoc old (least (view x)) (flat_map least (map view (take (suc i) xs)))
-written_next view least [] i d old out new lt before is = absurd (omega (arith, lt))
-
--- one item more, written behind those before it
-pub item_written : {A B : Type 0} (view : A → B) (least : B → List ℕ) (xs : List A) (i : ℕ) (d : A) (old out new : List ℕ) → i < length xs
-    → out ≡ old ++ flat_map least (map view (take i xs)) → new ≡ out ++ least (view (get_or xs i d)) → new ≡ old ++ flat_map least (map view (take (i + 1) xs))
-item_written view least xs i d old out new lt before is = grind (arith, common_steps, written_next)
+block_longer least value longer tlvs h4 = grind (arith, common_steps, length-flat_map-take)
 
 -- packet or message TLVs, written as those of a block of one address
 pub written_indexed : (tlvs : List Tlv) → flat_map (least_addr_tlv 1) (map (λ tlv. indexed (fields tlv)) tlvs) ≡ flat_map least_tlv (map fields tlvs)

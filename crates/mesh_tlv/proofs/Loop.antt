@@ -1,5 +1,5 @@
 -- Reading items one after the other, as a loop does, where reading may want memory.
-use Rattle.mesh_tlv.proofs.Common.{◌≡◌, ℕ, suc, ◌+◌, ◌-◌, ◌≤◌, ◌<◌, List, [], ◌∷◌, ◌++◌, Ok, Err, refl, sym, ap, ◌∙◌, append_assoc, arith, eqb, true, append-nil, ne_eqb, Refusal, ◌>>=◌, Reading, Fails, items_at}
+use Rattle.mesh_tlv.proofs.Common.{common_steps, ◌≡◌, ℕ, suc, ◌+◌, ◌-◌, ◌≤◌, ◌<◌, List, [], ◌∷◌, ◌++◌, Ok, Err, refl, sym, ap, ◌∙◌, append_assoc, arith, eqb, true, ne_eqb, Refusal, ◌>>=◌, Reading, Fails, items_at}
 use Rattle.mesh_atoms.specs.declared.refusal.DecodeFault.{DecodeFault}
 use Rattle.mesh_atoms.specs.declared.refusal.DecodeFault.TheVariants as faults
 
@@ -8,8 +8,7 @@ abbrev pub with_front : {A : Type 0} → List A → Reading (List A) → Reading
 with_front front read = read >>= λ x. Ok (front ++ x.0, x.1)
 
 pub none_before : {A : Type 0} (read : Reading (List A)) → with_front [] read ≡ read
-none_before (Ok x) = refl
-none_before (Err f) = refl
+none_before read = grind (arith, common_steps)
 
 regroup : {A : Type 0} (front : List A) (p : A) (read : Reading (List A)) → with_front front (read >>= λ x. Ok (p ∷ x.0, x.1)) ≡ with_front (front ++ p ∷ []) read
 regroup {A} front p (Ok x) = ap (λ (ps : List A). Ok (ps, x.1)) (simp append_assoc)
@@ -25,10 +24,7 @@ module _ {A : Type 0} (one : ℕ → ℕ → Reading A) (front : List A) (limit 
 
   ends : i < limit → (at ≡ end → ⊥) → (f : Refusal) → one at end ≡ Err f → total ≡ Err f
   unfolding items_at
-  ends lt apart f h =
-      let k : limit - i ≡ suc (limit - (i + 1)) = omega arith in
-      let step : with_front front (items_at one (limit - i) at end) ≡ Err f = rw (k, ne_eqb at end apart, h) refl in
-      sym so_far ∙ step
+  ends lt apart f h = grind (arith, common_steps, items_at)
 
   -- a fault of the next one is the fault of all
   pub fails : i < limit → (at ≡ end → ⊥) → (fault : DecodeFault) → Fails fault (one at end) → Fails fault total
@@ -37,14 +33,8 @@ module _ {A : Type 0} (one : ℕ → ℕ → Reading A) (front : List A) (limit 
 
   pub is_done : limit ≤ i → total ≡ Ok (front, at)
   unfolding items_at
-  is_done le =
-      let k : limit - i ≡ 0 = omega arith in
-      let step : with_front front (items_at one (limit - i) at end) ≡ Ok (front, at) = rw k (ap (λ (ps : List A). Ok (ps, at)) (append-nil front)) in
-      sym so_far ∙ step
+  is_done le = grind (arith, common_steps, items_at)
 
   pub is_at_end : i < limit → eqb at end ≡ true → total ≡ Ok (front, at)
   unfolding items_at
-  is_at_end lt e =
-      let k : limit - i ≡ suc (limit - (i + 1)) = omega arith in
-      let step : with_front front (items_at one (limit - i) at end) ≡ Ok (front, at) = rw (k, e) (ap (λ (ps : List A). Ok (ps, at)) (append-nil front)) in
-      sym so_far ∙ step
+  is_at_end lt e = grind (arith, common_steps, items_at)

@@ -1,5 +1,5 @@
 -- The least form is a spelling.
-use Rattle.mesh_tlv.proofs.Common.{◌≡◌, ℕ, ◌+◌, ◌/◌, ◌%◌, ◌<◌, ◌≤◌, Bool, true, false, not, ◌&&◌, eqb, ltb, bit_and, List, [], ◌∷◌, ◌++◌, length, Option, Some, None, refl, sym, arith, common_steps, All, flat_map, and_zero_r, eqb-true, All-head, All-tail, All-weaker, SpellsShort, has, TlvFields, AddrTlvFields, indexed, SpellsItems, SpellsExtension, SpellsIndex, SpellsLength, SpellsValue, HasEqualParts, SpellsTlvOf, SpellsTlv, SpellsAddrTlv, SpellsTlvs, SpellsTlvBlock, SpellsAddrTlvBlock, IsFit, flag, octet_if, has_value, is_wide, least_flags, least_head, least_short, least_length, least_value, least_addr_tlv, least_tlv, least_block}
+use Rattle.mesh_tlv.proofs.Common.{◌≡◌, ℕ, ◌+◌, ◌/◌, ◌%◌, ◌<◌, ◌≤◌, Bool, true, false, not, ◌&&◌, eqb, ltb, bit_and, List, [], ◌∷◌, ◌++◌, length, Option, Some, None, refl, arith, All, common_steps, flat_map, and_zero_r, All-head, All-tail, All-weaker, SpellsShort, has, TlvFields, AddrTlvFields, indexed, SpellsItems, SpellsExtension, SpellsIndex, SpellsLength, SpellsValue, HasEqualParts, SpellsTlvOf, SpellsTlv, SpellsAddrTlv, SpellsTlvs, SpellsTlvBlock, SpellsAddrTlvBlock, IsFit, flag, octet_if, has_value, is_wide, least_flags, least_head, least_short, least_length, least_value, least_addr_tlv, least_tlv, least_block}
 use Rattle.std.proofs.lemmas.List.Concat.{flat_map-cons}
 use Rattle.mesh_tlv.proofs.Trying.{both, both_is, same, same_is}
 
@@ -46,26 +46,19 @@ none_barred false false false = refl
 -- ---- the parts of a TLV
 
 ext_spelled : (ext : ℕ) (b : Bool) → eqb ext 0 ≡ b → SpellsExtension (not b) ext (octet_if (not b) ext)
-ext_spelled ext true h = (eqb-true ext 0 h, refl)
-ext_spelled ext false h = refl
+ext_spelled ext b h = grind (arith, common_steps)
 
 index_spelled : (count first last : ℕ) → first ≤ last → last < count → (a b c : Bool) → eqb first 0 ≡ a → eqb (last + 1) count ≡ b → eqb first last ≡ c → SpellsIndex (not (a && b) && c) (not (a && b) && not c) count first last (octet_if (not (a && b)) first ++ octet_if (not (a && b) && not c) last)
-index_spelled count first last le lt true true c p q r = (eqb-true first 0 p, omega (arith, eqb-true (last + 1) count q), refl)
-index_spelled count first last le lt true false true p q r = (omega arith, sym (eqb-true first last r), refl)
-index_spelled count first last le lt true false false p q r = (le, lt, refl)
-index_spelled count first last le lt false b true p q r = (omega arith, sym (eqb-true first last r), refl)
-index_spelled count first last le lt false b false p q r = (le, lt, refl)
+index_spelled count first last le lt a b c p q r = grind (arith, common_steps)
 
 pub short_spelled : (n : ℕ) → SpellsShort n (least_short n)
 short_spelled n = (n / 256, n % 256, omega arith, refl)
 
 length_spelled : (n : ℕ) (b : Bool) → ltb 255 n ≡ b → SpellsLength b n (least_length n)
-length_spelled n true h = rw h (short_spelled n)
-length_spelled n false h = rw h refl
+length_spelled n b h = grind (arith, common_steps, short_spelled)
 
 value_spelled : (v : Option (List ℕ)) → SpellsValue (has_value v) (is_wide v) v (least_value v)
-value_spelled None = refl
-value_spelled (Some text) = (least_length (length text), length_spelled (length text) (ltb 255 (length text)) refl, refl)
+value_spelled v = grind (arith, common_steps, length_spelled)
 
 -- ---- TLVs and blocks
 

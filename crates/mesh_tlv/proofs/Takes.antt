@@ -1,5 +1,5 @@
 -- What is read is spelled so, and what is refused has its first fault there.
-use Rattle.mesh_tlv.proofs.Common.{◌≡◌, ℕ, ◌+◌, ◌-◌, ◌%◌, ◌<◌, ◌≤◌, Bool, true, false, not, cond, eqb, ltb, leb, ◌||◌, List, [], ◌∷◌, ◌++◌, length, Option, Ok, Err, refl, sym, ap, subst, ◌∙◌, arith, inl, inr, ◌⊎◌, MatchResult, slice_range, ltb-false, ltb-true, leb-false, leb-true, eqb-true, eqb-false, false_from_ne_true as not_true, not-true, not-false, length-append, Refusal, Reading, has, refuse, octet_at, meets_bind, meets_if, Takes, takes_none, takes_both, takes_range, range_length, octet_takes, short_takes, is_sound, flags_at, extension_at, index_octet_at, indexes_at, length_at, value_at, part_count, tlv_of_at, SpellsExtension, SpellsIndex, SpellsLength, SpellsValue, Divides, HasEqualParts, SpellsTlvOf, IsBroken, two_indexes, wide_nothing, multi_nothing, Opens, Extends, Indexes, IsCut, TlvFault, flags_cut, flags_broken, ext_cut, start_cut, start_high, stop_cut, stop_wrong, length_cut, length_uneven, value_cut, FirstFaultAt}
+use Rattle.mesh_tlv.proofs.Common.{common_steps, ◌≡◌, ℕ, ◌+◌, ◌-◌, ◌%◌, ◌<◌, ◌≤◌, Bool, true, false, not, cond, eqb, ltb, leb, ◌||◌, List, [], ◌∷◌, ◌++◌, length, Option, Ok, Err, refl, sym, ap, subst, ◌∙◌, arith, inl, inr, ◌⊎◌, MatchResult, slice_range, ltb-false, ltb-true, leb-false, leb-true, eqb-true, eqb-false, false_from_ne_true as not_true, not-true, not-false, length-append, Refusal, Reading, has, refuse, octet_at, meets_bind, meets_if, Takes, takes_none, takes_both, takes_range, range_length, octet_takes, short_takes, is_sound, flags_at, extension_at, index_octet_at, indexes_at, length_at, value_at, part_count, tlv_of_at, SpellsExtension, SpellsIndex, SpellsLength, SpellsValue, Divides, HasEqualParts, SpellsTlvOf, IsBroken, two_indexes, wide_nothing, multi_nothing, Opens, Extends, Indexes, IsCut, TlvFault, flags_cut, flags_broken, ext_cut, start_cut, start_high, stop_cut, stop_wrong, length_cut, length_uneven, value_cut, FirstFaultAt}
 use Rattle.mesh_tlv.proofs.Items.{Took}
 use Rattle.mesh_tlv.proofs.Flags.{broken_if, not_broken_if, taken_if}
 
@@ -95,12 +95,10 @@ length_takes flags s at end fits =
       narrow (Err e) h = h
 
 pub divides_if : (multi : Bool) (first last n : ℕ) → n % part_count multi first last ≡ 0 → Divides multi first last n
-divides_if true first last n h = h
-divides_if false first last n h = tt
+divides_if multi first last n h = grind (arith, common_steps)
 
 pub divided_if : (multi : Bool) (first last n : ℕ) → Divides multi first last n → n % part_count multi first last ≡ 0
-divided_if true first last n h = h
-divided_if false first last n h = omega arith
+divided_if multi first last n h = grind (arith, common_steps)
 
 module _ (barred count flags first last : ℕ) (s : List ℕ) (start at end : ℕ) (head : List ℕ) (fits : end ≤ length s) (len : at ≡ start + (2 + length head)) (indexes : Indexes barred count (slice_range s start end) flags first last head (slice_range s at end)) where
   value_takes : at ≤ end → MatchResult (value_at flags (part_count (has flags 4) first last) s at end) (Took s at end (λ (v : Option (List ℕ)) text. SpellsValue (has flags 16) (has flags 8) v text × HasEqualParts (has flags 4) first last v)) (FirstFaultAt (TlvFault barred count) s start end)

@@ -1,5 +1,5 @@
 -- The two kinds of TLV, each with its reader.
-use Rattle.mesh_tlv.proofs.Common.{◌≡◌, ℕ, ◌<◌, false, bit_and, Option, Some, None, List, length, refl, sym, ap, ◌∙◌, arith, and_zero_l, has, meets_bind, AddrTlvFields, indexed, unindexed, FirstFaultAt, tlv_of_at, tlv_at, addr_tlv_at, SpellsTlvOf, SpellsTlv, SpellsAddrTlv, HasEqualParts, TlvFault}
+use Rattle.mesh_tlv.proofs.Common.{common_steps, ◌≡◌, ℕ, ◌<◌, false, bit_and, List, length, refl, sym, ap, ◌∙◌, arith, and_zero_l, has, meets_bind, AddrTlvFields, indexed, unindexed, FirstFaultAt, tlv_of_at, tlv_at, addr_tlv_at, SpellsTlvOf, SpellsTlv, SpellsAddrTlv, TlvFault}
 use Rattle.std.proofs.lemmas.Nat.{and_assoc}
 use Rattle.mesh_tlv.proofs.Items.{IsReader, Took}
 use Rattle.mesh_tlv.proofs.Takes.{tlv_of_takes}
@@ -27,26 +27,7 @@ no_flag flags flag part none =
 
 -- a TLV without index flags and multivalue, of one address, covers that address
 unindexed_is : (tlv : AddrTlvFields) (bytes : List ℕ) → SpellsTlvOf 100 1 tlv bytes → SpellsTlv (unindexed tlv) bytes
-unindexed_is tlv bytes h =
-    let single : has h.flags 64 ≡ false = no_flag h.flags 64 refl h.not_barred in
-    let several : has h.flags 32 ≡ false = no_flag h.flags 32 refl h.not_barred in
-    let multi : has h.flags 4 ≡ false = no_flag h.flags 4 refl h.not_barred in
-    record {
-      flags = h.flags;
-      ext = h.ext;
-      index = h.index;
-      value = h.value;
-      not_barred = h.not_barred;
-      ext_is = h.ext_is;
-      index_is = rw (single, several) (refl, refl, (rw (single, several) at h.index_is).2);
-      value_is = h.value_is;
-      multi_is = sym multi;
-      equal_parts = rw multi (parted tlv.value);
-      whole = h.whole;
-    } where
-      parted : (v : Option (List ℕ)) → HasEqualParts false 0 0 v
-      parted (Some text) = tt
-      parted None = refl
+unindexed_is tlv bytes h = grind (arith, common_steps, no_flag)
 
 pub tlv_reader : IsReader tlv_at SpellsTlv (TlvFault 100 1)
 unfolding tlv_at

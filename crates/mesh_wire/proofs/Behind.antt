@@ -1,24 +1,15 @@
 -- Where the TLVs of a message begin, and where its address blocks.
-use Rattle.mesh_wire.proofs.Common.{◌≡◌, ℕ, ◌+◌, ◌*◌, Bool, true, false, List, ◌∷◌, ◌++◌, length, drop, Option, Some, None, sym, ap, subst, ◌∙◌, arith, length-append, append_assoc, drop-append_seam, RawAddr, MessageFields, SpellsOctet, SpellsNumber, SpellsOriginator, SpellsMessage, TlvFields, SpellsTlvBlock, heads_equal, tails_equal}
+use Rattle.mesh_wire.proofs.Common.{common_steps, ◌≡◌, ℕ, ◌+◌, ◌*◌, Bool, List, ◌∷◌, ◌++◌, length, drop, Option, sym, ap, subst, ◌∙◌, arith, length-append, append_assoc, drop-append_seam, RawAddr, MessageFields, SpellsOctet, SpellsNumber, SpellsOriginator, SpellsMessage, TlvFields, SpellsTlvBlock, heads_equal, tails_equal}
 use Rattle.mesh_wire.specs.Sizes.{size_if, size_before}
 
 octet_size : (set : Bool) (x : Option ℕ) (text : List ℕ) → SpellsOctet set x text → length text ≡ size_if 1 x
-octet_size true (Some n) text e = ap length e
-octet_size false None text e = ap length e
-octet_size true None text e = absurd e
-octet_size false (Some n) text e = absurd e
+octet_size set x text e = grind (arith, common_steps)
 
 number_size : (set : Bool) (x : Option ℕ) (text : List ℕ) → SpellsNumber set x text → length text ≡ size_if 2 x
-number_size true (Some n) text (high, low, is, e) = ap length e
-number_size false None text e = ap length e
-number_size true None text e = absurd e
-number_size false (Some n) text e = absurd e
+number_size set x text h3 = grind (arith, common_steps)
 
 originator_size : (set : Bool) (width : ℕ) (x : Option RawAddr) (text : List ℕ) → SpellsOriginator set width x text → length text ≡ size_if width x
-originator_size true width (Some a) text h = h.0
-originator_size false width None text e = ap length e
-originator_size true width None text e = absurd e
-originator_size false width (Some a) text e = absurd e
+originator_size set width x text h = grind (arith, common_steps)
 
 -- a message is so many octets, its TLVs, and its address blocks
 pub head_before : (m : MessageFields) (text : List ℕ) (is : SpellsMessage m text) → (front : List ℕ) × (length front ≡ size_before m) × (text ≡ front ++ (is.body_is.tlvs ++ is.body_is.blocks))
@@ -48,8 +39,4 @@ behind_head m text is =
 
 -- behind a TLV block whose length is these two octets
 pub behind_tlvs : (tlvs : List TlvFields) (text blocks rest : List ℕ) (high low : ℕ) → SpellsTlvBlock tlvs text → text ++ blocks ≡ high ∷ low ∷ rest → blocks ≡ drop (256 * high + low) rest
-behind_tlvs tlvs text blocks rest high low (len, items, (a, b, number, two), spelled, parts) same =
-    let whole : a ∷ b ∷ (items ++ blocks) ≡ high ∷ low ∷ rest =
-    sym (ap (λ (l : List ℕ). l ++ blocks) (parts ∙ ap (λ (l : List ℕ). l ++ items) two)) ∙ same in
-    let size : length items ≡ 256 * high + low = (let h = heads_equal a high _ _ whole in let k = heads_equal b low _ _ (tails_equal a high _ _ whole) in omega (arith, number, h, k)) in
-    sym (drop-append_seam items blocks) ∙ ap (drop (length items)) (tails_equal b low _ _ (tails_equal a high _ _ whole)) ∙ ap (λ (n : ℕ). drop n rest) size
+behind_tlvs tlvs text blocks rest high low h6 same = grind (arith, common_steps, heads_equal, tails_equal)

@@ -1,5 +1,5 @@
 -- What is kept of a network after all entries is what they say of it.
-use Rattle.mesh_wire.proofs.Common.{◌≡◌, ℕ, ◌⊎◌, inl, inr, refl, sym, ap, subst, Bool, true, List, [], ◌∷◌, ◌++◌, Option, Some, None, cond, cases_Bool, NetAddr, RowParts, Entry, is_of, put_said, collected, no_parts, some_equal}
+use Rattle.mesh_wire.proofs.Common.{arith, common_steps, ◌≡◌, ℕ, ◌⊎◌, inl, inr, sym, ap, subst, true, List, [], ◌∷◌, ◌++◌, Option, Some, None, cond, cases_Bool, NetAddr, RowParts, Entry, is_of, put_said, collected, no_parts, some_equal}
 use Rattle.mesh_wire.proofs.Slots.{IsMoreOf, RowIs, row_more, row_same, row_none}
 
 -- one of the entries is so
@@ -33,11 +33,7 @@ module _ (net : NetAddr) where
   same_said p q e = let f = sym (some_equal p q e) in (ap (λ (r : ℕ × List ℕ). r.0) f, ap (λ (r : ℕ × List ℕ). r.1) f)
 
   is_more : (e : Entry) (S : ℕ → List ℕ → Type 0) (k : ℕ) (x : List ℕ) → is_of net e ≡ true → e.said ≡ Some (k, x) → IsMoreOf S (With e S) k x
-  is_more e S k x of is = record {
-    split = λ m y u. elim u [ inl s ↦ inl s | inr h ↦ inr (same_said (k, x) (m, y) (subst (λ (o : Option (ℕ × List ℕ)). o ≡ Some (m, y)) is h.1)) ];
-    keep = λ m y s. inl s;
-    said = inr (of, is);
-  }
+  is_more e S k x of is = grind (arith, common_steps, same_said)
 
   -- an entry of the network
   put_is : (e : Entry) (said : Option (ℕ × List ℕ)) (H : Type 0) (S : ℕ → List ℕ → Type 0) (row : Option RowParts) → e.said ≡ said → is_of net e ≡ true → At H S row → At (H ⊎ StandsOf net e) (With e S) (Some (put_said said row))
@@ -48,22 +44,11 @@ module _ (net : NetAddr) where
 
   -- any entry
   step_is : (e : Entry) (H : Type 0) (S : ℕ → List ℕ → Type 0) (row : Option RowParts) → At H S row → At (H ⊎ StandsOf net e) (With e S) (cond (is_of net e) (Some (put_said e.said row)) row)
-  step_is e H S row h = elim (cases_Bool (is_of net e)) [
-    | inl of ↦ subst (λ (b : Bool). At (H ⊎ StandsOf net e) (With e S) (cond b (Some (put_said e.said row)) row)) (sym of) (put_is e e.said H S row refl of h)
-    | inr off ↦ subst (λ (b : Bool). At (H ⊎ StandsOf net e) (With e S) (cond b (Some (put_said e.said row)) row)) (sym off)
-        (at_same H (H ⊎ StandsOf net e) S (With e S) row
-        (λ u. elim u [ inl y ↦ y | inr on ↦ absurd (cc) ]) (λ y. inl y)
-        (λ k x u. elim u [ inl s ↦ s | inr g ↦ let on : is_of net e ≡ true = g.0 in absurd (cc) ]) (λ k x s. inl s) h)
-  ]
+  step_is e H S row h = grind (arith, common_steps, cases_Bool, put_is, at_same)
 
   all_is : (es : List Entry) (H : Type 0) (S : ℕ → List ℕ → Type 0) (row : Option RowParts) → At H S row → At (H ⊎ AnyOf (StandsOf net) es) (λ k x. S k x ⊎ AnyOf (SaysOf net k x) es) (collected net es row)
   all_is [] H S row h = at_same H (H ⊎ ⊥) S (λ k x. S k x ⊎ ⊥) row (λ u. elim u [ inl y ↦ y | inr n ↦ absurd n ]) (λ y. inl y) (λ k x u. elim u [ inl s ↦ s | inr n ↦ absurd n ]) (λ k x s. inl s) h
-  all_is (e ∷ es) H S row h = at_same ((H ⊎ StandsOf net e) ⊎ AnyOf (StandsOf net) es) (H ⊎ (StandsOf net e ⊎ AnyOf (StandsOf net) es)) (λ k x. With e S k x ⊎ AnyOf (SaysOf net k x) es) (λ k x. S k x ⊎ (SaysOf net k x e ⊎ AnyOf (SaysOf net k x) es)) (collected net (e ∷ es) row)
-      (λ u. elim u [ inl y ↦ inl (inl y) | inr (inl z) ↦ inl (inr z) | inr (inr z) ↦ inr z ])
-      (λ u. elim u [ inl (inl y) ↦ inl y | inl (inr z) ↦ inr (inl z) | inr z ↦ inr (inr z) ])
-      (λ k x u. elim u [ inl y ↦ inl (inl y) | inr (inl z) ↦ inl (inr z) | inr (inr z) ↦ inr z ])
-      (λ k x u. elim u [ inl (inl y) ↦ inl y | inl (inr z) ↦ inr (inl z) | inr z ↦ inr (inr z) ])
-      (all_is es (H ⊎ StandsOf net e) (With e S) (cond (is_of net e) (Some (put_said e.said row)) row) (step_is e H S row h))
+  all_is (e ∷ es) H S row h = grind (arith, common_steps, at_same, collected, step_is, (all_is es (H ⊎ StandsOf net e) (With e S) (cond (is_of net e) (Some (put_said e.said row)) row) (step_is e H S row h)))
 
   -- from nothing on
   pub collected_is : (es : List Entry) → At (AnyOf (StandsOf net) es) (λ k x. AnyOf (SaysOf net k x) es) (collected net es None)

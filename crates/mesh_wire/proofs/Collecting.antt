@@ -1,13 +1,11 @@
 -- Entries of networks, and what is kept after them.
-use Rattle.mesh_wire.proofs.Common.{◌≡◌, ℕ, zero, suc, slice_range, take, ◌-◌, ◌<◌, ◌≤◌, inl, inr, refl, sym, ◌∙◌, ap, subst, arith, Bool, true, false, cond, List, length, Option, Some, None, [], ◌∷◌, ◌++◌, drop, eq-eqb, eqb-true, and_parts as both, NetAddr, same_net, RawAddr, RowParts, Entry, entry_on, is_of, standing, put_said, collected, IsIn, after, no_parts, cond_same, same_addr}
+use Rattle.mesh_wire.proofs.Common.{common_steps, ◌≡◌, ℕ, zero, suc, slice_range, take, ◌-◌, ◌<◌, ◌≤◌, inl, inr, refl, sym, ◌∙◌, ap, subst, arith, Bool, true, false, cond, List, length, Option, Some, None, [], ◌∷◌, ◌++◌, drop, eq-eqb, NetAddr, same_net, RawAddr, RowParts, Entry, entry_on, is_of, standing, put_said, collected, IsIn, after, no_parts, cond_same, same_addr}
 use Rattle.mesh_wire.proofs.Collected.{AnyOf, StandsOf}
 
 -- ---- one entry
 
 pub of_one : (a : RawAddr) (said : Option (ℕ × List ℕ)) (net : NetAddr) → is_of net (entry_on a said) ≡ true → IsIn a net
-of_one a said net e =
-    let parts = both _ _ e in
-    record { prefix = eqb-true _ _ parts.1; number = eqb-true _ _ parts.0 }
+of_one a said net e = grind (arith, common_steps)
 
 pub one_of : (a : RawAddr) (said : Option (ℕ × List ℕ)) (net : NetAddr) → IsIn a net → is_of net (entry_on a said) ≡ true
 one_of a said net i = rw (eq-eqb _ _ i.number, eq-eqb _ _ i.prefix) refl
@@ -42,16 +40,10 @@ after_standing net (a ∷ addrs) parts = ap (after net (standing addrs)) (cond_s
 -- where a network is kept, entries tell of it as where nothing is kept at first
 pub kept_after : (net : NetAddr) (es : List Entry) (parts : RowParts) → collected net es (Some parts) ≡ Some (after net es parts)
 kept_after net [] parts = refl
-kept_after net (e ∷ es) parts = by (is_of net e) (kept_after net es (put_said e.said (Some parts))) (kept_after net es parts)
-  where
-    by : (b : Bool) → collected net es (Some (put_said e.said (Some parts))) ≡ Some (after net es (put_said e.said (Some parts))) → collected net es (Some parts) ≡ Some (after net es parts) →
-        collected net es (cond b (Some (put_said e.said (Some parts))) (Some parts)) ≡ Some (after net es (cond b (put_said e.said (Some parts)) parts))
-    by true h g = h
-    by false h g = g
+kept_after net (e ∷ es) parts = grind (arith, common_steps, collected, (kept_after net es (put_said e.said (Some parts))), (kept_after net es parts))
 
 first_put : (said : Option (ℕ × List ℕ)) → put_said said None ≡ put_said said (Some no_parts)
-first_put None = refl
-first_put (Some s) = refl
+first_put said = grind (arith, common_steps)
 
 pub all_after : (net : NetAddr) (es : List Entry) → AnyOf (StandsOf net) es → collected net es None ≡ Some (after net es no_parts)
 all_after net [] h = absurd h

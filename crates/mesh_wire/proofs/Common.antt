@@ -22,14 +22,12 @@ pub use Rattle.mesh_atoms.specs.declared.codes.metric.Metric.{Metric}
 pub use Rattle.mesh_atoms.specs.declared.hello.Hello.{Hello}
 pub use Rattle.mesh_atoms.specs.declared.hello.HelloRow.{HelloRow}
 pub use Rattle.mesh_atoms.specs.declared.hello.LocalIf.{LocalIf}
-pub use Rattle.mesh_atoms.specs.declared.hello.LocalIf.TheVariants.{This}
-pub use Rattle.mesh_atoms.specs.declared.hello.Metrics.{Metrics}
 pub use Rattle.mesh_atoms.specs.declared.hello.Willing.{Willing}
 pub use Rattle.mesh_atoms.specs.declared.tc.Tc.{Tc}
 pub use Rattle.mesh_atoms.specs.declared.tc.TcRow.{TcRow}
 pub use Rattle.mesh_packet.specs.Fields.{BlockFields, MessageFields, PacketFields, fields_of_block, fields_of_message}
 pub use Rattle.mesh_packet.specs.Grammar.{Spells, SpellsHeaderTlvs, SpellsMessage, SpellsNumber, SpellsOctet, SpellsOriginator, SpellsPair}
-pub use Rattle.mesh_packet.specs.Least.{IsEncodableBlock, IsEncodableMessage, IsPaddedOriginator, LeastBody, LeastForm, LeastMessage, LeastPair, least_number, least_octet, least_originator, message_flags}
+pub use Rattle.mesh_packet.specs.Least.{IsEncodableBlock, IsEncodableMessage, IsPaddedOriginator, LeastForm, LeastMessage, LeastPair, least_number, least_octet, least_originator}
 pub use Rattle.mesh_packet.specs.declared.packet.Block.{Block}
 pub use Rattle.mesh_packet.specs.declared.packet.Span.{Span}
 pub use Rattle.mesh_tlv.specs.Fields.{AddrTlvFields, TlvFields, addr_fields, fields}
@@ -86,9 +84,9 @@ pub use Rattle.mesh_wire.specs.declared.tc.TcHeader.{TcHeader}
 pub use Rattle.std.proofs.Common.{All, AllPairs, Bool, Contains, Decides, Err, IfErr, IfOk, IsSome, IsTrue, List, None, Ok, Option, Result, Some, [], ap, append-nil, append_assoc, arith, cond, drop, false, filter, get_or, if◌then◌else◌, inl, inr, length, length-append, length-drop, length-take, lit<, lit≤, ltb, map, min, nat_eq, nat_le, nat_lt, not, refl, replicate, rules, set, slice_get, slice_index, slice_index_or, slice_range, slice_set, subst, suc, sym, take, true, unwrap_or, zero, ℕ, ◌%◌, ◌&&◌, ◌*◌, ◌++◌, ◌+◌, ◌-◌, ◌/◌, ◌<◌, ◌==◌, ◌^◌, ◌||◌, ◌↔◌, ◌∙◌, ◌∷◌, ◌≡◌, ◌≢◌, ◌≤◌, ◌⊎◌}
 pub use Rattle.std.proofs.Math.Nat.{div-mul-le_self, mod-eq-sub-div-mul, mul-div_right, mul-mod_right}
 pub use Rattle.std.proofs.Math.Seq.{drop-append_seam, get_or-append_seam, set-append_seam, take-append_seam}
-pub use Rattle.std.proofs.lemmas.Bool.{and_from, and_parts, and_right, cases_Bool, cases_eq, cases_lt, eq-eqb, eqb-false, eqb-true, false≢true, iff_false, le-ltb, lt-ltb, ltb-true, ne_eqb, not_from_true, or_cases, or_left, or_parts, or_right}
-pub use Rattle.std.proofs.lemmas.Grind.{flat_map-append}
-pub use Rattle.std.proofs.lemmas.List.{at_drop_more, drop-drop, drop_all, get_or-append-add, get_or-map, get_or-replicate, get_or-set_other, get_or-set_same, get_or_append_left, get_or_past, length-map, length-set, length_push, map-append, take-append-drop, take_all, take_more, take_rest}
+pub use Rattle.std.proofs.lemmas.Bool.{and_from, and_parts, and_right, cases_Bool, cases_eq, cases_lt, eq-eqb, eqb-false, eqb-true, false≢true, iff_false, lt-ltb, ltb-true, ne_eqb, not_from_true, or_cases, or_left, or_parts, or_right}
+pub use Rattle.std.proofs.lemmas.Grind.{common_steps, flat_map-append}
+pub use Rattle.std.proofs.lemmas.List.{at_drop_more, drop-drop, drop_all, get_or-append-add, get_or-map, get_or-replicate, get_or_append_left, get_or_past, length-map, length_push, map-append, take-append-drop, take_all, take_more, take_rest}
 pub use Rattle.std.proofs.lemmas.List.Elements.{All-contains, All-from_recursion, Contains-append_cases, Contains-append_left, Contains-append_right, Contains-push, Contains-push_cases}
 pub use Rattle.std.proofs.lemmas.Option.{get_or_from_slice_get, slice_get-map, slice_get_within}
 pub use Rattle.std.proofs.lemmas.Result.{IfOk-weaker, on_ok_weaker}
@@ -96,4 +94,4 @@ pub use Rattle.std.specs.List.{AllByRecursion, flat_map, list_any}
 pub use Rattle.std.specs.Option.{is_none, is_some, option_copied, option_eq, option_map}
 pub use Rattle.std.specs.Ordering.{is_lt, ordering_reverse}
 pub use Rattle.std.specs.declared.cmp.Ordering.{Ordering}
-pub use Rattle.std.specs.declared.cmp.Ordering.TheVariants.{Equal, Greater, Less}
+pub use Rattle.std.specs.declared.cmp.Ordering.TheVariants.{Greater, Less}

@@ -1,5 +1,5 @@
 -- A TC that has a validity at each distance keeps its rules at each.
-use Rattle.mesh_wire.proofs.Common.{◌≡◌, ℕ, ◌+◌, ◌<◌, ◌%◌, inl, inr, refl, List, [], ◌∷◌, length, Option, Some, None, NetAddr, Metric, Tc, time_at_distance, IsTimeValue, MessageFields, validity_time, nbr_addr_type, gateway, link_metric, values_of, TlvFields, MetricKind, ShowsMetric, HasWrongMetric, after_hops, HasPart, HasValue, HasType, HasOtherLength, HasTwoValues, Keeps, BreaksTc, AddressWidth, NoOriginator, NoSequence, NoValidity, WrongInterval, Content, AddrType, TwoAddrTypes, ShortPrefix, GatewayOctet, TwoGateways, Beside, WrongMetric, distance_of, IntervalIs, WritesTc}
+use Rattle.mesh_wire.proofs.Common.{arith, common_steps, ◌≡◌, ℕ, ◌+◌, ◌<◌, ◌%◌, inl, inr, refl, List, [], ◌∷◌, length, Option, Some, None, NetAddr, Metric, Tc, time_at_distance, IsTimeValue, MessageFields, validity_time, nbr_addr_type, gateway, link_metric, values_of, TlvFields, MetricKind, ShowsMetric, HasWrongMetric, after_hops, HasPart, HasValue, HasType, HasOtherLength, HasTwoValues, Keeps, BreaksTc, AddressWidth, NoOriginator, NoSequence, NoValidity, WrongInterval, Content, AddrType, TwoAddrTypes, ShortPrefix, GatewayOctet, TwoGateways, Beside, WrongMetric, distance_of, IntervalIs, WritesTc}
 use Rattle.mesh_atoms.specs.declared.tc_rule.TheConstants as rule
 use Rattle.mesh_wire.proofs.Further.{odd, above}
 
@@ -11,16 +11,7 @@ interval_on m limit hops none (Some t) (value, e, odd, _) = none (Some (time_at_
 -- what is said of addresses stays
 
 part_back : (m : MessageFields) (limit hops : ℕ) (net : NetAddr) (part : TlvFields) → HasPart (after_hops m limit hops) net part → HasPart m net part
-part_back m limit hops net part p = record {
-  block = p.block;
-  place = p.place;
-  tlv = p.tlv;
-  address = record { address = p.address.address; in_message = p.address.in_message; in_block = p.address.in_block; is_in = p.address.is_in };
-  in_block = p.in_block;
-  first = p.first;
-  last = p.last;
-  part_is = p.part_is;
-}
+part_back m limit hops net part p = grind (arith, common_steps)
 
 says_back : (m : MessageFields) (limit hops : ℕ) (net : NetAddr) (kind : ℕ) (octets : List ℕ) → HasValue (after_hops m limit hops) net kind octets → HasValue m net kind octets
 says_back m limit hops net kind octets (value, p, e) = (value, part_back m limit hops net (record { kind = kind; ext = 0; value = value }) p, e)

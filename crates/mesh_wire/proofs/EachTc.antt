@@ -1,5 +1,5 @@
 -- Each message reads as a TC or breaks a first rule of one.
-use Rattle.mesh_wire.proofs.Common.{◌≡◌, ℕ, ◌<◌, ◌⊎◌, inl, inr, refl, arith, List, map, Option, Some, None, cases_eq, Addr4, Tc, address_in, none_not, RawAddr, MessageFields, TcHeader, AddressParts, of_blocks, OriginatorIs, HasOctets, ReadsOrBreaks, BreakNone, tc_rule, Keeps, TcIs, TcHeadingIs, tc_row, BreaksTc, AddressWidth, NoOriginator, NoSequence, NoValidity, WrongInterval, Content, distance_of}
+use Rattle.mesh_wire.proofs.Common.{common_steps, ◌≡◌, ℕ, ◌<◌, ◌⊎◌, inl, inr, refl, arith, List, map, Option, Some, None, cases_eq, Addr4, Tc, address_in, none_not, RawAddr, MessageFields, TcHeader, AddressParts, of_blocks, OriginatorIs, HasOctets, ReadsOrBreaks, BreakNone, tc_rule, Keeps, TcIs, TcHeadingIs, tc_row, BreaksTc, AddressWidth, NoOriginator, NoSequence, NoValidity, WrongInterval, Content, distance_of}
 use Rattle.mesh_wire.proofs.Deciding.{validity_or, interval_or, content_or}
 use Rattle.mesh_wire.proofs.InOrder.{NoneBelow, Decided, Outcome, first_or_none, of_either, of_rows}
 use Rattle.mesh_wire.proofs.TcHeading.{first_number, width_kept, header_kept, validity_kept, interval_kept, content_kept, an_originator}
@@ -10,8 +10,7 @@ self_of address = record { 0 = address_in address.octets }
 
 self_is : (address : RawAddr) (o : Option RawAddr) → o ≡ Some address → OriginatorIs o (Some (self_of address))
 unfolding self_of
-self_is address None e = cc
-self_is address (Some a) e = let same : a ≡ address = cc in rw same refl
+self_is address o e = grind (arith, common_steps)
 
 there_or : {A : Type 0} (o : Option A) → ((a : A) × (o ≡ Some a)) ⊎ (o ≡ None)
 there_or None = inr refl

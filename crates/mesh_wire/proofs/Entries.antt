@@ -1,5 +1,5 @@
 -- The entries of a message say what the message does.
-use Rattle.mesh_wire.proofs.Common.{◌≡◌, ℕ, zero, suc, ◌+◌, ◌-◌, ◌<◌, ◌≤◌, inl, inr, refl, sym, ◌∙◌, ap, subst, arith, List, [], ◌∷◌, Contains, slice_range, Some, None, slice_get, drop, ◌==◌, cases_Bool, eq-eqb, eqb-true, NetAddr, RawAddr, TlvFields, AddrTlvFields, BlockFields, MessageFields, Entry, standing, tellings, of_tlv, of_tlvs, of_block, of_blocks, IsIn, octets_of, value_at, HoldsAddress, HasValue, contains_head as at_head, contains_tail as in_tail, contains_cases, contains_none as none_in}
+use Rattle.mesh_wire.proofs.Common.{common_steps, ◌≡◌, ℕ, zero, suc, ◌+◌, ◌-◌, ◌<◌, ◌≤◌, inl, inr, refl, sym, ◌∙◌, ap, subst, arith, List, [], ◌∷◌, Contains, slice_range, Some, None, slice_get, ◌==◌, cases_Bool, eq-eqb, NetAddr, RawAddr, TlvFields, AddrTlvFields, BlockFields, MessageFields, Entry, standing, tellings, of_tlv, of_tlvs, of_block, of_blocks, IsIn, octets_of, value_at, HoldsAddress, HasValue, contains_head as at_head, contains_tail as in_tail, contains_cases, contains_none as none_in}
 use Rattle.mesh_wire.proofs.Collected.{AnyOf, StandsOf, SaysOf, any_front, any_back, any_either}
 use Rattle.mesh_wire.proofs.Collecting.{of_one, one_of}
 use Rattle.mesh_wire.proofs.Standing.{get_drop, get_take, covered}
@@ -41,13 +41,8 @@ told_there tlv net k x from (a ∷ addrs) (inr h) =
 there_told : (tlv : AddrTlvFields) (net : NetAddr) (from : ℕ) (addrs : List RawAddr) (i : ℕ) (a : RawAddr) → slice_get addrs i ≡ Some a → IsIn a net →
     AnyOf (SaysOf net tlv.kind (octets_of (value_at tlv (from + i)))) (tellings tlv from addrs)
 there_told tlv net from [] i a at is_in = cc
-there_told tlv net from (b ∷ addrs) zero a at is_in =
-    let e : b ≡ a = cc in
-    let f : from ≡ from + 0 = omega arith in
-    inl (one_of b (Some (tlv.kind, octets_of (value_at tlv from))) net (subst (λ (x : RawAddr). IsIn x net) (sym e) is_in), ap (λ (n : ℕ). Some (tlv.kind, octets_of (value_at tlv n))) f)
-there_told tlv net from (b ∷ addrs) (suc i) a at is_in =
-    let e : from + 1 + i ≡ from + suc i = omega arith in
-    inr (subst (λ (n : ℕ). AnyOf (SaysOf net tlv.kind (octets_of (value_at tlv n))) (tellings tlv (from + 1) addrs)) e (there_told tlv net (from + 1) addrs i a at is_in))
+there_told tlv net from (b ∷ addrs) zero a at is_in = grind (arith, common_steps, one_of)
+there_told tlv net from (b ∷ addrs) (suc i) a at is_in = grind (arith, common_steps, (there_told tlv net (from + 1) addrs i a at is_in))
 
 told_stands : (tlv : AddrTlvFields) (net : NetAddr) (from : ℕ) (addrs : List RawAddr) → AnyOf (StandsOf net) (tellings tlv from addrs) → (i : ℕ) × (a : RawAddr) × (slice_get addrs i ≡ Some a) × IsIn a net
 told_stands tlv net from [] h = absurd h
@@ -55,9 +50,7 @@ told_stands tlv net from (a ∷ addrs) (inl h) = (zero, a, refl, of_one a (Some 
 told_stands tlv net from (a ∷ addrs) (inr h) = let (i, b, at, is_in) = told_stands tlv net (from + 1) addrs h in (suc i, b, at, is_in)
 
 uncovered : (addrs : List RawAddr) (first end place : ℕ) (a : RawAddr) → first ≤ place → place < end → slice_get addrs place ≡ Some a → slice_get (slice_range addrs first end) (place - first) ≡ Some a
-uncovered addrs first end place a low high at =
-    let e : first + (place - first) ≡ place = omega arith in
-    get_take (end - first) (drop first addrs) (place - first) (omega arith) ∙ get_drop first addrs (place - first) ∙ ap (slice_get addrs) e ∙ at
+uncovered addrs first end place a low high at = grind (arith, common_steps, get_take, get_drop)
 
 -- a TLV says a value of an address at a place that it covers
 pub record SaysAt (addrs : List RawAddr) (tlv : AddrTlvFields) (net : NetAddr) (k : ℕ) (x : List ℕ) : Type 0 where
@@ -72,14 +65,7 @@ pub record SaysAt (addrs : List RawAddr) (tlv : AddrTlvFields) (net : NetAddr) (
   pub value : x ≡ octets_of (value_at tlv place)
 
 tlv_says : (addrs : List RawAddr) (tlv : AddrTlvFields) (net : NetAddr) (k : ℕ) (x : List ℕ) → AnyOf (SaysOf net k x) (of_tlv addrs tlv) → SaysAt addrs tlv net k x
-tlv_says addrs tlv net k x h = elim (cases_Bool (tlv.ext == 0)) [
-  | inl e ↦
-      let g : AnyOf (SaysOf net k x) (tellings tlv tlv.first (slice_range addrs tlv.first (tlv.last + 1))) = rw e at h in
-      let (i, a, at, is_in, kind, value) = told_there tlv net k x tlv.first (slice_range addrs tlv.first (tlv.last + 1)) g in
-      let c = covered addrs tlv.first (tlv.last + 1) i a at in
-      record { place = tlv.first + i; address = a; at = c.1; is_in = is_in; ext = eqb-true tlv.ext 0 e; first = omega arith; last = omega (arith, c.0); kind = kind; value = value }
-  | inr e ↦ let g : ⊥ = rw e at h in absurd g
-]
+tlv_says addrs tlv net k x h = grind (arith, common_steps, cases_Bool, told_there, covered)
 
 says_tlv : (addrs : List RawAddr) (tlv : AddrTlvFields) (net : NetAddr) (k : ℕ) (x : List ℕ) → SaysAt addrs tlv net k x → AnyOf (SaysOf net k x) (of_tlv addrs tlv)
 says_tlv addrs tlv net k x s =

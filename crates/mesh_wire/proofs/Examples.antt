@@ -1,14 +1,12 @@
 -- Small messages and what they read as.
-use Rattle.mesh_wire.proofs.Common.{◌≡◌, ℕ, zero, suc, ◌≤◌, inl, inr, List, [], ◌∷◌, refl, sym, ap, subst, ◌∙◌, arith, lit≤, lit<, Contains, Option, Some, None, slice_get, NetAddr, HelloRow, This, HelloIs, IsReadHelloRow, local_if, link_status, link_metric, RawAddr, TlvFields, AddrTlvFields, BlockFields, MessageFields, IsIn, part_at, octets_of, HoldsAddressAt, HoldsAddress, HasPart, HasValue, BreaksHello, HopLimit, HopCount, WrongWilling, Undefined, TwoValues, FirstBroken, Keeps, own, own_net, local, own_block, lone, own_row, lone_hello, bare, near, near_net, states, two_near, OctetKind, Local, type_of, is_value, IsOctetOf, same_net, contains_one as only}
+use Rattle.mesh_wire.proofs.Common.{common_steps, ◌≡◌, ℕ, ◌≤◌, inl, inr, List, [], ◌∷◌, refl, sym, ap, subst, ◌∙◌, arith, lit≤, lit<, Contains, Option, Some, None, slice_get, NetAddr, HelloRow, HelloIs, IsReadHelloRow, local_if, link_status, link_metric, TlvFields, AddrTlvFields, BlockFields, MessageFields, part_at, octets_of, HoldsAddressAt, HoldsAddress, HasPart, HasValue, BreaksHello, HopLimit, HopCount, WrongWilling, Undefined, TwoValues, FirstBroken, Keeps, own, own_net, local, own_block, lone, own_row, lone_hello, bare, near, near_net, states, two_near, OctetKind, Local, type_of, is_value, IsOctetOf, same_net, contains_one as only}
 use Rattle.mesh_wire.specs.HelloRules.{AddressWidth, NoValidity, WrongInterval, ShortPrefix, WrongMetric}
 use Rattle.mesh_wire.proofs.OctetKinds.{same_type}
-use Rattle.mesh_wire.proofs.Statuses.{sender_alone}
 
 -- ---- lists of one
 
 pub first_only : {A : Type 0} (x y : A) (place : ℕ) → slice_get (x ∷ []) place ≡ Some y → x ≡ y
-first_only x y zero e = cc
-first_only x y (suc k) e = cc
+first_only x y place e = grind (arith, common_steps)
 
 -- ---- a TLV says its value of each address that it covers
 
@@ -26,20 +24,11 @@ own_local : HasValue lone own_net local_if (0 ∷ [])
 own_local = says lone own_block 0 own_net local local_if (0 ∷ []) own_at (0, lit< tt, refl) (lit≤ tt) (lit≤ tt) refl
 
 own_row_is : IsReadHelloRow lone own_row
-own_row_is = record {
-  local = own_local;
-  of_other = λ none. cc;
-  of_sender = λ some. sender_alone own_net (Some This);
-}
+own_row_is = grind (arith, common_steps, own_local)
 
 -- no other address is in it
 only_own : (net : NetAddr) → HoldsAddress lone net → own_net ≡ net
-only_own net (block, place, at) =
-    let same_block : own_block ≡ block = only own_block block at.in_message in
-    let in_block : slice_get own_block.addrs place ≡ Some at.address = subst (λ (b : BlockFields). slice_get b.addrs place ≡ Some at.address) (sym same_block) at.in_block in
-    let same : own ≡ at.address = first_only own at.address place in_block in
-    let is_in : IsIn own net = subst (λ (a : RawAddr). IsIn a net) (sym same) at.is_in in
-    same_net own_net net (ap (λ (n : ℕ). record { 0 = n }) (sym is_in.number)) (sym is_in.prefix)
+only_own net h1 = grind (arith, common_steps, first_only, same_net)
 
 pub lone_is : HelloIs lone lone_hello
 lone_is = record {
@@ -56,10 +45,7 @@ lone_is = record {
 
 -- it says LOCAL_IF of its address, and nothing else
 pub part_only : (net : NetAddr) (part : TlvFields) → HasPart lone net part → part ≡ record { kind = 2; ext = 0; value = Some (0 ∷ []) }
-part_only net part h =
-    let block : own_block ≡ h.block = only own_block h.block h.address.in_message in
-    let in_block : Contains own_block.tlvs h.tlv = subst (λ (b : BlockFields). Contains b.tlvs h.tlv) (sym block) h.in_block in
-    h.part_is ∙ ap (λ (t : AddrTlvFields). part_at t h.place) (sym (only local h.tlv in_block))
+part_only net part h = grind (arith, common_steps)
 
 says_only : (net : NetAddr) (kind : ℕ) (octets : List ℕ) → HasValue lone net kind octets → (kind ≡ 2) × (octets ≡ 0 ∷ []) × (own_net ≡ net)
 says_only net kind octets (value, h, is) =
@@ -83,19 +69,14 @@ lone_keeps n a (Undefined net kind among (octets, said, wrong)) =
     let is = says_only net (type_of kind) octets said in
     wrong (subst (IsOctetOf kind) (sym is.1) (defined kind is.0))
 lone_keeps n a (TwoValues net kind among (x, y, said_x, said_y, other)) = other ((says_only net (type_of kind) x said_x).1 ∙ sym (says_only net (type_of kind) y said_y).1)
-lone_keeps n a (ShortPrefix net kind among (octets, said) short) =
-    let e : 32 ≡ net.prefix = ap (λ (m : NetAddr). m.prefix) (says_only net (type_of kind) octets said).2 in
-    omega arith
+lone_keeps n a (ShortPrefix net kind among (octets, said) short) = grind (arith, common_steps, says_only, type_of)
 lone_keeps n a (WrongMetric net (inl (octets, said, other))) = no_metric net octets said
 lone_keeps n a (WrongMetric net (inr (kind, x, y, (high, low, said, flag, code), shows_y, other))) = no_metric net (high ∷ low ∷ []) said
 
 -- ---- a message of nothing but its header breaks rule 23 first
 
 first_is : (n : ℕ) (a : Option NetAddr) → BreaksHello bare n a → 23 ≤ n
-first_is n a (AddressWidth not_four) = absurd (not_four refl)
-first_is n a (HopLimit limit is not_one) = cc
-first_is n a (HopCount count is not_zero) = cc
-first_is n a other = lit≤ tt
+first_is n a h2 = grind (arith, common_steps)
 
 pub bare_broken : FirstBroken (BreaksHello bare) 23 None
 bare_broken = record {

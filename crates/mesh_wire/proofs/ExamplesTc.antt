@@ -1,5 +1,5 @@
 -- A TC whose addresses are of no known type: the first rule that is broken, and the least address.
-use Rattle.mesh_wire.proofs.Common.{◌≡◌, ℕ, zero, suc, ◌≤◌, ◌⊎◌, inl, inr, List, [], ◌∷◌, false, refl, sym, ap, ◌∙◌, subst, arith, lit≤, lit<, Option, Some, None, slice_get, false≢true, NetAddr, IsAtMost, nbr_addr_type, RawAddr, BlockFields, IsIn, HoldsAddressAt, HoldsAddress, HasValue, FirstBroken, IsLow, is_value, IsOctetOf, BreaksTc, AddressWidth, NoOriginator, NoSequence, NoValidity, WrongInterval, Content, AddrType, TwoAddrTypes, ShortPrefix, own, own_net, near, unknown, pair, odd_types, contains_one as only}
+use Rattle.mesh_wire.proofs.Common.{common_steps, ◌≡◌, ℕ, ◌≤◌, ◌⊎◌, List, [], ◌∷◌, false, refl, sym, ap, ◌∙◌, arith, lit≤, lit<, Option, Some, None, slice_get, false≢true, NetAddr, IsAtMost, nbr_addr_type, RawAddr, IsIn, HoldsAddressAt, HoldsAddress, HasValue, FirstBroken, IsLow, is_value, IsOctetOf, BreaksTc, AddressWidth, NoOriginator, NoSequence, NoValidity, WrongInterval, Content, AddrType, TwoAddrTypes, ShortPrefix, own, own_net, near, unknown, pair, odd_types}
 use Rattle.mesh_wire.specs.declared.octets.OctetKind.TheVariants as kinds
 use Rattle.mesh_wire.proofs.Examples.{says}
 
@@ -15,23 +15,13 @@ not_four octets e (octet, is, valid) = (let same : octet ≡ 4 = cc in false≢t
 -- ---- its addresses aren't below 10.0.0.1
 
 one_of_two : (place : ℕ) (address : RawAddr) → slice_get (near ∷ (own ∷ [])) place ≡ Some address → (near ≡ address) ⊎ (own ≡ address)
-one_of_two zero address e = inl cc
-one_of_two (suc zero) address e = inr cc
-one_of_two (suc (suc k)) address e = cc
+one_of_two place address e = grind (arith, common_steps)
 
 not_below : (net : NetAddr) (address : RawAddr) → (near ≡ address) ⊎ (own ≡ address) → IsIn address net → IsAtMost own_net net
-not_below net address (inl e) is =
-    let i : IsIn near net = subst (λ (a : RawAddr). IsIn a net) (sym e) is in
-    inl (omega (arith, i.number))
-not_below net address (inr e) is =
-    let i : IsIn own net = subst (λ (a : RawAddr). IsIn a net) (sym e) is in
-    inr (sym i.number, omega (arith, i.prefix))
+not_below net address h2 is = grind (arith, common_steps)
 
 at_most : (net : NetAddr) → HoldsAddress odd_types net → IsAtMost own_net net
-at_most net (block, place, at) =
-    let same : pair ≡ block = only pair block at.in_message in
-    let there : slice_get pair.addrs place ≡ Some at.address = subst (λ (b : BlockFields). slice_get b.addrs place ≡ Some at.address) (sym same) at.in_block in
-    not_below net at.address (one_of_two place at.address there) at.is_in
+at_most net h1 = grind (arith, common_steps, pair, not_below, one_of_two)
 
 said_of : (net : NetAddr) (kind : ℕ) (octets : List ℕ) → HasValue odd_types net kind octets → IsAtMost own_net net
 said_of net kind octets (value, h, is) = at_most net (h.block, h.place, h.address)

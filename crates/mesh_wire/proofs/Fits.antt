@@ -1,5 +1,5 @@
 -- Messages of at most 1,100 lines can be encoded, and fit a datagram.
-use Rattle.mesh_wire.proofs.Common.{◌≡◌, ℕ, ◌+◌, ◌*◌, ◌<◌, ◌≤◌, List, [], ◌∷◌, ◌++◌, length, take, drop, map, refl, sym, ap, subst, ◌∙◌, arith, lit≤, lit<, length-append, length-take, length-drop, Contains, All, Option, Some, None, Bool, true, false, cond, option_map, flat_map, AllByRecursion, length-map, All-from_recursion, Contains-append_left, Contains-append_right, Addr4, RawAddr, prefixes, SpellsMids, SpellsBlock, AreAtMost, AreRaw, BlockFields, MessageFields, IsPaddedOriginator, IsEncodableBlock, IsEncodableMessage, least_octet, least_number, least_originator, message_flags, LeastPair, LeastBody, LeastMessage, LeastForm, SpellsItems, IsFit, octet_if, least_short, least_length, least_value, least_addr_tlv, least_tlv, least_block, Octet, LinkIn, LinkOut, NearIn, NearOut, AddressRecord, OctetKind, whole, saying, heading_of, FitsAlone, columns, metric_columns, raw_of, has_part, IsBlock, AreBlocks, contains_head as at_head, contains_tail as in_tail, contains_map_cases}
+use Rattle.mesh_wire.proofs.Common.{common_steps, ◌≡◌, ℕ, ◌+◌, ◌*◌, ◌<◌, ◌≤◌, List, [], ◌∷◌, ◌++◌, length, take, map, refl, sym, ap, subst, ◌∙◌, arith, lit≤, lit<, length-append, Contains, All, Option, Bool, cond, option_map, flat_map, AllByRecursion, length-map, All-from_recursion, Contains-append_left, Contains-append_right, Addr4, RawAddr, prefixes, SpellsMids, SpellsBlock, AreAtMost, AreRaw, BlockFields, MessageFields, IsPaddedOriginator, IsEncodableBlock, IsEncodableMessage, least_octet, least_number, least_originator, LeastPair, SpellsItems, IsFit, least_short, least_addr_tlv, least_tlv, least_block, Octet, LinkIn, LinkOut, NearIn, NearOut, AddressRecord, OctetKind, whole, saying, heading_of, FitsAlone, columns, metric_columns, raw_of, has_part, IsBlock, AreBlocks, contains_head as at_head, contains_tail as in_tail, contains_map_cases}
 use Rattle.mesh_addr.specs.Least.{IsLeast}
 use Rattle.mesh_packet.specs.Least as packets
 use Rattle.mesh_tlv.specs.Least as tlvs
@@ -44,16 +44,10 @@ blocks_fit lines [] h = tt
 blocks_fit lines (b ∷ blocks) (front, rest, whole, some, h, k) = (block_fits front b some h, blocks_fit rest blocks k)
 
 originator_fits : (o : Option Addr4) → IsPaddedOriginator 4 (option_map whole o)
-originator_fits None = tt
-originator_fits (Some a) = (refl, refl)
+originator_fits o = grind (arith, common_steps)
 
 pub message_fits : (m : MessageFields) (lines : List AddressRecord) (o : Option Addr4) → m.width ≡ 4 → m.originator ≡ option_map whole o → AreBlocks lines m.blocks → IsEncodableMessage m
-message_fits m lines o width origin are = record {
-  wide = omega (arith, width);
-  narrow = omega (arith, width);
-  originator = subst (λ (w : ℕ). IsPaddedOriginator w m.originator) (sym width) (subst (IsPaddedOriginator 4) (sym origin) (originator_fits o));
-  blocks = subst (λ (w : ℕ). All (IsEncodableBlock w) m.blocks) (sym width) (All-from_recursion (IsEncodableBlock 4) m.blocks (blocks_fit lines m.blocks are));
-}
+message_fits m lines o width origin are = grind (arith, common_steps, originator_fits, All-from_recursion, blocks_fit)
 
 -- ---- how long an address block is
 
@@ -111,8 +105,7 @@ abbrev pub HasFewParts : AddressRecord → Type 0
 HasFewParts line = octets_in columns (line ∷ []) ≤ 49
 
 bit_most : (b : Bool) → cond b 1 0 ≤ 1
-bit_most true = omega arith
-bit_most false = omega arith
+bit_most b = grind (arith, common_steps)
 
 -- a value of one octet takes five
 pub narrow_most : (ks : List OctetKind) (l : AddressRecord) → octets_in (map Octet ks) (l ∷ []) ≤ 5 * length ks
@@ -154,97 +147,26 @@ blocks_short lines (b ∷ blocks) text (front, rest, whole, some, h, k) few (fir
 -- ---- how long message TLVs are
 
 saying_short : (kind ext : ℕ) (octets : List ℕ) → length octets ≤ 17 → length (least_tlv (saying kind ext octets)) ≤ 6 + length octets
-saying_short kind ext octets le =
-    omega (
-      arith,
-      le,
-      head_long 1 (record { kind = kind; ext = ext; first = 0; last = 0; multi = false; value = Some octets }),
-      length_short (length octets),
-      length-append (least_length (length octets)) octets,
-      length-append (tlvs.least_head 1 (record { kind = kind; ext = ext; first = 0; last = 0; multi = false; value = Some octets })) (least_value (Some octets)),
-    )
+saying_short kind ext octets le = grind (arith, common_steps, head_long, length_short)
 
 heading_short : (validity values : List ℕ) (b : Bool) (kind ext : ℕ) → length validity ≤ 17 → length values ≤ 3 → length (flat_map least_tlv (heading_of validity values b kind ext)) ≤ 39
-heading_short validity values true kind ext short le =
-    let v = least_tlv (saying 1 0 validity) in
-    let i = least_tlv (saying 0 0 (take 1 values)) in
-    let x = least_tlv (saying kind ext (drop 1 values)) in
-    omega (
-      arith,
-      short,
-      le,
-      saying_short 1 0 validity short,
-      saying_short 0 0 (take 1 values) (omega (arith, length-take 1 values)),
-      length-take 1 values,
-      saying_short kind ext (drop 1 values) (omega (arith, le, length-drop 1 values)),
-      length-drop 1 values,
-      length-append v (i ++ (x ++ [])),
-      length-append i (x ++ []),
-      length-append x [],
-    )
-heading_short validity values false kind ext short le =
-    let v = least_tlv (saying 1 0 validity) in
-    let x = least_tlv (saying kind ext (drop 1 values)) in
-    omega (
-      arith,
-      short,
-      le,
-      saying_short 1 0 validity short,
-      saying_short kind ext (drop 1 values) (omega (arith, le, length-drop 1 values)),
-      length-drop 1 values,
-      length-append v (x ++ []),
-      length-append x [],
-    )
+heading_short validity values b kind ext short le = grind (arith, common_steps, saying_short)
 
 -- ---- how long the packet is
 
 octet_short : (o : Option ℕ) → length (least_octet o) ≤ 1
-octet_short None = omega arith
-octet_short (Some n) = omega arith
+octet_short o = grind (arith, common_steps)
 
 number_short : (o : Option ℕ) → length (least_number o) ≤ 2
-number_short None = omega arith
-number_short (Some n) = omega arith
+number_short o = grind (arith, common_steps)
 
 originator_short : (w : ℕ) (o : Option RawAddr) → length (least_originator w o) ≤ w
-originator_short w None = omega arith
-originator_short w (Some a) = omega (arith, length-take w a.octets)
+originator_short w o = grind (arith, common_steps)
 
 head_short : (m : MessageFields) → m.width ≡ 4 → length (packets.least_head m) ≤ 8
 unfolding packets.least_head
-head_short m width =
-    omega (
-      arith,
-      width,
-      originator_short m.width m.originator,
-      octet_short m.limit,
-      octet_short m.count,
-      number_short m.sequence,
-      length-append (least_originator m.width m.originator) (least_octet m.limit ++ (least_octet m.count ++ least_number m.sequence)),
-      length-append (least_octet m.limit) (least_octet m.count ++ least_number m.sequence),
-      length-append (least_octet m.count) (least_number m.sequence),
-    )
+head_short m width = grind (arith, common_steps, originator_short, octet_short, number_short, least_number)
 
 pub fits_alone : (m : MessageFields) (lines : List AddressRecord) (validity values : List ℕ) (b : Bool) (kind ext : ℕ) → m.width ≡ 4 → length validity ≤ 17 → length values ≤ 3 → m.tlvs ≡ heading_of validity values b kind ext → AreBlocks lines m.blocks →
     length lines ≤ 1100 → ((line : AddressRecord) → Contains lines line → HasFewParts line) → FitsAlone m
-fits_alone m lines validity values b kind ext width few_octets short tlvs are most few bytes form =
-    let (text, rest, message, none, joined) = form.messages_is in
-    let body = message.body_is in
-    let heading : length (flat_map least_tlv m.tlvs) ≤ 39 = rw tlvs (heading_short validity values b kind ext few_octets short) in
-    omega (
-      arith,
-      most,
-      heading,
-      head_short m width,
-      blocks_short lines m.blocks body.blocks are few body.blocks_is,
-      ap length form.whole,
-      ap length joined,
-      length-append text rest,
-      ap length none,
-      ap length message.whole,
-      length-append (least_short (4 + length message.body)) message.body,
-      ap length body.whole,
-      length-append (packets.least_head m) (least_block least_tlv m.tlvs ++ body.blocks),
-      length-append (least_block least_tlv m.tlvs) body.blocks,
-      length-append (least_short (length (flat_map least_tlv m.tlvs))) (flat_map least_tlv m.tlvs),
-    )
+fits_alone m lines validity values b kind ext width few_octets short tlvs are most few bytes form = grind (arith, common_steps, heading_short, head_short, blocks_short)

@@ -1,5 +1,5 @@
 -- The rows of a message's addresses, once all is told, are what is kept of its networks.
-use Rattle.mesh_wire.proofs.Common.{◌≡◌, ℕ, zero, suc, ◌⊎◌, inl, inr, refl, sym, ◌∙◌, ap, subst, arith, List, [], ◌∷◌, ◌++◌, length, take, Contains, Option, Some, None, slice_get, NetAddr, RawAddr, BlockFields, MessageFields, AddressParts, RowParts, AreCollected, Entry, standing, of_tlvs, of_block, of_blocks, collected, IsIn, addresses, IsRowOf, IsTable, AreAt, TellsRows, after, tell, no_parts, contains_cases, contains_none as none_in, item_at as get_some, contains_at, place_in}
+use Rattle.mesh_wire.proofs.Common.{common_steps, ◌≡◌, ℕ, zero, suc, ◌⊎◌, inl, inr, refl, sym, ◌∙◌, ap, subst, arith, List, [], ◌∷◌, ◌++◌, length, take, Contains, Option, Some, None, slice_get, NetAddr, RawAddr, BlockFields, MessageFields, AddressParts, RowParts, AreCollected, Entry, standing, of_tlvs, of_block, of_blocks, collected, IsIn, addresses, IsRowOf, IsTable, AreAt, TellsRows, after, tell, no_parts, contains_cases, contains_none as none_in, item_at as get_some, contains_at, place_in}
 use Rattle.std.proofs.lemmas.List.{take_at}
 use Rattle.mesh_wire.proofs.Collected.{AnyOf, At, StandsOf, any_front, any_back, collected_is}
 use Rattle.mesh_wire.proofs.Collecting.{one_net, in_none, all_after}
@@ -41,8 +41,7 @@ told_to es (r ∷ rows) zero t e = (record { net = r.net; parts = after r.net es
 told_to es (r ∷ rows) (suc i) t e = told_to es rows i t e
 
 pub stands_if : (H : Type 0) (S : ℕ → List ℕ → Type 0) (row : Option RowParts) (parts : RowParts) → row ≡ Some parts → At H S row → H
-stands_if H S None parts e h = absurd (cc)
-stands_if H S (Some r) parts e h = h.0
+stands_if H S row parts e h = grind (arith, common_steps)
 
 module _ (m : MessageFields) (old : List AddressParts) (row_of : List ℕ) (table : IsTable (addresses m.blocks) old row_of) where
   abbrev pub es : List Entry

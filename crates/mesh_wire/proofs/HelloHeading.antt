@@ -1,6 +1,5 @@
 -- The rules on what a HELLO says before its rows, one by one.
-use Rattle.mesh_wire.proofs.Common.{◌≡◌, ℕ, arith, ◌≢◌, ◌==◌, Option, cond, NetAddr, MessageFields, HasWilling, IsOther, BreaksHello, HopLimit, HopCount, WrongWilling, ValidityIs, IntervalIs}
-use Rattle.mesh_wire.specs.HelloRules.{AddressWidth, NoValidity, WrongInterval}
+use Rattle.mesh_wire.proofs.Common.{common_steps, ◌≡◌, ℕ, arith, ◌≢◌, ◌==◌, Option, cond, NetAddr, MessageFields, HasWilling, IsOther, BreaksHello, ValidityIs, IntervalIs}
 use Rattle.mesh_wire.proofs.InOrder.{NoneBelow, one_further}
 
 -- what is wrong where the rule of a number is broken
@@ -14,17 +13,10 @@ Wrong m k =
     (cond (k == 25) ((octet : ℕ) → HasWilling m octet → ⊥) (Unit {0}))))))
 
 wrong : (m : MessageFields) (k : ℕ) (a : Option NetAddr) → BreaksHello m k a → Wrong m k
-wrong m k a (AddressWidth h) = h
-wrong m k a (HopLimit limit is other) = (limit, is, other)
-wrong m k a (HopCount count is other) = (count, is, other)
-wrong m k a (NoValidity none) = none
-wrong m k a (WrongInterval none) = none
-wrong m k a (WrongWilling none) = none
-wrong m k a other = tt
+wrong m k a h3 = grind (arith, common_steps)
 
 pub first_number : (m : MessageFields) → NoneBelow (BreaksHello m) 20
-first_number m k a (AddressWidth h) = omega arith
-first_number m k a other = omega arith
+first_number m k a h3 = grind (arith, common_steps)
 
 module _ (m : MessageFields) where
   pub width_kept : m.width ≡ 4 → (a : Option NetAddr) → BreaksHello m 20 a → ⊥

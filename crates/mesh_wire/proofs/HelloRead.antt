@@ -1,5 +1,5 @@
 -- What the reading of a HELLO answers.
-use Rattle.mesh_wire.proofs.Common.{◌≡◌, ℕ, Result, Ok, Err, List, map, Option, IfOk, IfErr, NetAddr, HelloRow, MessageFields, WireFault, HelloHeader, IfBroken, GivesValue, RefusesAt, AddressParts, of_blocks, IsReadHelloRow, HeadingIs, hello_row, BreaksHello, BreakNone, HasBroken, hello_rule, AreRows, FirstBroken, Keeps}
+use Rattle.mesh_wire.proofs.Common.{arith, common_steps, ◌≡◌, ℕ, Result, Ok, Err, List, map, Option, IfOk, IfErr, NetAddr, HelloRow, MessageFields, WireFault, HelloHeader, IfBroken, GivesValue, RefusesAt, AddressParts, of_blocks, IsReadHelloRow, HeadingIs, hello_row, BreaksHello, BreakNone, HasBroken, hello_rule, AreRows, FirstBroken, Keeps}
 use Rattle.mesh_wire.specs.declared.fault.WireFault.TheVariants as faults
 use Rattle.mesh_wire.proofs.HelloHeading.{past_count, past_validity, past_interval, past_willing}
 use Rattle.mesh_wire.proofs.HelloRows.{rows_are}
@@ -27,9 +27,7 @@ module _ (m : MessageFields) (heading : HelloHeader) (h : HeadingIs m heading) w
 -- ---- the other directions
 
 pub gives_of : {X : Type 0} (Is : X → Type 0) (Breaks : ℕ → Option NetAddr → Type 0) (r : Result X WireFault) → ((a b : X) → Is a → Is b → a ≡ b) → IfOk r Is → IfErr r (IfBroken (FirstBroken Breaks)) → Keeps Breaks → (x : X) → Is x → GivesValue x r
-gives_of Is Breaks (Ok y) one ok err keeps x is = one y x ok is
-gives_of Is Breaks (Err (faults.Memory e)) one ok err keeps x is = tt
-gives_of Is Breaks (Err (faults.Broken n a)) one ok err keeps x is = keeps n a err.broken
+gives_of Is Breaks r one ok err keeps x is = grind (arith, common_steps)
 
 pub refuses_of : {X : Type 0} (Breaks : ℕ → Option NetAddr → Type 0) (r : Result X WireFault) → IfOk r (λ x. Keeps Breaks) → IfErr r (IfBroken (FirstBroken Breaks)) → (n : ℕ) (a : Option NetAddr) → FirstBroken Breaks n a → RefusesAt n a r
 refuses_of Breaks (Ok y) ok err n a f = ok n a f.broken

@@ -1,5 +1,5 @@
 -- Rows that are made of what is kept are the rows of the HELLO.
-use Rattle.mesh_wire.proofs.Common.{◌≡◌, ℕ, inl, inr, refl, sym, subst, Bool, false, List, [], ◌∷◌, map, Contains, ◌↔◌, Option, Some, None, IsTrue, option_map, NetAddr, Metric, LocalIf, HelloRow, MessageFields, AddressParts, Single, Absent, Value, Conflict, OctetKind, Local, Mpr, ByKind, Octets, MetricParts, local_value, IsReadHelloRow, local_from, row_with, hello_row, octet_in, metric_at, local_if, mpr, link_metric, MetricKind, Link_in, metric_of, ShowsMetric, MetricIs, statuses, type_of, at, HasValue, OctetIs, SaysFlag, AreRows, is_conflict, value_from}
+use Rattle.mesh_wire.proofs.Common.{arith, common_steps, ◌≡◌, ℕ, inl, inr, refl, sym, subst, Bool, false, List, [], ◌∷◌, map, Contains, ◌↔◌, Option, Some, None, IsTrue, option_map, NetAddr, Metric, LocalIf, HelloRow, MessageFields, AddressParts, Single, Absent, Value, Conflict, OctetKind, Local, Mpr, ByKind, Octets, MetricParts, local_value, IsReadHelloRow, local_from, row_with, hello_row, octet_in, metric_at, local_if, mpr, link_metric, MetricKind, metric_of, ShowsMetric, MetricIs, statuses, type_of, at, HasValue, OctetIs, SaysFlag, AreRows, is_conflict, value_from}
 use Rattle.mesh_wire.proofs.HelloRuled.{Sound}
 use Rattle.mesh_wire.proofs.Kept.{AreTold, octet_back, read_or, kept_value, metrics_told}
 use Rattle.mesh_wire.proofs.Made.{rows_made}
@@ -20,9 +20,7 @@ octet_is m net kind o h wrong one = octet_of m net kind o.one h.one (λ x s. eli
 -- ---- metrics
 
 kept_metric : (m : MessageFields) (net : NetAddr) (kind : MetricKind) (one : Single Metric) → OneIs (ShowsMetric m net kind) one → is_conflict one ≡ false → MetricIs m net kind (value_from one)
-kept_metric m net kind Absent h e = h
-kept_metric m net kind (Value n) h e = h.0
-kept_metric m net kind Conflict h e = absurd (cc)
+kept_metric m net kind one h e = grind (arith, common_steps)
 
 pub metric_is : (m : MessageFields) (net : NetAddr) (parts : MetricParts) → MetricsAre (HasValue m net link_metric) parts → (kind : MetricKind) → is_conflict (metric_at kind parts) ≡ false → MetricIs m net kind (value_from (metric_at kind parts))
 metric_is m net parts h kind e = kept_metric m net kind (metric_at kind parts) (metrics_told m net parts h kind) e
@@ -39,8 +37,7 @@ flag_is m net type flag b h = (
 
 -- the row has the metrics that are kept
 metric_made : (t : AddressParts) (kind : MetricKind) → value_from (metric_at kind t.parts.metrics) ≡ metric_of kind (row_with t None).metrics
-metric_made t Link_in = refl
-metric_made t kind = refl
+metric_made t kind = grind (arith, common_steps)
 
 module _ (m : MessageFields) (t : AddressParts) (kept : RowIs (HasValue m t.net) t.parts) (sound : Sound t) where
   abbrev octets : ByKind Octets
@@ -71,8 +68,7 @@ module _ (m : MessageFields) (t : AddressParts) (kept : RowIs (HasValue m t.net)
 -- ---- all rows
 
 row_net : (t : AddressParts) (local : Option LocalIf) → (row_with t local).addr ≡ t.net
-row_net t None = refl
-row_net t (Some x) = refl
+row_net t local = grind (arith, common_steps)
 
 pub rows_are : (m : MessageFields) (told : List AddressParts) → AreTold m told → ((t : AddressParts) → Contains told t → Sound t) → AreRows m (λ (row : HelloRow). row.addr) (IsReadHelloRow m) (map hello_row told)
 rows_are m told are sound = rows_made hello_row (λ (row : HelloRow). row.addr) (λ t. row_net t (option_map local_from (value_from t.parts.octets.local.one))) m (IsReadHelloRow m) told are (λ t there kept. row_is m t kept (sound t there))

@@ -1,5 +1,5 @@
 -- The rules on the addresses of a HELLO, by tests of what is kept.
-use Rattle.mesh_wire.proofs.Common.{◌≡◌, ℕ, ◌≤◌, inl, inr, refl, sym, ◌∙◌, ap, arith, Bool, true, false, List, Contains, lit≤, Decides, ◌&&◌, Option, Some, None, nat_lt, slice_get, false≢true, cases_Bool, ltb-true, lt-ltb, and_parts as both, and_from as and_both, NetAddr, Decides-some, MessageFields, AddressParts, OctetKind, ByKind, Octets, metric_at, statuses, type_of, at, some_status, is_undefined, has_two, has_status, has_wrong_metric, hello_tests, hello_rule, BreaksHello, Undefined, TwoValues, MetricKind, HasValue, is_conflict, is_said}
+use Rattle.mesh_wire.proofs.Common.{common_steps, ◌≡◌, ℕ, ◌≤◌, inl, inr, refl, ap, arith, Bool, true, false, List, Contains, lit≤, Decides, ◌&&◌, Option, Some, None, nat_lt, slice_get, cases_Bool, ltb-true, lt-ltb, and_parts as both, and_from as and_both, NetAddr, Decides-some, MessageFields, AddressParts, OctetKind, ByKind, Octets, metric_at, statuses, type_of, at, some_status, is_undefined, has_two, has_status, has_wrong_metric, hello_tests, hello_rule, BreaksHello, Undefined, TwoValues, MetricKind, HasValue, is_conflict, is_said}
 use Rattle.mesh_wire.specs.HelloRules.{AddressWidth, ShortPrefix, WrongMetric}
 use Rattle.mesh_wire.proofs.FirstTest.{AtMost, given, failed, passed, at_most_more}
 use Rattle.mesh_wire.proofs.Kept.{AreTold, says_has, no_value, none_read, said_found, type_said, two_found, two_said}
@@ -12,10 +12,7 @@ some_kind : (test : Octets → Bool) (by : ByKind Octets) → Decides (some_stat
 some_kind test by = Decides-some (λ (kind : OctetKind). test (at kind by)) (λ kind. test (at kind by) ≡ true) (λ kind. (λ e. e, λ e. e)) statuses
 
 no_kind : (test : Octets → Bool) (by : ByKind Octets) → some_status test by ≡ false → (kind : OctetKind) → Contains statuses kind → test (at kind by) ≡ false
-no_kind test by e kind among = elim (cases_Bool (test (at kind by))) [
-  | inl y ↦ absurd (false≢true (sym e ∙ (some_kind test by).1 (kind, among, y)))
-  | inr n ↦ n
-]
+no_kind test by e kind among = grind (arith, common_steps, cases_Bool, some_kind)
 
 -- ---- a row that breaks no rule
 

@@ -1,5 +1,5 @@
 -- What is written of a HELLO reads as it, breaks no rule, and has nothing that is ignored.
-use Rattle.mesh_wire.proofs.Common.{◌≡◌, ℕ, ◌+◌, ◌/◌, ◌%◌, ◌≤◌, ◌⊎◌, inl, inr, List, [], ◌∷◌, length, take, map, refl, sym, ap, subst, ◌∙◌, arith, length-take, slice_range, drop, Contains, AllPairs, Option, Some, None, IsSome, Bool, true, false, option_map, is_some, length-map, Contains-append_cases, Addr4, NetAddr, LocalIf, HelloRow, Hello, Metric, IsBefore, RawAddr, HaveSenderAlone, HaveStatusWhole, IsAlone, MessageFields, PacketFields, Span, Spells, IsEncodableMessage, LeastForm, TlvFields, AddressTlvKind, Octet, LinkIn, LinkOut, NearIn, NearOut, OctetKind, Local, Mpr, octet_of, whole, HasHelloValues, heading_of, IsHelloMessage, FitsAlone, local_value, row_octet, OriginatorIs, TellsOther, IsReadHelloRow, HelloIs, sender_row, BreaksHello, HopLimit, HopCount, WrongWilling, Undefined, TwoValues, validity_time, local_if, link_metric, mpr, mpr_willing, kind_of, value_of, hello_line, MetricKind, Link_in, Link_out, Near_in, Near_out, flag_of, metric_of, statuses, hello_kinds, type_of, at, flags_number, IsOctetOf, octets_of, values_of, HasType, HasPart, HasValue, OctetIs, Keeps, IsSoleMessage, HasFlag, IsReadOfOther, IsReadOfHelloAddress, WritesHello, WritesLeastHello, alone, ReadsBackHello, contains_one, none_not, some_equal}
+use Rattle.mesh_wire.proofs.Common.{common_steps, ◌≡◌, ℕ, ◌≤◌, ◌⊎◌, inl, inr, List, [], ◌∷◌, length, take, map, refl, sym, ap, subst, ◌∙◌, arith, length-take, slice_range, drop, Contains, AllPairs, Option, Some, None, IsSome, Bool, option_map, is_some, length-map, Contains-append_cases, Addr4, NetAddr, LocalIf, HelloRow, Hello, Metric, IsBefore, RawAddr, HaveSenderAlone, HaveStatusWhole, IsAlone, MessageFields, PacketFields, Span, Spells, IsEncodableMessage, LeastForm, TlvFields, AddressTlvKind, Octet, LinkIn, LinkOut, NearIn, NearOut, OctetKind, Local, Mpr, octet_of, whole, HasHelloValues, heading_of, IsHelloMessage, FitsAlone, local_value, row_octet, OriginatorIs, TellsOther, IsReadHelloRow, HelloIs, sender_row, BreaksHello, HopLimit, HopCount, WrongWilling, Undefined, TwoValues, validity_time, local_if, link_metric, mpr, mpr_willing, kind_of, value_of, hello_line, MetricKind, Link_in, Link_out, Near_in, Near_out, metric_of, statuses, hello_kinds, type_of, at, flags_number, IsOctetOf, octets_of, values_of, HasType, HasPart, HasValue, OctetIs, Keeps, IsSoleMessage, HasFlag, IsReadOfOther, IsReadOfHelloAddress, WritesHello, WritesLeastHello, alone, ReadsBackHello, contains_one, none_not, some_equal}
 use Rattle.mesh_wire.specs.HelloRules.{AddressWidth, NoValidity, WrongInterval, ShortPrefix, WrongMetric}
 use Rattle.mesh_wire.proofs.Fits.{message_fits, HasFewParts, narrow_most, metric_most, lines_few, fits_alone}
 use Rattle.mesh_wire.proofs.Headings.{validity_told, one_validity, interval_is, interval_told, willing_is, read_of_hello}
@@ -19,24 +19,18 @@ few_of row = let l = hello_line row in omega (arith, narrow_most hello_kinds l, 
 -- ---- originator
 
 pub originator_is : (a : Option RawAddr) (o : Option Addr4) → a ≡ option_map whole o → OriginatorIs a o
-originator_is a None e = subst (λ (x : Option RawAddr). OriginatorIs x None) (sym e) tt
-originator_is a (Some o) e = subst (λ (x : Option RawAddr). OriginatorIs x (Some o)) (sym e) (sym (whole_number o))
+originator_is a o e = grind (arith, common_steps, whole_number)
 
 -- ---- what is read of a part
 
 pub local_or_not : {X : Type 0} (o : Option X) → (o ≡ None) ⊎ IsSome o
-local_or_not None = inl refl
-local_or_not (Some x) = inr refl
+local_or_not o = grind (arith, common_steps)
 
 pub flags_octet : (a b : Bool) (octets : List ℕ) → option_map (λ (n : ℕ). n ∷ []) (flags_number a b) ≡ Some octets → IsOctetOf Mpr octets
-flags_octet false false octets e = cc
-flags_octet true false octets e = (1, cc, refl)
-flags_octet false true octets e = (2, cc, refl)
-flags_octet true true octets e = (3, cc, refl)
+flags_octet a b octets e = grind (arith, common_steps)
 
 pub metric_flagged : (k : MetricKind) (o : Option Metric) (octets : List ℕ) → option_map (metric_octets k) o ≡ Some octets → HasFlag k octets
-metric_flagged k None octets e = cc
-metric_flagged k (Some x) octets e = (flag_of k + x.code / 256, x.code % 256, cc, has_flag k x)
+metric_flagged k o octets e = grind (arith, common_steps, has_flag)
 
 metric_read : (row : HelloRow) (k : MetricKind) (kind : ℕ) (octets : List ℕ) → kind ≡ link_metric → value_of (column_of k) (hello_line row) ≡ Some octets → IsReadOfOther kind octets
 metric_read row k kind octets e v = inr (inr (e, (k, metric_flagged k (metric_of k row.metrics) octets (sym (metric_value k (hello_line row)) ∙ v))))
@@ -50,16 +44,7 @@ octet_line row k octets v = by (row_octet row k) (ap (option_map (λ (n : ℕ). 
     by (Some n) e is = (n, sym (some_equal (n ∷ []) octets e), is)
 
 octet_read : (row : HelloRow) (kind : ℕ) (octets : List ℕ) (k : OctetKind) → kind ≡ type_of k → value_of (Octet k) (hello_line row) ≡ Some octets → IsReadOfOther kind octets
-octet_read row kind octets k e v =
-    let (n, is, there) = octet_line row k octets v in
-    elim (Contains-append_cases statuses (Mpr ∷ []) k (row_kind row k n there)) [
-      | inl among ↦ inl (k, among, e)
-      | inr last ↦ (
-          let same : Mpr ≡ k = contains_one Mpr k last in
-          let said = octet_value (flags_number row.mpr.flooding row.mpr.routing) in
-          inr (inl (e ∙ ap type_of (sym same), flags_octet row.mpr.flooding row.mpr.routing octets (sym said ∙ subst (λ (j : OctetKind). value_of (Octet j) (hello_line row) ≡ Some octets) (sym same) v)))
-          )
-    ]
+octet_read row kind octets k e v = grind (arith, common_steps, octet_line, Contains-append_cases, row_kind, contains_one, octet_value, type_of, flags_octet)
 
 other_read : (row : HelloRow) (kind : ℕ) (octets : List ℕ) (c : AddressTlvKind) → kind ≡ kind_of c → value_of c (hello_line row) ≡ Some octets → IsReadOfOther kind octets
 other_read row kind octets (Octet k) e v = octet_read row kind octets k e v
@@ -75,8 +60,7 @@ read_kind kind octets (inr (inl (e, is))) = inl (Mpr, e, λ f. is)
 read_kind kind octets (inr (inr h)) = inr h
 
 sender_read : (addr : NetAddr) (local : Option LocalIf) (kind : ℕ) (octets : List ℕ) (c : AddressTlvKind) → kind ≡ kind_of c → value_of c (hello_line (sender_row addr local)) ≡ Some octets → kind ≡ local_if
-sender_read addr local kind octets (Octet Local) e v = e
-sender_read addr local kind octets c e v = cc
+sender_read addr local kind octets c e v = grind (arith, common_steps)
 
 only_local : (row : HelloRow) (kind : ℕ) (octets : List ℕ) (c : AddressTlvKind) → kind ≡ kind_of c → value_of c (hello_line row) ≡ Some octets → IsAlone row → kind ≡ local_if
 only_local row kind octets c e v t = sender_read row.addr row.local kind octets c e (subst (λ (r : HelloRow). value_of c (hello_line r) ≡ Some octets) (alone_row row t) v)

@@ -1,5 +1,5 @@
 -- A message's octets one hop further spell the message one hop further.
-use Rattle.mesh_wire.proofs.Common.{◌≡◌, ◌≢◌, ℕ, zero, suc, ◌+◌, ◌-◌, ◌<◌, Bool, true, false, List, [], ◌∷◌, ◌++◌, length, map, Option, Some, None, refl, sym, ap, subst, ◌∙◌, arith, append_assoc, IsTrue, option_map, slice_get, slice_index, slice_set, length-append, length-map, length-set, get_or-set_same, get_or-set_other, get_or-append_seam, set-append_seam, has, MessageFields, SpellsMessage, SpellsOctet, HasHop, IsElsewhere, CanHop, one_hop_on, limit_place, count_place, flags_of, has_count, hopped_at, hopped}
+use Rattle.mesh_wire.proofs.Common.{common_steps, ◌≡◌, ◌≢◌, ℕ, zero, suc, ◌+◌, ◌-◌, ◌<◌, Bool, true, false, List, [], ◌∷◌, ◌++◌, length, map, Option, Some, None, refl, sym, ap, subst, ◌∙◌, arith, append_assoc, IsTrue, slice_get, slice_index, slice_set, length-append, option_map, length-map, get_or-append_seam, set-append_seam, has, MessageFields, SpellsMessage, SpellsOctet, HasHop, IsElsewhere, CanHop, one_hop_on, limit_place, count_place, flags_of, has_count, hopped_at, hopped}
 use Rattle.mesh_atoms.specs.Grammar.{SpellsShort}
 use Rattle.mesh_atoms.proofs.Reading.{two_long}
 use Rattle.mesh_packet.specs.Grammar.{width_of}
@@ -8,10 +8,7 @@ use Rattle.mesh_packet.proofs.Fields.{originator_field}
 -- An octet that may be there
 
 octet_changed : (set : Bool) (x : Option ℕ) (text : List ℕ) (f : ℕ → ℕ) → SpellsOctet set x text → SpellsOctet set (option_map f x) (map f text)
-octet_changed true (Some n) text f h = ap (map f) h
-octet_changed true None text f h = absurd h
-octet_changed false None text f h = ap (map f) h
-octet_changed false (Some n) text f h = absurd h
+octet_changed set x text f h = grind (arith, common_steps)
 
 octet_there : (set : Bool) (x : Option ℕ) (text : List ℕ) → SpellsOctet set x text → set ≡ true → (n : ℕ) × (x ≡ Some n) × (text ≡ n ∷ [])
 octet_there true (Some n) text h is = (n, refl, h)
@@ -19,9 +16,7 @@ octet_there true None text h is = absurd h
 octet_there false x text h is = absurd cc
 
 octet_flagged : (set : Bool) (x : Option ℕ) (text : List ℕ) (n : ℕ) → SpellsOctet set x text → x ≡ Some n → set ≡ true
-octet_flagged true x text n h is = refl
-octet_flagged false None text n h is = absurd cc
-octet_flagged false (Some m) text n h is = absurd h
+octet_flagged set x text n h is = grind (arith, common_steps)
 
 -- A number in the midst of a list
 
@@ -201,27 +196,19 @@ get-set_other (x ∷ xs) (suc i) zero y apart = refl
 get-set_other (x ∷ xs) (suc i) (suc k) y apart = get-set_other xs i k y (λ e. apart (ap suc e))
 
 limit_at : (s : List ℕ) (p : ℕ) (counted : Bool) → p < length s → 1 < slice_index s p → slice_index (hopped_at p counted s) p + 1 ≡ slice_index s p
-limit_at s p false there above = omega (arith, get_or-set_same s p (slice_index s p - 1) 0 there)
-limit_at s p true there above =
-    let apart : p ≢ p + 1 = λ e. omega (arith, e) in
-    omega (arith, get_or-set_other (slice_set s p (slice_index s p - 1)) (p + 1) p (slice_index s (p + 1) + 1) 0 apart, get_or-set_same s p (slice_index s p - 1) 0 there)
+limit_at s p counted there above = grind (arith, common_steps)
 
 pub limit_after : (s : List ℕ) → CanHop (flags_of s) s → slice_index (hopped s) (limit_place (flags_of s)) + 1 ≡ slice_index s (limit_place (flags_of s))
 limit_after s can = limit_at s (limit_place (flags_of s)) (has_count s) can.limit_there can.limit_above
 
 count_at : (s : List ℕ) (p : ℕ) (counted : Bool) → counted ≡ true → p + 1 < length s → slice_index (hopped_at p counted s) (p + 1) ≡ slice_index s (p + 1) + 1
-count_at s p false set there = absurd cc
-count_at s p true set there =
-    let low : List ℕ = slice_set s p (slice_index s p - 1) in
-    get_or-set_same low (p + 1) (slice_index s (p + 1) + 1) 0 (omega (arith, there, length-set s p (slice_index s p - 1)))
+count_at s p counted set there = grind (arith, common_steps)
 
 pub count_after : (s : List ℕ) → CanHop (flags_of s) s → IsTrue (has_count s) → slice_index (hopped s) (count_place (flags_of s)) ≡ slice_index s (count_place (flags_of s)) + 1
 count_after s can set = count_at s (limit_place (flags_of s)) (has_count s) set (can.count_there set)
 
 other_at : (s : List ℕ) (p k : ℕ) (counted : Bool) → k ≢ p → (counted ≡ true → k ≢ p + 1) → slice_get (hopped_at p counted s) k ≡ slice_get s k
-other_at s p k false no_limit no_count = get-set_other s p k (slice_index s p - 1) no_limit
-other_at s p k true no_limit no_count =
-    get-set_other (slice_set s p (slice_index s p - 1)) (p + 1) k (slice_index s (p + 1) + 1) (no_count refl) ∙ get-set_other s p k (slice_index s p - 1) no_limit
+other_at s p k counted no_limit no_count = grind (arith, common_steps, get-set_other)
 
 pub others_after : (s : List ℕ) (k : ℕ) → IsElsewhere s k → slice_get (hopped s) k ≡ slice_get s k
 others_after s k elsewhere = other_at s (limit_place (flags_of s)) k (has_count s) elsewhere.no_limit elsewhere.no_count

@@ -1,5 +1,5 @@
 -- Rules that are looked at in the order of their numbers, up to the first that is broken.
-use Rattle.mesh_wire.proofs.Common.{◌≡◌, ℕ, zero, suc, ◌+◌, ◌≤◌, ◌⊎◌, inl, inr, refl, sym, subst, arith, List, Contains, Option, Some, None, cases_eq, NetAddr, MessageFields, AddressParts, of_blocks, BreakNone, HasBroken, first_rule, FirstBroken, Keeps}
+use Rattle.mesh_wire.proofs.Common.{common_steps, ◌≡◌, ℕ, zero, suc, ◌+◌, ◌≤◌, ◌⊎◌, inl, inr, refl, sym, subst, arith, List, Contains, Option, Some, None, cases_eq, NetAddr, MessageFields, AddressParts, of_blocks, BreakNone, HasBroken, first_rule, FirstBroken, Keeps}
 use Rattle.mesh_wire.proofs.Gathering.{gathered}
 use Rattle.mesh_wire.proofs.Kept.{AreTold, are_told}
 use Rattle.mesh_wire.proofs.Ruled.{Decides, rule_first, rule_none}
@@ -22,18 +22,12 @@ module _ (Breaks : ℕ → Option NetAddr → Type 0) where
   first_at n below h = record { broken = h; first = below; least = λ a g. tt }
 
   pub one_further : (n : ℕ) → NoneBelow Breaks n → Unbroken Breaks n → NoneBelow Breaks (n + 1)
-  one_further n below kept k a h = elim (cases_eq k n) [
-    | inl e ↦ absurd (kept a (subst (λ j. Breaks j a) e h))
-    | inr other ↦ (let least = below k a h in omega (arith, least, other))
-  ]
+  one_further n below kept k a h = grind (arith, common_steps, cases_eq)
 
   pub first_or_none : (n count : ℕ) → NoneBelow Breaks n → Decided Breaks n count → ((k : ℕ) × FirstBroken Breaks k None) ⊎ NoneBelow Breaks (n + count)
   first_or_none n zero below decided = inr (λ k a h. let least = below k a h in omega (arith, least))
   first_or_none n (suc count) below (inl h, rest) = inl (n, first_at n below h)
-  first_or_none n (suc count) below (inr kept, rest) = elim (first_or_none (n + 1) count (one_further n below kept) rest) [
-    | inl found ↦ inl found
-    | inr none ↦ inr (λ k a h. let least = none k a h in omega (arith, least))
-  ]
+  first_or_none n (suc count) below (inr kept, rest) = grind (arith, common_steps, one_further, (first_or_none (n + 1) count (one_further n below kept) rest))
 
 -- what is there where the rule that wants it is kept
 pub of_either : {X : Type 0} {P : X → Type 0} {Broken In : Type 0} → (Broken → In → ⊥) → In → ((x : X) × P x) ⊎ ((x : X) → P x → ⊥) → (((x : X) → P x → ⊥) → Broken) → (x : X) × P x

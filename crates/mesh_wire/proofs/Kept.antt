@@ -1,5 +1,5 @@
 -- What is kept of the addresses of a message.
-use Rattle.mesh_wire.proofs.Common.{◌≡◌, ℕ, ◌⊎◌, inl, inr, refl, sym, ◌∙◌, ap, subst, Bool, true, false, cond, List, [], ◌∷◌, Contains, Option, Some, None, ◌≢◌, NetAddr, Metric, has, none_not, some_equal, MessageFields, AddressParts, Single, Absent, Value, Conflict, OctetKind, Octets, MetricParts, RowParts, AreCollected, of_blocks, collected, octet_in, shown_in, metric_at, link_metric, MetricKind, flag_of, metric_in, ShowsMetric, is_value, IsOctetOf, HoldsAddress, HasValue, AreRows, is_conflict, is_said, value_from}
+use Rattle.mesh_wire.proofs.Common.{arith, common_steps, ◌≡◌, ℕ, ◌⊎◌, inl, inr, refl, sym, ◌∙◌, ap, subst, Bool, true, false, cond, List, [], ◌∷◌, Contains, Option, Some, None, ◌≢◌, NetAddr, Metric, has, none_not, some_equal, MessageFields, AddressParts, Single, Absent, Value, Conflict, OctetKind, Octets, MetricParts, RowParts, AreCollected, of_blocks, collected, octet_in, shown_in, metric_at, link_metric, MetricKind, flag_of, metric_in, ShowsMetric, is_value, IsOctetOf, HoldsAddress, HasValue, AreRows, is_conflict, is_said, value_from}
 use Rattle.mesh_wire.proofs.Collected.{AnyOf, At, StandsOf, SaysOf, collected_is}
 use Rattle.mesh_wire.proofs.Entries.{says_of, of_says, has_of, of_has}
 use Rattle.mesh_wire.proofs.Slots.{OneIs, one_same, Reads, OctetsAre, MetricsAre, RowIs, row_same}
@@ -41,9 +41,7 @@ says_has m net k x (value, part, is) = (part.block, part.place, part.address)
 
 -- two values that differ are a conflict
 pub differ_conflict : {X : Type 0} (T : X → Type 0) (one : Single X) (a b : X) → OneIs T one → T a → T b → a ≢ b → is_conflict one ≡ true
-differ_conflict T Absent a b h x y d = absurd (h a x)
-differ_conflict T (Value n) a b h x y d = absurd (d (h.1 a x ∙ sym (h.1 b y)))
-differ_conflict T Conflict a b h x y d = refl
+differ_conflict T one a b h x y d = grind (arith, common_steps)
 
 pub conflict_differ : {X : Type 0} (T : X → Type 0) (one : Single X) → OneIs T one → is_conflict one ≡ true → (a : X) × (b : X) × T a × T b × (a ≢ b)
 conflict_differ T Absent h e = absurd (cc)
@@ -51,9 +49,7 @@ conflict_differ T (Value n) h e = absurd (cc)
 conflict_differ T Conflict h e = h
 
 pub one_said : {X : Type 0} (T : X → Type 0) (one : Single X) (a : X) → OneIs T one → T a → is_said one ≡ true
-one_said T Absent a h x = absurd (h a x)
-one_said T (Value n) a h x = refl
-one_said T Conflict a h x = refl
+one_said T one a h x = grind (arith, common_steps)
 
 pub said_one : {X : Type 0} (T : X → Type 0) (one : Single X) → OneIs T one → is_said one ≡ true → (a : X) × T a
 said_one T Absent h e = absurd (cc)
@@ -64,24 +60,14 @@ said_one T Conflict (a, b, x, y, d) e = (a, x)
 
 -- an octet is read of one value
 pub octet_back : (kind : OctetKind) (x : List ℕ) (n : ℕ) → octet_in kind x ≡ Some n → (x ≡ n ∷ []) × (is_value kind n ≡ true)
-octet_back kind [] n e = cc
-octet_back kind (a ∷ b ∷ rest) n e = cc
-octet_back kind (a ∷ []) n e = by (is_value kind a) refl e
-  where
-    by : (b : Bool) → is_value kind a ≡ b → cond b (Some a) None ≡ Some n → (a ∷ [] ≡ n ∷ []) × (is_value kind n ≡ true)
-    by true v f = let same = some_equal a n f in (ap (λ (i : ℕ). i ∷ []) same, subst (λ (i : ℕ). is_value kind i ≡ true) same v)
-    by false v f = cc
+octet_back kind x n e = grind (arith, common_steps, is_value, some_equal)
 
 -- a value of the type is one whose octet is read
 pub no_value : (kind : OctetKind) (x : List ℕ) → octet_in kind x ≡ None → IsOctetOf kind x → ⊥
 no_value kind x e (n, f, v) = none_not (ap (octet_in kind) (sym f) ∙ e) (ap (λ (b : Bool). cond b (Some n) None) v)
 
 pub none_read : (kind : OctetKind) (x : List ℕ) → (IsOctetOf kind x → ⊥) → octet_in kind x ≡ None
-none_read kind x bad = by (octet_in kind x) refl
-  where
-    by : (o : Option ℕ) → octet_in kind x ≡ o → octet_in kind x ≡ None
-    by None e = e
-    by (Some n) e = let (f, v) = octet_back kind x n e in absurd (bad (n, f, v))
+none_read kind x bad = grind (arith, common_steps, octet_back)
 
 module _ (kind : OctetKind) (S : List ℕ → Type 0) (o : Octets) (h : OctetsAre kind S o) where
   -- a value is wrong, or its octet is read
@@ -116,12 +102,7 @@ module _ (kind : OctetKind) (S : List ℕ → Type 0) (o : Octets) (h : OctetsAr
 
   -- an octet that is kept is a value of the type
   pub kept_value : (n : ℕ) → value_from o.one ≡ Some n → is_value kind n ≡ true
-  kept_value = by o.one h.one
-    where
-      by : (one : Single ℕ) → OneIs (Reads (octet_in kind) S) one → (n : ℕ) → value_from one ≡ Some n → is_value kind n ≡ true
-      by Absent g n e = cc
-      by (Value k) ((x, s, is), only) n e = subst (λ (i : ℕ). is_value kind i ≡ true) (some_equal k n e) (octet_back kind x k is).1
-      by Conflict g n e = cc
+  kept_value = grind (arith, common_steps, is_value, some_equal, octet_back)
 
 -- ---- metrics
 

@@ -1,5 +1,5 @@
 -- Blocks of lines say what the lines say.
-use Rattle.mesh_wire.proofs.Common.{◌≡◌, ℕ, ◌+◌, ◌-◌, ◌*◌, ◌/◌, ◌%◌, ◌^◌, ◌<◌, ◌≤◌, inl, inr, List, [], ◌∷◌, ◌++◌, length, map, take, refl, sym, ap, subst, ◌∙◌, arith, length-append, slice_get, Contains, Option, Some, None, option_map, flat_map, mod-eq-sub-div-mul, div-mul-le_self, take_all, Contains-append_left, Contains-append_right, Contains-append_cases, flat_map-append, slice_get-map, Addr4, NetAddr, same_net, address_in, RawAddr, BlockFields, MessageFields, TlvFields, AddrTlvFields, least_addr_tlv, AddressTlvKind, Octet, LinkIn, LinkOut, NearIn, NearOut, AddressRecord, kind_of, most_of, value_of, columns, metric_columns, kinds, octets_of, IsIn, value_at, HoldsAddressAt, HoldsAddress, HasPart, HasValue, host_octets, raw_of, present, IsColumnTlv, LaysAll, IsBlock, AreBlocks, contains_at as at_place, contains_map, place_of, contains_head as at_head, contains_tail as in_tail, contains_cases, contains_none as none_in, same_addr, same_some}
+use Rattle.mesh_wire.proofs.Common.{common_steps, ◌≡◌, ℕ, ◌+◌, ◌-◌, ◌*◌, ◌/◌, ◌%◌, ◌<◌, ◌≤◌, inl, inr, List, [], ◌∷◌, ◌++◌, length, map, refl, sym, ap, subst, ◌∙◌, arith, slice_get, Contains, Option, Some, None, option_map, flat_map, mod-eq-sub-div-mul, div-mul-le_self, take_all, Contains-append_left, Contains-append_right, Contains-append_cases, flat_map-append, slice_get-map, Addr4, NetAddr, same_net, address_in, RawAddr, BlockFields, MessageFields, TlvFields, AddrTlvFields, least_addr_tlv, AddressTlvKind, Octet, LinkIn, LinkOut, NearIn, NearOut, AddressRecord, kind_of, most_of, value_of, columns, metric_columns, kinds, octets_of, IsIn, value_at, HoldsAddressAt, HoldsAddress, HasPart, HasValue, host_octets, raw_of, present, IsColumnTlv, LaysAll, IsBlock, AreBlocks, contains_at as at_place, contains_map, place_of, contains_head as at_head, contains_tail as in_tail, contains_cases, contains_none as none_in, same_addr, same_some}
 use Rattle.mesh_wire.proofs.OctetKinds.{each_kind}
 
 -- ---- places of lists
@@ -16,10 +16,7 @@ cleared : (n m : ℕ) → n % m ≡ 0 → n / m * m ≡ n
 cleared n m e = omega (arith, e, mod-eq-sub-div-mul n m, div-mul-le_self n m)
 
 pub is_in : (net : NetAddr) → IsIn (raw_of net) net
-is_in net = record {
-  prefix = refl;
-  number = sym (ap (λ (n : ℕ). n / 2 ^ (32 - net.prefix) * 2 ^ (32 - net.prefix)) (number_again net) ∙ cleared net.addr.0 (2 ^ (32 - net.prefix)) net.clear);
-}
+is_in net = grind (arith, common_steps, number_again, cleared)
 
 pub in_same : (net other : NetAddr) → IsIn (raw_of net) other → net ≡ other
 in_same net other h = same_net net other (same_addr net.addr other.addr ((is_in net).number ∙ sym h.number)) (sym h.prefix)
@@ -69,13 +66,7 @@ both_short x y a b le up = omega (arith, le, up)
 
 pub all_short : (cs : List AddressTlvKind) (lines : List AddressRecord) (tlvs : List AddrTlvFields) → LaysAll cs lines tlvs → (count : ℕ) → length (flat_map (least_addr_tlv count) tlvs) ≤ octets_in cs lines
 all_short [] lines tlvs h count = rw h (omega arith)
-all_short (c ∷ cs) lines tlvs (first, others, whole, h, k) count =
-    let least = least_addr_tlv count in
-    let all : take (length lines) lines ≡ lines = take_all (length lines) lines (omega arith) in
-    let one : length (flat_map least first) ≤ most_of c * present c lines = rw all at h.short count in
-    let joined : length (flat_map least tlvs) ≡ length (flat_map least first) + length (flat_map least others) =
-    ap (λ (l : List AddrTlvFields). length (flat_map least l)) whole ∙ ap length (flat_map-append least first others) ∙ length-append (flat_map least first) (flat_map least others) in
-    subst (λ (n : ℕ). n ≤ most_of c * present c lines + octets_in cs lines) (sym joined) (both_short (most_of c * present c lines) (octets_in cs lines) (length (flat_map least first)) (length (flat_map least others)) one (all_short cs lines others k count))
+all_short (c ∷ cs) lines tlvs (first, others, whole, h, k) count = grind (arith, common_steps, take_all, flat_map-append, both_short, (all_short cs lines others k count))
 
 -- ---- blocks
 

@@ -1,5 +1,5 @@
 -- What a message says of an address, by the fields of its line.
-use Rattle.mesh_wire.proofs.Common.{◌≡◌, ℕ, ◌+◌, ◌/◌, ◌%◌, ◌<◌, ◌⊎◌, inl, inr, List, [], ◌∷◌, refl, sym, ap, subst, ◌∙◌, arith, ◌↔◌, ◌==◌, Contains, Option, Some, None, Bool, true, false, IsTrue, if◌then◌else◌, option_map, eq-eqb, eqb-true, Metric, has, same_metric, MessageFields, AddressTlvKind, Octet, LinkIn, LinkOut, NearIn, NearOut, AddressRecord, OctetKind, link_metric, kind_of, narrow, flagged, value_of, MetricKind, Link_in, Link_out, Near_in, Near_out, flag_of, metric_in, metric_of, ShowsMetric, MetricIs, type_of, at, flags_number, HasValue, OctetIs, SaysFlag, AreBlocks, none_not}
+use Rattle.mesh_wire.proofs.Common.{common_steps, ◌≡◌, ℕ, ◌+◌, ◌/◌, ◌%◌, ◌<◌, ◌⊎◌, inl, inr, List, [], ◌∷◌, refl, sym, ap, subst, ◌∙◌, arith, ◌↔◌, ◌==◌, Contains, Option, Some, None, Bool, true, false, IsTrue, if◌then◌else◌, option_map, eq-eqb, eqb-true, Metric, has, same_metric, MessageFields, AddressTlvKind, Octet, LinkIn, LinkOut, NearIn, NearOut, AddressRecord, OctetKind, link_metric, kind_of, narrow, flagged, value_of, MetricKind, Link_in, Link_out, Near_in, Near_out, flag_of, metric_in, metric_of, ShowsMetric, MetricIs, type_of, at, flags_number, HasValue, OctetIs, SaysFlag, AreBlocks, none_not}
 use Rattle.mesh_packet.proofs.FlagSums.{tells_128, tells_64, tells_32, tells_16}
 use Rattle.mesh_wire.proofs.Laid.{said, says}
 use Rattle.mesh_wire.proofs.OctetKinds.{same_type, not_metric}
@@ -7,14 +7,11 @@ use Rattle.mesh_wire.proofs.OctetKinds.{same_type, not_metric}
 -- ---- the one column of a type whose values are octets
 
 only : (k : OctetKind) (c : AddressTlvKind) → type_of k ≡ kind_of c → c ≡ Octet k
-only k (Octet j) e = ap Octet (sym (same_type k j e))
-only k LinkIn e = absurd (not_metric k e)
-only k c e = absurd (not_metric k e)
+only k c e = grind (arith, common_steps, same_type, not_metric)
 
 -- the value of an octet
 pub octet_value : (o : Option ℕ) → option_map (λ (p : ℕ × ℕ). p.0 ∷ []) (narrow o) ≡ option_map (λ (n : ℕ). n ∷ []) o
-octet_value None = refl
-octet_value (Some n) = refl
+octet_value o = grind (arith, common_steps)
 
 -- ---- metrics
 
@@ -25,8 +22,7 @@ column_of Near_in = NearIn
 column_of Near_out = NearOut
 
 pub column_kind : (k : MetricKind) → kind_of (column_of k) ≡ link_metric
-column_kind Link_in = refl
-column_kind k = refl
+column_kind k = grind (arith, common_steps)
 
 -- a column of that type is one of a kind of metric
 pub metric_column : (c : AddressTlvKind) → link_metric ≡ kind_of c → (k : MetricKind) × (c ≡ column_of k)
@@ -41,14 +37,10 @@ abbrev pub metric_octets : MetricKind → Metric → List ℕ
 metric_octets k m = (flag_of k + m.code / 256) ∷ (m.code % 256 ∷ [])
 
 flagged_value : (k : MetricKind) (o : Option Metric) → option_map (λ (p : ℕ × ℕ). p.0 ∷ (p.1 ∷ [])) (flagged (flag_of k) o) ≡ option_map (metric_octets k) o
-flagged_value k None = refl
-flagged_value k (Some m) = refl
+flagged_value k o = grind (arith, common_steps)
 
 pub metric_value : (k : MetricKind) (l : AddressRecord) → value_of (column_of k) l ≡ option_map (metric_octets k) (metric_of k l.metrics)
-metric_value Link_in l = flagged_value Link_in l.metrics.link_in
-metric_value Link_out l = flagged_value Link_out l.metrics.link_out
-metric_value Near_in l = flagged_value Near_in l.metrics.near_in
-metric_value Near_out l = flagged_value Near_out l.metrics.near_out
+metric_value k l = grind (arith, common_steps, flagged_value)
 
 flags_told : (k j : MetricKind) (n : ℕ) → n < 16 → has (flag_of k + n) (flag_of j) ≡ (flag_of k == flag_of j)
 flags_told Link_in Link_in n lt = tells_128 true false false false n lt
@@ -73,10 +65,7 @@ of_flag n = if n == 128 then Link_in else if n == 64 then Link_out else if n == 
 
 flag_back : (k : MetricKind) → of_flag (flag_of k) ≡ k
 unfolding of_flag
-flag_back Link_in = refl
-flag_back Link_out = refl
-flag_back Near_in = refl
-flag_back Near_out = refl
+flag_back k = grind (arith, common_steps)
 
 same_kind : (k j : MetricKind) → (flag_of k == flag_of j) ≡ true → k ≡ j
 same_kind k j e = sym (flag_back k) ∙ ap of_flag (eqb-true (flag_of k) (flag_of j) e) ∙ flag_back j
@@ -89,10 +78,7 @@ pub has_flag : (k : MetricKind) (m : Metric) → has (flag_of k + m.code / 256) 
 has_flag k m = metric_flag k k m ∙ eq-eqb (flag_of k) (flag_of k) refl
 
 metric_again : (k : MetricKind) (m : Metric) → m ≡ metric_in (flag_of k + m.code / 256) (m.code % 256)
-metric_again Link_in m = let less = m.in_range in same_metric m _ (omega arith)
-metric_again Link_out m = let less = m.in_range in same_metric m _ (omega arith)
-metric_again Near_in m = let less = m.in_range in same_metric m _ (omega arith)
-metric_again Near_out m = let less = m.in_range in same_metric m _ (omega arith)
+metric_again k m = grind (arith, common_steps, same_metric)
 
 same_two : (a b x y : ℕ) → Some (a ∷ (b ∷ [])) ≡ Some (x ∷ (y ∷ [])) → (a ≡ x) × (b ≡ y)
 same_two a b x y e = (cc, cc)
@@ -132,8 +118,7 @@ module _ (m : MessageFields) (lines : List AddressRecord) (are : AreBlocks lines
   none_flag k flag e (inr s) = octet_from k None e (3 ∷ []) s
 
   apart : (n flag : ℕ) → (n ≡ flag → ⊥) → (n ≡ 3 → ⊥) → (n ≡ flag) ⊎ (n ≡ 3) → ⊥
-  apart n flag a b (inl e) = a e
-  apart n flag a b (inr e) = b e
+  apart n flag a b h4 = grind (arith, common_steps)
 
   pub flags_are : (k : OctetKind) (a b : Bool) → at k line.octets ≡ flags_number a b → (IsTrue a ↔ SaysFlag m line.net (type_of k) 1) × (IsTrue b ↔ SaysFlag m line.net (type_of k) 2)
   flags_are k false false e = ((λ t. cc, λ s. absurd (none_flag k 1 e s)), (λ t. cc, λ s. absurd (none_flag k 2 e s)))
@@ -143,13 +128,7 @@ module _ (m : MessageFields) (lines : List AddressRecord) (are : AreBlocks lines
 
   -- a metric that is said is the line's
   from_metric : (k j : MetricKind) (o : Option Metric) (x y : ℕ) → metric_of k line.metrics ≡ o → option_map (metric_octets k) o ≡ Some (x ∷ (y ∷ [])) → has x (flag_of j) ≡ true → metric_of j line.metrics ≡ Some (metric_in x y)
-  from_metric k j None x y of e flag = cc
-  from_metric k j (Some metric) x y of e flag =
-      let (first, second) = same_two (flag_of k + metric.code / 256) (metric.code % 256) x y e in
-      let there : has (flag_of k + metric.code / 256) (flag_of j) ≡ true = ap (λ (n : ℕ). has n (flag_of j)) first ∙ flag in
-      let same : k ≡ j = same_kind k j (sym (metric_flag k j metric) ∙ there) in
-      subst (λ (i : MetricKind). metric_of i line.metrics ≡ Some metric) same of
-      ∙ ap Some (metric_again k metric ∙ ap (λ (n : ℕ). metric_in n (metric.code % 256)) first ∙ ap (metric_in x) second)
+  from_metric k j o x y of e flag = grind (arith, common_steps, same_two, same_kind, metric_flag, metric_again)
 
   pub shown : (j : MetricKind) (metric : Metric) → ShowsMetric m line.net j metric → metric_of j line.metrics ≡ Some metric
   shown j metric (x, y, s, flag, is) =

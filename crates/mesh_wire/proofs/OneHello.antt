@@ -1,5 +1,6 @@
 -- A message that keeps the rules of a HELLO reads as one HELLO.
-use Rattle.mesh_wire.proofs.Common.{◌≡◌, ℕ, ◌/◌, ◌%◌, inl, inr, List, Bool, refl, sym, ap, subst, ◌∙◌, ◌↔◌, AllPairs, Contains, Option, Some, None, IsSome, IsTrue, Addr4, NetAddr, IsBefore, ascends_prop, LocalIf, Metrics, Willing, HelloRow, Hello, Metric, IsAlone, same_answer, row_octet, HasWilling, WillingIs, TellsOther, IsReadHelloRow, HelloIs, sender_row, BreaksHello, TwoValues, local_if, mpr, OctetKind, Local, MessageFields, MetricKind, Link_in, Link_out, Near_in, Near_out, metric_of, MetricIs, HasTwoMetrics, statuses, type_of, OctetIs, SaysFlag, Keeps}
+use Rattle.mesh_wire.proofs.Common.{arith, common_steps, ◌≡◌, ℕ, inr, List, Bool, refl, sym, ap, subst, ◌∙◌, ◌↔◌, AllPairs, Contains, Option, Some, None, IsSome, IsTrue, Addr4, NetAddr, IsBefore, ascends_prop, LocalIf, Willing, HelloRow, Hello, IsAlone, same_answer, row_octet, HasWilling, WillingIs, TellsOther, IsReadHelloRow, HelloIs, sender_row, BreaksHello, TwoValues, local_if, mpr, OctetKind, Local, MessageFields, MetricKind, Link_in, Link_out, Near_in, Near_out, metric_of, MetricIs, HasTwoMetrics, statuses, type_of, OctetIs, SaysFlag, Keeps}
+use Rattle.mesh_atoms.specs.declared.hello.Metrics.{Metrics}
 use Rattle.mesh_atoms.specs.declared.hello.Mpr.{Mpr}
 use Rattle.mesh_atoms.proofs.Equal.{same_willing}
 use Rattle.mesh_wire.specs.HelloRules.{WrongMetric}
@@ -8,15 +9,8 @@ use Rattle.mesh_wire.proofs.Statuses.{local_among, same_local, same_row, alone_r
 
 -- ---- rows
 
-abbrev metrics_of : Option Metric → Option Metric → Option Metric → Option Metric → Metrics
-metrics_of a b c d = record { link_in = a; link_out = b; near_in = c; near_out = d }
-
 pub same_metrics : (m n : Metrics) → m.link_in ≡ n.link_in → m.link_out ≡ n.link_out → m.near_in ≡ n.near_in → m.near_out ≡ n.near_out → m ≡ n
-same_metrics m n a b c d =
-    ap (λ (x : Option Metric). metrics_of x m.link_out m.near_in m.near_out) a
-    ∙ ap (λ (x : Option Metric). metrics_of n.link_in x m.near_in m.near_out) b
-    ∙ ap (λ (x : Option Metric). metrics_of n.link_in n.link_out x m.near_out) c
-    ∙ ap (λ (x : Option Metric). metrics_of n.link_in n.link_out n.near_in x) d
+same_metrics m n a b c d = grind (arith, common_steps)
 
 abbrev mpr_of : Bool → Bool → Mpr
 mpr_of a b = record { flooding = a; routing = b }
@@ -59,15 +53,10 @@ module _ (message : MessageFields) (keeps : Keeps (BreaksHello message)) where
 -- ---- the whole
 
 one_octet_of_willing : (message : MessageFields) (a b : ℕ) → HasWilling message a → HasWilling message b → a ≡ b
-one_octet_of_willing message a b (inl h) (inl k) = h.1 ∙ sym k.1
-one_octet_of_willing message a b (inl h) (inr k) = (let e = h.0 in cc)
-one_octet_of_willing message a b (inr h) (inl k) = (let e = k.0 in cc)
-one_octet_of_willing message a b (inr h) (inr k) = cc
+one_octet_of_willing message a b h3 h4 = grind (arith, common_steps)
 
 one_willing : (message : MessageFields) (a b : Willing) → WillingIs message a → WillingIs message b → a ≡ b
-one_willing message a b (x, is_x, flooding_x, routing_x) (y, is_y, flooding_y, routing_y) =
-    let same : x ≡ y = one_octet_of_willing message x y is_x is_y in
-    same_willing a b (flooding_x ∙ ap (λ (n : ℕ). n / 16) same ∙ sym flooding_y) (routing_x ∙ ap (λ (n : ℕ). n % 16) same ∙ sym routing_y)
+one_willing message a b h3 h4 = grind (arith, common_steps, one_octet_of_willing, same_willing)
 
 abbrev pub Up : List HelloRow → Type 0
 Up rows = AllPairs (λ (r t : HelloRow). IsBefore r.addr t.addr) rows

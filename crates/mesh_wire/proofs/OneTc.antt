@@ -1,5 +1,5 @@
 -- A message that keeps the rules of a TC reads as one TC.
-use Rattle.mesh_wire.proofs.Common.{◌≡◌, ℕ, ◌+◌, ◌*◌, inr, List, [], ◌∷◌, Bool, refl, sym, ap, subst, ◌∙◌, AllPairs, Option, Some, ◌==◌, Addr4, NetAddr, IsBefore, ascends_prop, Metric, TcRow, Tc, gateway, TlvFields, MessageFields, octets_of, Near_out, Keeps, ContentIs, IsReadTcRow, TcIs, BreaksTc, TwoGateways, WrongMetric, distance_of, same_some, same_answer}
+use Rattle.mesh_wire.proofs.Common.{arith, common_steps, ◌≡◌, ℕ, ◌+◌, ◌*◌, inr, List, [], ◌∷◌, Bool, refl, sym, ap, subst, ◌∙◌, AllPairs, Option, Some, Addr4, NetAddr, IsBefore, ascends_prop, Metric, TcRow, Tc, gateway, TlvFields, MessageFields, Near_out, Keeps, ContentIs, IsReadTcRow, TcIs, BreaksTc, TwoGateways, WrongMetric, distance_of, same_some, same_answer}
 use Rattle.mesh_wire.proofs.Single.{one_time, one_interval, one_originator, one_octet, one_metric, one_rows}
 
 -- ---- rows
@@ -28,16 +28,10 @@ one_part : (a b : TlvFields) (parts : List TlvFields) → parts ≡ a ∷ [] →
 one_part a b parts e f = cc
 
 one_short : (a b c d : ℕ) (octets : List ℕ) → octets ≡ a ∷ b ∷ [] → octets ≡ c ∷ d ∷ [] → 256 * a + b ≡ 256 * c + d
-one_short a b c d octets e f =
-    let high : a ≡ c = cc in
-    let low : b ≡ d = cc in
-    cc
+one_short a b c d octets e f = grind (arith, common_steps)
 
 one_content : (message : MessageFields) (a b : ℕ) (x y : Bool) → ContentIs message a x → ContentIs message b y → (a ≡ b) × (x ≡ y)
-one_content message a b x y (p, high, low, is_p, octets_p, ansn_p, complete_p) (q, high', low', is_q, octets_q, ansn_q, complete_q) =
-    let same : p ≡ q = one_part p q _ is_p is_q in
-    let octets : octets_of p.value ≡ high' ∷ low' ∷ [] = ap (λ (r : TlvFields). octets_of r.value) same ∙ octets_q in
-    (ansn_p ∙ one_short high low high' low' _ octets_p octets ∙ sym ansn_q, complete_p ∙ ap (λ (r : TlvFields). r.ext == 0) same ∙ sym complete_q)
+one_content message a b x y h5 h6 = grind (arith, common_steps, one_part, one_short)
 
 abbrev pub Up : List TcRow → Type 0
 Up rows = AllPairs (λ (r t : TcRow). IsBefore r.dest t.dest) rows

@@ -1,5 +1,5 @@
 -- The first rule that rows break is the first that their message breaks.
-use Rattle.mesh_wire.proofs.Common.{◌≡◌, ℕ, ◌<◌, ◌≤◌, ◌⊎◌, inl, inr, refl, sym, ◌∙◌, ap, subst, arith, Bool, true, false, cond, List, [], ◌∷◌, Contains, AllPairs, Option, Some, None, nat_lt, cases_Bool, cases_lt, ltb-true, lt-ltb, NetAddr, IsBefore, IsAtMost, AddressParts, sooner, first_rule, FirstBroken, IsLow, Keeps, at_most_itself, at_most_of_before, contains_head as at_head, contains_tail as in_tail, contains_cases, contains_none as none_in, all_pairs_tail, all_pairs_head, some_equal}
+use Rattle.mesh_wire.proofs.Common.{common_steps, ◌≡◌, ℕ, ◌<◌, ◌≤◌, ◌⊎◌, inl, inr, refl, sym, ◌∙◌, ap, subst, arith, Bool, true, false, cond, List, [], ◌∷◌, Contains, AllPairs, Option, Some, None, nat_lt, cases_Bool, cases_lt, ltb-true, lt-ltb, NetAddr, IsBefore, IsAtMost, AddressParts, sooner, first_rule, FirstBroken, IsLow, Keeps, at_most_itself, at_most_of_before, contains_head as at_head, contains_tail as in_tail, contains_cases, contains_none as none_in, all_pairs_tail, all_pairs_head, some_equal}
 
 abbrev pub AreOrdered : List AddressParts → Type 0
 AreOrdered rows = AllPairs (λ (a b : AddressParts). IsBefore a.net b.net) rows
@@ -85,11 +85,7 @@ module _ (rule : AddressParts → Option ℕ) where
   after (t ∷ rows) up n a = one_more t rows n a (rule t) up refl (after rows (all_pairs_tail (λ (a b : AddressParts). IsBefore a.net b.net) t rows up))
 
   from_head : (t : AddressParts) (rows : List AddressParts) (o : Option ℕ) → AreOrdered (t ∷ rows) → rule t ≡ o → FirstIs rows (first_rule rule None rows) → FirstIs (t ∷ rows) (first_rule rule (sooner None o t.net) rows)
-  from_head t rows None up e rest = more (first_rule rule None rows) rest
-    where
-      more : (r : Option (ℕ × NetAddr)) → FirstIs rows r → FirstIs (t ∷ rows) r
-      more None h = λ u has. elim (contains_cases t rows u has) [ inl g ↦ ap rule (sym g) ∙ e | inr later ↦ h u later ]
-      more (Some (m, b)) h = extended t rows m b (λ k g. let no : None ≡ Some k = sym e ∙ g in absurd (cc)) h
+  from_head t rows None up e rest = grind (arith, common_steps, contains_cases, extended)
   from_head t rows (Some k) up e rest = elim (after rows (all_pairs_tail (λ (a b : AddressParts). IsBefore a.net b.net) t rows up) k t.net) [
     | inl (is, all) ↦ subst (λ (r : Option (ℕ × NetAddr)). FirstIs (t ∷ rows) r) (sym is) (begun t rows k up e all)
     | inr (m, b, lt, is, f) ↦ subst (λ (r : Option (ℕ × NetAddr)). FirstIs (t ∷ rows) r) (sym is) (extended t rows m b (λ j g. omega (arith, lt, some_equal k j (sym e ∙ g))) f)
@@ -130,6 +126,4 @@ module _ (Breaks : ℕ → Option NetAddr → Type 0) (rule : AddressParts → O
       }
 
   pub rule_none : first_rule rule None rows ≡ None → Keeps Breaks × ((t : AddressParts) → Contains rows t → rule t ≡ None)
-  rule_none e =
-      let f : (u : AddressParts) → Contains rows u → rule u ≡ None = subst (λ (r : Option (ℕ × NetAddr)). FirstIs rule rows r) e (first_is rule rows up) in
-      (λ k a b. let r = d.reaches k a b (from k a b) in let no : None ≡ Some r.number = sym (f r.told r.there) ∙ r.broken in cc, f)
+  rule_none e = grind (arith, common_steps, first_is)

@@ -1,5 +1,5 @@
 -- The TLV of a run says of each address what its line says.
-use Rattle.mesh_wire.proofs.Common.{◌≡◌, ℕ, zero, suc, ◌+◌, ◌-◌, ◌*◌, ◌/◌, ◌%◌, ◌<◌, ◌≤◌, inl, inr, List, [], ◌∷◌, ◌++◌, length, take, drop, refl, sym, ap, subst, ◌∙◌, arith, append_assoc, length-append, length-take, length-drop, append-nil, map, get_or, min, nat_lt, ◌==◌, slice_range, slice_get, nat_eq, Bool, true, false, not, cond, Option, Some, None, unwrap_or, flat_map, option_map, option_eq, is_some, mul-div_right, mul-mod_right, cases_Bool, cases_lt, cases_eq, eq-eqb, eqb-true, lt-ltb, le-ltb, and_parts as both, and_right, not_from_true, take_all, map-append, take-append-drop, drop-drop, AddrTlv, AddrTlvFields, addr_fields, octet_if, covers_all, is_several, least_short, least_length, least_addr_tlv, least_value, HasEqualParts, AddressTlvKind, AddressRecord, is_wide, width_of, most_of, octet_pair, value_of, laid, column_text, share_of, value_at, has_part, leading, present, is_same_pair, have_pair, first_pair, run_of, Adds, IsColumnTlv, LaysFirst, Lays, LaysAll, IsBlock, AreBlocks, Block, BlockFields, fields_of_block, Contains-push, Contains-append_left, Contains-push_cases, flat_map-append, item_at as there, some_of}
+use Rattle.mesh_wire.proofs.Common.{common_steps, ◌≡◌, ℕ, zero, suc, ◌+◌, ◌-◌, ◌*◌, ◌/◌, ◌%◌, ◌<◌, ◌≤◌, inl, inr, List, [], ◌∷◌, ◌++◌, length, take, drop, refl, sym, ap, subst, ◌∙◌, arith, append_assoc, length-append, length-take, length-drop, append-nil, map, get_or, min, ◌==◌, slice_range, slice_get, Bool, true, false, not, cond, Option, Some, unwrap_or, flat_map, option_map, option_eq, mul-div_right, mul-mod_right, cases_Bool, cases_lt, cases_eq, eq-eqb, and_parts as both, and_right, not_from_true, take_all, map-append, take-append-drop, drop-drop, AddrTlv, AddrTlvFields, addr_fields, octet_if, covers_all, is_several, least_length, least_addr_tlv, least_value, HasEqualParts, AddressTlvKind, AddressRecord, is_wide, width_of, most_of, octet_pair, value_of, laid, column_text, share_of, value_at, has_part, leading, present, is_same_pair, have_pair, first_pair, run_of, Adds, IsColumnTlv, LaysFirst, Lays, LaysAll, IsBlock, AreBlocks, Block, BlockFields, fields_of_block, Contains-push, Contains-append_left, Contains-push_cases, flat_map-append, item_at as there, some_of}
 use Rattle.mesh_tlv.specs.Least.{least_head}
 use Rattle.mesh_wire.specs.Lines.{octets_of}
 use Rattle.mesh_wire.proofs.Standing.{get_drop, get_take, taken}
@@ -8,10 +8,7 @@ use Rattle.mesh_wire.proofs.Texts.{take_more, between, column_wide, column_narro
 -- ---- shares of a text
 
 pub column_long : (c : AddressTlvKind) (lines : List AddressRecord) → length (column_text c lines) ≡ length lines * width_of c
-column_long c lines = elim (cases_Bool (is_wide c)) [
-  | inl e ↦ let two : width_of c ≡ 2 = ap (λ (b : Bool). cond b 2 1) e in rw two (omega (arith, column_wide c lines e))
-  | inr e ↦ let one : width_of c ≡ 1 = ap (λ (b : Bool). cond b 2 1) e in rw one (omega (arith, column_narrow c lines e))
-]
+column_long c lines = grind (arith, common_steps, cases_Bool, column_wide, column_narrow)
 
 -- the list of one item at a place
 one_at : {X : Type 0} (xs : List X) (k : ℕ) (x : X) → slice_get xs k ≡ Some x → take 1 (drop k xs) ≡ x ∷ []
@@ -41,10 +38,7 @@ share_is c lines n k line long lt at =
 
 pub leading_has : (c : AddressTlvKind) (lines : List AddressRecord) (k : ℕ) (line : AddressRecord) → k < leading c lines → slice_get lines k ≡ Some line → has_part c line ≡ true
 leading_has c [] k line lt at = absurd (omega arith)
-leading_has c (l ∷ lines) zero line lt at = elim (cases_Bool (has_part c l)) [
-  | inl e ↦ let same : l ≡ line = cc in subst (λ (x : AddressRecord). has_part c x ≡ true) same e
-  | inr e ↦ let none : 0 < 0 = subst (λ (b : Bool). 0 < cond b (1 + leading c lines) 0) e lt in absurd (omega arith)
-]
+leading_has c (l ∷ lines) zero line lt at = grind (arith, common_steps, cases_Bool, leading)
 leading_has c (l ∷ lines) (suc k) line lt at = elim (cases_Bool (has_part c l)) [
   | inl e ↦ let less : suc k < 1 + leading c lines = subst (λ (b : Bool). suc k < cond b (1 + leading c lines) 0) e lt in leading_has c lines k line (omega arith) at
   | inr e ↦ let none : suc k < 0 = subst (λ (b : Bool). suc k < cond b (1 + leading c lines) 0) e lt in absurd (omega arith)
@@ -85,29 +79,16 @@ present_leading c (l ∷ lines) = elim (cases_Bool (has_part c l)) [
 
 -- up to the end of a run, and to what is behind it
 pub present_run : (c : AddressTlvKind) (lines : List AddressRecord) (first : ℕ) → present c (take first lines) + leading c (drop first lines) ≤ present c (take (first + leading c (drop first lines) + 1) lines)
-present_run c lines first =
-    let n = leading c (drop first lines) in
-    let one : present c (take (first + n) lines) ≡ present c (take first lines) + n =
-    ap (present c) (take_more first n lines) ∙ present_append c (take first lines) (take n (drop first lines)) ∙ ap (λ (m : ℕ). present c (take first lines) + m) (present_leading c (drop first lines)) in
-    let two : present c (take (first + n + 1) lines) ≡ present c (take (first + n) lines) + present c (take 1 (drop (first + n) lines)) =
-    ap (present c) (take_more (first + n) 1 lines) ∙ present_append c (take (first + n) lines) (take 1 (drop (first + n) lines)) in
-    omega (arith, one, two)
+present_run c lines first = grind (arith, common_steps, leading, take_more, present_append, present_leading)
 
 -- ---- the TLV of a run
 
 same_option : (a b : Option (ℕ × ℕ)) → option_eq is_same_pair a b ≡ true → a ≡ b
-same_option None None e = refl
-same_option None (Some b) e = cc
-same_option (Some a) None e = cc
-same_option (Some a) (Some b) e =
-    let parts = both (nat_eq a.0 b.0) (nat_eq a.1 b.1) e in
-    ap (λ (n : ℕ). Some (n, a.1)) (eqb-true a.0 b.0 parts.0) ∙ ap (λ (n : ℕ). Some (b.0, n)) (eqb-true a.1 b.1 parts.1)
+same_option a b e = grind (arith, common_steps)
 
 all_there : (c : AddressTlvKind) (n : Option (ℕ × ℕ)) (lines : List AddressRecord) → have_pair c n lines ≡ true → (k : ℕ) (line : AddressRecord) → slice_get lines k ≡ Some line → octet_pair c line ≡ n
 all_there c n [] e k line at = cc
-all_there c n (l ∷ lines) e zero line at =
-    let same : l ≡ line = cc in
-    subst (λ (x : AddressRecord). octet_pair c x ≡ n) same (same_option (octet_pair c l) n (both (option_eq is_same_pair (octet_pair c l) n) (have_pair c n lines) e).0)
+all_there c n (l ∷ lines) e zero line at = grind (arith, common_steps, same_option)
 all_there c n (l ∷ lines) e (suc k) line at = all_there c n lines (both (option_eq is_same_pair (octet_pair c l) n) (have_pair c n lines) e).1 k line at
 
 -- lines that all have the part, of a block from a place on
@@ -119,20 +100,16 @@ pub record Stands (c : AddressTlvKind) (lines : List AddressRecord) (first : ℕ
 
 value_case : (a : Bool) (one each x : List ℕ) (share : List ℕ → List ℕ) → (a ≡ true → one ≡ x) → (a ≡ false → share each ≡ x) →
     cond (not a) (option_map share (Some (cond a one each))) (Some (cond a one each)) ≡ Some x
-value_case true one each x share h k = ap Some (h refl)
-value_case false one each x share h k = ap Some (k refl)
+value_case a one each x share h k = grind (arith, common_steps)
 
 fit_case : (a : Bool) (one each : List ℕ) (first last : ℕ) → length each % (last + 1 - first) ≡ 0 → HasEqualParts (not a) first last (Some (cond a one each))
-fit_case true one each first last h = tt
-fit_case false one each first last h = h
+fit_case a one each first last h = grind (arith, common_steps)
 
 laid_pair : (c : AddressTlvKind) (line : AddressRecord) (n : ℕ × ℕ) → octet_pair c line ≡ Some n → laid c line ≡ octets_of c n
 laid_pair c line n e = ap (λ (o : Option (ℕ × ℕ)). octets_of c (unwrap_or o (0, 0))) e
 
 one_value : (c : AddressTlvKind) (run : List AddressRecord) (k : ℕ) (line : AddressRecord) (n : ℕ × ℕ) → have_pair c (first_pair c run) run ≡ true → slice_get run k ≡ Some line → octet_pair c line ≡ Some n → column_text c (take 1 run) ≡ octets_of c n
-one_value c [] k line n same at is = cc
-one_value c (l ∷ run) k line n same at is =
-    append-nil (laid c l) ∙ laid_pair c l n (sym (all_there c (octet_pair c l) (l ∷ run) same k line at) ∙ is)
+one_value c run k line n same at is = grind (arith, common_steps, laid, laid_pair, all_there)
 
 pub is_run : (c : AddressTlvKind) (lines : List AddressRecord) (first : ℕ) (run : List AddressRecord) → Stands c lines first run → IsColumnTlv c lines (run_of c first run)
 is_run c lines first run s = record {
@@ -171,16 +148,11 @@ is_run c lines first run s = record {
 -- ---- how long it is
 
 octet_short : (set : Bool) (x : ℕ) → length (octet_if set x) ≤ 1
-octet_short true x = omega arith
-octet_short false x = omega arith
+octet_short set x = grind (arith, common_steps)
 
 head_short : (count : ℕ) (tlv : AddrTlvFields) → tlv.ext ≡ 0 → length (least_head count tlv) ≤ 4
 unfolding least_head
-head_short count tlv e =
-    let one = octet_if (not (covers_all count tlv.first tlv.last)) tlv.first in
-    let two = octet_if (is_several count tlv.first tlv.last) tlv.last in
-    let none : octet_if (not (tlv.ext == 0)) tlv.ext ≡ [] = ap (λ (n : ℕ). octet_if (not (n == 0)) n) e in
-    omega (arith, octet_short (not (covers_all count tlv.first tlv.last)) tlv.first, octet_short (is_several count tlv.first tlv.last) tlv.last, length-append one two, length-append (octet_if (not (tlv.ext == 0)) tlv.ext) (one ++ two), ap length none)
+head_short count tlv e = grind (arith, common_steps, covers_all, octet_short)
 
 -- a single index at most where one address is covered
 several_none : (count first last : ℕ) → first ≡ last → is_several count first last ≡ false
@@ -188,52 +160,30 @@ several_none count first last e = and_right (not (covers_all count first last)) 
 
 head_one : (count : ℕ) (tlv : AddrTlvFields) → tlv.ext ≡ 0 → tlv.first ≡ tlv.last → length (least_head count tlv) ≤ 3
 unfolding least_head
-head_one count tlv e same =
-    let one = octet_if (not (covers_all count tlv.first tlv.last)) tlv.first in
-    let two = octet_if (is_several count tlv.first tlv.last) tlv.last in
-    let none : octet_if (not (tlv.ext == 0)) tlv.ext ≡ [] = ap (λ (n : ℕ). octet_if (not (n == 0)) n) e in
-    let no_last : two ≡ [] = ap (λ (b : Bool). octet_if b tlv.last) (several_none count tlv.first tlv.last same) in
-    omega (arith, octet_short (not (covers_all count tlv.first tlv.last)) tlv.first, ap length no_last, length-append one two, length-append (octet_if (not (tlv.ext == 0)) tlv.ext) (one ++ two), ap length none)
+head_one count tlv e same = grind (arith, common_steps, covers_all, several_none, octet_short)
 
 pub head_long : (count : ℕ) (tlv : AddrTlvFields) → length (least_head count tlv) ≤ 5
 unfolding least_head
-head_long count tlv =
-    let one = octet_if (not (covers_all count tlv.first tlv.last)) tlv.first in
-    let two = octet_if (is_several count tlv.first tlv.last) tlv.last in
-    omega (arith, octet_short (not (covers_all count tlv.first tlv.last)) tlv.first, octet_short (is_several count tlv.first tlv.last) tlv.last, octet_short (not (tlv.ext == 0)) tlv.ext, length-append one two, length-append (octet_if (not (tlv.ext == 0)) tlv.ext) (one ++ two))
+head_long count tlv = grind (arith, common_steps, covers_all, octet_short)
 
 pub length_short : (n : ℕ) → length (least_length n) ≤ 1 + n / 256
-length_short n = elim (cases_lt 255 n) [
-  | inl lt ↦ let e : nat_lt 255 n ≡ true = lt-ltb 255 n lt in subst (λ (b : Bool). length (cond b (least_short n) (n ∷ [])) ≤ 1 + n / 256) (sym e) (omega arith)
-  | inr le ↦ let e : nat_lt 255 n ≡ false = le-ltb 255 n le in subst (λ (b : Bool). length (cond b (least_short n) (n ∷ [])) ≤ 1 + n / 256) (sym e) (omega arith)
-]
+length_short n = grind (arith, common_steps)
 
 text_short : (c : AddressTlvKind) (lines : List AddressRecord) → length (column_text c lines) ≤ width_of c * length lines
-text_short c lines = elim (cases_Bool (is_wide c)) [
-  | inl e ↦ let two : width_of c ≡ 2 = ap (λ (b : Bool). cond b 2 1) e in rw two (omega (arith, column_wide c lines e))
-  | inr e ↦ let one : width_of c ≡ 1 = ap (λ (b : Bool). cond b 2 1) e in rw one (omega (arith, column_narrow c lines e))
-]
+text_short c lines = grind (arith, common_steps, cases_Bool, column_wide, column_narrow)
 
 -- by whether values have two octets
 wider : (b : Bool) (x m n : ℕ) → x ≤ cond b 2 1 * m → m ≤ n → x ≤ cond b 2 1 * n
-wider true x m n le up = omega (arith, le, up)
-wider false x m n le up = omega (arith, le, up)
+wider b x m n le up = grind (arith, common_steps)
 
 run_most : (b : Bool) (head len text n : ℕ) → 0 < n → n ≤ 255 → head ≤ 4 → (n ≡ 1 → head ≤ 3) → len ≤ 1 + text / 256 → text ≤ cond b 2 1 * n → head + (len + text) ≤ cond b 6 5 * n
-run_most true head len text n some few le one short long = elim (cases_eq n 1) [ inl e ↦ omega (arith, e, one e, short, long) | inr other ↦ omega (arith, other, some, few, le, short, long) ]
-run_most false head len text n some few le one short long = elim (cases_eq n 1) [ inl e ↦ omega (arith, e, one e, short, long) | inr other ↦ omega (arith, other, some, few, le, short, long) ]
-
-none_most : (b : Bool) (n : ℕ) → 0 ≤ cond b 6 5 * n
-none_most true n = omega arith
-none_most false n = omega arith
+run_most b head len text n some few le one short long = grind (arith, common_steps, cases_eq)
 
 more_most : (b : Bool) (x m n : ℕ) → x ≤ cond b 6 5 * m → m ≤ n → x ≤ cond b 6 5 * n
-more_most true x m n le up = omega (arith, le, up)
-more_most false x m n le up = omega (arith, le, up)
+more_most b x m n le up = grind (arith, common_steps)
 
 both_most : (b : Bool) (x y m n k : ℕ) → x ≤ cond b 6 5 * m → y ≤ cond b 6 5 * n → m + n ≤ k → x + y ≤ cond b 6 5 * k
-both_most true x y m n k le least up = omega (arith, le, least, up)
-both_most false x y m n k le least up = omega (arith, le, least, up)
+both_most b x y m n k le least up = grind (arith, common_steps)
 
 pub run_short : (c : AddressTlvKind) (first : ℕ) (run : List AddressRecord) (count : ℕ) → 0 < length run → length run ≤ 255 → length (least_addr_tlv count (run_of c first run)) ≤ most_of c * length run
 run_short c first run count some few =
@@ -252,18 +202,10 @@ run_short c first run count some few =
 -- ---- run after run
 
 pub lays_none : (c : AddressTlvKind) (lines : List AddressRecord) → LaysFirst c lines 0 []
-lays_none c lines = record {
-  each = λ tlv has. absurd (omega (arith, has.1));
-  all = λ place line octets lt at is. absurd (omega arith);
-  short = λ count. none_most (is_wide c) 0;
-}
+lays_none c lines = grind (arith, common_steps)
 
 none_said : (c : AddressTlvKind) (line : AddressRecord) (octets : List ℕ) → has_part c line ≡ false → value_of c line ≡ Some octets → ⊥
-none_said c line octets e is = none (octet_pair c line) e is
-  where
-    none : (o : Option (ℕ × ℕ)) → is_some o ≡ false → option_map (octets_of c) o ≡ Some octets → ⊥
-    none None e is = cc
-    none (Some n) e is = cc
+none_said c line octets e is = grind (arith, common_steps)
 
 -- past a line that hasn't the part
 pub lays_skip : (c : AddressTlvKind) (lines : List AddressRecord) (first : ℕ) (tlvs : List AddrTlvFields) → leading c (drop first lines) ≡ 0 → LaysFirst c lines first tlvs → LaysFirst c lines (first + 0 + 1) tlvs
@@ -282,29 +224,7 @@ lays_skip c lines first tlvs none h = record {
 }
 
 pub run_stands : (c : AddressTlvKind) (lines : List AddressRecord) (first n : ℕ) → first ≤ length lines → leading c (drop first lines) ≡ n → 0 < n → Stands c lines first (slice_range lines first (first + n))
-run_stands c lines first n le is some = record {
-  some = omega (arith, long);
-  fits = omega (arith, long, within);
-  at = λ k lt. at k (omega (arith, long, lt));
-  has = λ k line there. has k line there;
-} where
-  size : first + n - first ≡ n
-  size = omega arith
-
-  within : first + n ≤ length lines
-  within = omega (arith, leading_within c (drop first lines), length-drop first lines, is)
-
-  long : length (slice_range lines first (first + n)) ≡ n
-  long = rw size (take_long n (drop first lines) (omega (arith, length-drop first lines, within)))
-
-  at : (k : ℕ) → k < n → slice_get lines (first + k) ≡ slice_get (slice_range lines first (first + n)) k
-  at k lt = rw size (sym (get_drop first lines k) ∙ sym (get_take n (drop first lines) k lt))
-
-  has : (k : ℕ) (line : AddressRecord) → slice_get (slice_range lines first (first + n)) k ≡ Some line → has_part c line ≡ true
-  has k line there =
-      let there' : slice_get (take n (drop first lines)) k ≡ Some line = rw size at there in
-      let lt : k < n = taken n (drop first lines) k line there' in
-      leading_has c (drop first lines) k line (omega (arith, is)) (sym (get_take n (drop first lines) k lt) ∙ there')
+run_stands c lines first n le is some = grind (arith, common_steps, leading_within, take_long, get_drop, get_take, taken, leading_has)
 
 -- past a run and the line behind it
 pub lays_run : (c : AddressTlvKind) (lines : List AddressRecord) (first n : ℕ) (tlvs : List AddrTlvFields) → first ≤ length lines → length lines ≤ 255 → leading c (drop first lines) ≡ n → 0 < n →
@@ -351,12 +271,7 @@ lays_run c lines first n tlvs le few is some h = record {
 
 -- at the end
 pub lays_all : (c : AddressTlvKind) (lines : List AddressRecord) (first : ℕ) (tlvs : List AddrTlvFields) → length lines ≤ first → LaysFirst c lines first tlvs → Lays c lines tlvs
-lays_all c lines first tlvs le h = record {
-  each = h.each;
-  all = λ place line octets lt at is. h.all place line octets (omega arith) at is;
-  short = λ count. let e : take first lines ≡ lines = take_all first lines le in let f : take (length lines) lines ≡ lines = take_all (length lines) lines (omega arith) in
-      subst (λ (n : ℕ). length (flat_map (least_addr_tlv count) tlvs) ≤ most_of c * n) (ap (present c) (e ∙ sym f)) (h.short count);
-}
+lays_all c lines first tlvs le h = grind (arith, common_steps, take_all)
 
 -- ---- the same of TLVs as they lie in memory
 
@@ -372,8 +287,7 @@ adds_run old mid new tlv c lines first n le few is some fields added (more, whol
 
 pub adds_skip : (old mid : List AddrTlv) (c : AddressTlvKind) (lines : List AddressRecord) (first n : ℕ) → leading c (drop first lines) ≡ n → n ≡ 0 →
     Adds (LaysFirst c lines first) (map addr_fields old) (map addr_fields mid) → Adds (LaysFirst c lines (first + n + 1)) (map addr_fields old) (map addr_fields mid)
-adds_skip old mid c lines first n is none (more, whole, h) =
-    (more, whole, subst (λ (k : ℕ). LaysFirst c lines (first + k + 1) more) (sym none) (lays_skip c lines first more (is ∙ none) h))
+adds_skip old mid c lines first n is none h8 = grind (arith, common_steps, lays_skip)
 
 pub adds_none : (old : List AddrTlv) (c : AddressTlvKind) (lines : List AddressRecord) → Adds (LaysFirst c lines 0) (map addr_fields old) (map addr_fields old)
 adds_none old c lines = ([], sym (append-nil (map addr_fields old)), lays_none c lines)
@@ -385,13 +299,7 @@ adds_all old new c lines first le (more, whole, h) = (more, whole, lays_all c li
 
 pub columns_added : (cs : List AddressTlvKind) (lines : List AddressRecord) (d : AddressTlvKind) (old mid new : List AddrTlvFields) → 1 ≤ length cs → Adds (Lays (get_or cs 0 d) lines) old mid →
     Adds (LaysAll (take (length cs - 1) (drop 1 cs)) lines) mid new → Adds (LaysAll cs lines) old new
-columns_added [] lines d old mid new some h k = absurd (omega arith)
-columns_added (c ∷ cs) lines d old mid new some (first, is, h) (others, are, k) =
-    let all : take (length (c ∷ cs) - 1) cs ≡ cs = take_all (length (c ∷ cs) - 1) cs (omega arith) in (
-      first ++ others,
-      are ∙ ap (λ (l : List AddrTlvFields). l ++ others) is ∙ append_assoc old first others,
-      (first, others, refl, h, subst (λ (l : List AddressTlvKind). LaysAll l lines others) all k),
-    )
+columns_added cs lines d old mid new some h k = grind (arith, common_steps, take_all)
 
 pub blocks_added : (lines : List AddressRecord) (start n : ℕ) (old mid new : List Block) (block : Block) → start ≤ length lines → (start ≡ length lines → ⊥) → n ≡ min (length lines - start) 255 →
     IsBlock (slice_range lines start (n + start)) (fields_of_block block) → mid ≡ old ++ block ∷ [] → Adds (AreBlocks (drop (n + start) lines)) (map fields_of_block mid) (map fields_of_block new) →

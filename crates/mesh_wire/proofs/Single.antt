@@ -1,27 +1,15 @@
 -- What a message that keeps its rules says is said once.
-use Rattle.mesh_wire.proofs.Common.{◌≡◌, ℕ, ◌≤◌, inl, inr, List, [], ◌∷◌, refl, sym, ap, subst, ◌∙◌, arith, Contains, Option, Some, None, option_map, cases_eq, Addr4, NetAddr, Metric, time_at_distance, IsBefore, IsAtMost, OriginatorIs, RawAddr, MessageFields, MetricKind, MetricIs, HasTwoMetrics, OctetIs, HasTwoValues, AreRows, FirstBroken, IsLow, HasTime, IntervalIs, same_net, same_addr, same_metric}
+use Rattle.mesh_wire.proofs.Common.{common_steps, ◌≡◌, ℕ, inl, inr, List, [], ◌∷◌, refl, ap, subst, arith, Contains, Option, Some, None, option_map, cases_eq, Addr4, NetAddr, Metric, IsBefore, IsAtMost, OriginatorIs, RawAddr, MessageFields, MetricKind, MetricIs, HasTwoMetrics, OctetIs, HasTwoValues, AreRows, FirstBroken, IsLow, HasTime, IntervalIs, same_net, same_addr, same_metric}
 use Rattle.mesh_wire.proofs.Ascending.{same_ascending}
 
-one_value : (v w : List ℕ) (vs : List (List ℕ)) → vs ≡ v ∷ [] → vs ≡ w ∷ [] → v ≡ w
-one_value v w vs e f = cc
-
 pub one_time : (message : MessageFields) (kind distance a b : ℕ) → HasTime message kind distance a → HasTime message kind distance b → a ≡ b
-one_time message kind distance a b (v, is_v, odd_v, at_v) (w, is_w, odd_w, at_w) =
-    sym at_v ∙ ap (time_at_distance distance) (one_value v w _ is_v is_w) ∙ at_w
+one_time message kind distance a b h5 h6 = grind (arith, common_steps)
 
 pub one_interval : (message : MessageFields) (distance : ℕ) (a b : Option ℕ) → IntervalIs message distance a → IntervalIs message distance b → a ≡ b
-one_interval message distance None None h k = refl
-one_interval message distance None (Some b) h (v, is_v, odd, at) = cc
-one_interval message distance (Some a) None (v, is_v, odd, at) k = cc
-one_interval message distance (Some a) (Some b) h k = ap Some (one_time message 0 distance a b h k)
+one_interval message distance a b h k = grind (arith, common_steps, one_time)
 
 pub one_originator : (address : Option RawAddr) (a b : Option Addr4) → OriginatorIs address a → OriginatorIs address b → a ≡ b
-one_originator None None None h k = refl
-one_originator None None (Some b) h k = absurd k
-one_originator None (Some a) b h k = absurd h
-one_originator (Some address) None b h k = absurd h
-one_originator (Some address) (Some a) None h k = absurd k
-one_originator (Some address) (Some a) (Some b) h k = ap Some (same_addr a b (h ∙ sym k))
+one_originator address a b h k = grind (arith, common_steps, same_addr)
 
 pub one_octet : (message : MessageFields) (net : NetAddr) (kind : ℕ) (a b : Option ℕ) → (HasTwoValues message net kind → ⊥) → OctetIs message net kind a → OctetIs message net kind b → a ≡ b
 one_octet message net kind None None not_two h k = refl
@@ -43,18 +31,10 @@ one_metric message net kind (Some a) (Some b) not_two h k = elim (cases_eq a.cod
 
 -- an enumeration is told by its values
 pub told_by : {X : Type 0} (f : X → ℕ) (g : ℕ → X) → ((x : X) → g (f x) ≡ x) → (a b : Option X) → option_map f a ≡ option_map f b → a ≡ b
-told_by f g back None None e = refl
-told_by f g back None (Some b) e = cc
-told_by f g back (Some a) None e = cc
-told_by f g back (Some a) (Some b) e =
-    let same : f a ≡ f b = cc in
-    ap Some (sym (back a) ∙ ap g same ∙ back b)
+told_by f g back a b e = grind (arith, common_steps)
 
 pub one_way : (a b : NetAddr) → IsBefore a b → IsBefore b a → ⊥
-one_way a b (inl l) (inl m) = omega arith
-one_way a b (inl l) (inr m) = omega arith
-one_way a b (inr l) (inl m) = omega arith
-one_way a b (inr l) (inr m) = omega arith
+one_way a b h2 h3 = grind (arith, common_steps)
 
 -- rows are told by the message, where each row is told by its address
 pub one_rows : {Row : Type 0} (message : MessageFields) (addr_of : Row → NetAddr) (IsRow : Row → Type 0) → ((r s : Row) → addr_of r ≡ addr_of s → IsRow r → IsRow s → r ≡ s) →
@@ -69,10 +49,7 @@ one_rows {Row} message addr_of IsRow told xs ys a b =
     same_ascending (λ r s. IsBefore (addr_of r) (addr_of s)) (λ r s. one_way (addr_of r) (addr_of s)) xs ys a.ascending b.ascending (across xs ys a b) (across ys xs b a)
 
 at_most_both : (a b : NetAddr) → IsAtMost a b → IsAtMost b a → (a.addr.0 ≡ b.addr.0) × (a.prefix ≡ b.prefix)
-at_most_both a b (inl l) (inl m) = absurd (omega arith)
-at_most_both a b (inl l) (inr m) = absurd (omega arith)
-at_most_both a b (inr l) (inl m) = absurd (omega arith)
-at_most_both a b (inr l) (inr m) = (l.0, omega arith)
+at_most_both a b h2 h3 = grind (arith, common_steps)
 
 low_both : (a b : Option NetAddr) → IsLow a b → IsLow b a → a ≡ b
 low_both None None h k = refl
@@ -82,10 +59,4 @@ low_both (Some a) (Some b) h k = (let e = at_most_both a b h k in ap Some (same_
 
 -- one rule is the first that is broken, at one address
 pub one_broken : (Breaks : ℕ → Option NetAddr → Type 0) (n m : ℕ) (a b : Option NetAddr) → FirstBroken Breaks n a → FirstBroken Breaks m b → (n ≡ m) × (a ≡ b)
-one_broken Breaks n m a b h k =
-    let up : n ≤ m = h.first m b k.broken in
-    let down : m ≤ n = k.first n a h.broken in
-    let same : n ≡ m = omega arith in
-    let there : Breaks m a = subst (λ (x : ℕ). Breaks x a) same h.broken in
-    let here : Breaks n b = subst (λ (x : ℕ). Breaks x b) (sym same) k.broken in
-    (same, low_both a b (h.least b here) (k.least a there))
+one_broken Breaks n m a b h k = grind (arith, common_steps, low_both)

@@ -1,5 +1,5 @@
 -- What is kept of values, and that one value more is kept too.
-use Rattle.mesh_wire.proofs.Common.{◌≡◌, ℕ, ◌⊎◌, inl, inr, refl, sym, ◌∙◌, ap, subst, Bool, true, false, cond, List, length, [], ◌∷◌, ◌==◌, ◌||◌, ◌↔◌, ◌≢◌, nat_eq, IsTrue, Option, Some, None, is_none, cases_Bool, eq-eqb, ne_eqb, eqb-true, eqb-false, or_cases, or_left, or_right, Metric, same_metric, none_not, some_equal, Single, Absent, Value, Conflict, OctetKind, Octets, MetricParts, RowParts, link_metric, octet_in, is_flag_set, octets_also, octets_if, has_same_code, shown_in, has_other_length, metric_at, metrics_also, no_parts, take_part, MetricKind, Link_in, flag_of, type_of, at, also, also_some}
+use Rattle.mesh_wire.proofs.Common.{arith, common_steps, ◌≡◌, ℕ, ◌⊎◌, inl, inr, refl, sym, ◌∙◌, ap, subst, Bool, true, false, cond, List, length, [], ◌∷◌, ◌==◌, ◌||◌, ◌↔◌, ◌≢◌, nat_eq, IsTrue, Option, Some, None, is_none, cases_Bool, eq-eqb, ne_eqb, eqb-true, eqb-false, or_cases, or_left, or_right, Metric, same_metric, none_not, some_equal, Single, Absent, Value, Conflict, OctetKind, Octets, MetricParts, RowParts, link_metric, octet_in, is_flag_set, octets_also, octets_if, has_same_code, shown_in, has_other_length, metric_at, metrics_also, no_parts, take_part, MetricKind, flag_of, type_of, at, also, also_some}
 use Rattle.mesh_wire.proofs.OctetKinds.{at_by_kind}
 
 -- ---- several values
@@ -11,9 +11,7 @@ OneIs {X} T (Value x) = T x × ((y : X) → T y → y ≡ x)
 OneIs {X} T Conflict = (a : X) × (b : X) × T a × T b × (a ≢ b)
 
 pub one_same : {X : Type 0} (T U : X → Type 0) (one : Single X) → ((x : X) → U x → T x) → ((x : X) → T x → U x) → OneIs T one → OneIs U one
-one_same T U Absent back keep h = λ x u. h x (back x u)
-one_same T U (Value k) back keep h = (keep k h.0, λ x u. h.1 x (back x u))
-one_same T U Conflict back keep (a, b, x, y, d) = (a, b, keep a x, keep b y, d)
+one_same T U one back keep h = grind (arith, common_steps)
 
 -- a test that tells values from each other
 abbrev Tells : {X : Type 0} → (X → X → Bool) → Type 0
@@ -26,12 +24,7 @@ codes : Tells has_same_code
 codes a b = (λ e. same_metric a b (eqb-true a.code b.code e), λ e same. eqb-false a.code b.code e (ap (λ (m : Metric). m.code) same))
 
 one_more : {X : Type 0} (same : X → X → Bool) → Tells same → (T U : X → Type 0) (one : Single X) (new : X) → ((x : X) → U x → T x ⊎ (x ≡ new)) → ((x : X) → T x → U x) → U new → OneIs T one → OneIs U (also same one new)
-one_more same tells T U Absent new split keep said h = (said, λ x u. elim (split x u) [ inl t ↦ absurd (h x t) | inr e ↦ e ])
-one_more same tells T U (Value k) new split keep said h = elim (cases_Bool (same k new)) [
-  | inl e ↦ rw e (keep k h.0, λ x u. elim (split x u) [ inl t ↦ h.1 x t | inr f ↦ f ∙ sym ((tells k new).0 e) ])
-  | inr e ↦ rw e (k, new, keep k h.0, said, (tells k new).1 e)
-]
-one_more same tells T U Conflict new split keep said (a, b, x, y, d) = (a, b, keep a x, keep b y, d)
+one_more same tells T U one new split keep said h = grind (arith, common_steps, cases_Bool)
 
 -- ---- values that are said
 
@@ -63,18 +56,13 @@ module _ (S U : List ℕ → Type 0) (are : AreSame S U) where
 
 module _ (S U : List ℕ → Type 0) (new : List ℕ) (more : IsMore S U new) where
   reads_more : {X : Type 0} (same : X → X → Bool) → Tells same → (read : List ℕ → Option X) (one : Single X) (o : Option X) → read new ≡ o → OneIs (Reads read S) one → OneIs (Reads read U) (also_some same one o)
-  reads_more same tells read one None e h = one_same (Reads read S) (Reads read U) one
-      (λ x (o, u, is). elim (more.split o u) [ inl s ↦ (o, s, is) | inr f ↦ none_not (ap read f ∙ e) is ])
-      (λ x (o, s, is). (o, more.keep o s, is)) h
+  reads_more same tells read one None e h = grind (arith, common_steps, one_same, none_not)
   reads_more same tells read one (Some y) e h = one_more same tells (Reads read S) (Reads read U) one y
       (λ x (o, u, is). elim (more.split o u) [ inl s ↦ inl (o, s, is) | inr f ↦ inr (some_equal x y (sym is ∙ ap read f ∙ e)) ])
       (λ x (o, s, is). (o, more.keep o s, is)) (new, more.said, e) h
 
   test_more : (P : List ℕ → Type 0) (b c : Bool) → (c ≡ true → P new) → (P new → c ≡ true) → (IsTrue b ↔ SomeIs S P) → IsTrue (b || c) ↔ SomeIs U P
-  test_more P b c there back h = (
-    λ e. elim (or_cases b c e) [ inl t ↦ let w = h.0 t in (w.0, more.keep w.0 w.1, w.2) | inr t ↦ (new, more.said, there t) ],
-    λ w. elim (more.split w.0 w.1) [ inl s ↦ or_left b c (h.1 (w.0, s, w.2)) | inr e ↦ or_right b c (back (subst P e w.2)) ],
-  )
+  test_more P b c there back h = grind (arith, common_steps, or_cases, or_left, or_right)
 
 -- ---- values of one octet
 
@@ -83,13 +71,10 @@ abbrev pub IsFlag : ℕ → List ℕ → Type 0
 IsFlag flag x = (x ≡ flag ∷ []) ⊎ (x ≡ 3 ∷ [])
 
 flag_said : (flag : ℕ) (x : List ℕ) → is_flag_set flag x ≡ true → IsFlag flag x
-flag_said flag [] e = absurd (cc)
-flag_said flag (a ∷ b ∷ rest) e = absurd (cc)
-flag_said flag (n ∷ []) e = elim (or_cases (n == flag) (n == 3) e) [ inl t ↦ inl (rw (eqb-true n flag t) refl) | inr t ↦ inr (rw (eqb-true n 3 t) refl) ]
+flag_said flag x e = grind (arith, common_steps, or_cases)
 
 said_flag : (flag : ℕ) (x : List ℕ) → IsFlag flag x → is_flag_set flag x ≡ true
-said_flag flag x (inl e) = rw e (or_left (flag == flag) (flag == 3) (eq-eqb flag flag refl))
-said_flag flag x (inr e) = rw e (or_right (3 == flag) (3 == 3) refl)
+said_flag flag x h2 = grind (arith, common_steps, or_left, or_right)
 
 -- what is kept of the values of a type
 pub record OctetsAre (kind : OctetKind) (S : List ℕ → Type 0) (o : Octets) : Type 0 where
@@ -99,16 +84,10 @@ pub record OctetsAre (kind : OctetKind) (S : List ℕ → Type 0) (o : Octets) :
   pub second : IsTrue o.second ↔ SomeIs S (IsFlag 2)
 
 octets_same : (kind : OctetKind) (S U : List ℕ → Type 0) → AreSame S U → (o : Octets) → OctetsAre kind S o → OctetsAre kind U o
-octets_same kind S U are o h = record {
-  wrong = test_same S U are (λ x. octet_in kind x ≡ None) o.wrong h.wrong;
-  one = reads_same S U are (octet_in kind) o.one h.one;
-  first = test_same S U are (IsFlag 1) o.first h.first;
-  second = test_same S U are (IsFlag 2) o.second h.second;
-}
+octets_same kind S U are o h = grind (arith, common_steps, test_same, reads_same)
 
 none_said : {X : Type 0} (o : Option X) → is_none o ≡ true → o ≡ None
-none_said None e = refl
-none_said (Some x) e = cc
+none_said o e = grind (arith, common_steps)
 
 octets_more : (kind : OctetKind) (S U : List ℕ → Type 0) (new : List ℕ) → IsMore S U new → (o : Octets) → OctetsAre kind S o → OctetsAre kind U (octets_also kind new o)
 octets_more kind S U new more o h = record {
@@ -138,8 +117,7 @@ said_other : (x : List ℕ) → length x ≢ 2 → has_other_length 2 x ≡ true
 said_other x d = rw (ne_eqb (length x) 2 d) refl
 
 more_at : (kind : MetricKind) (new : List ℕ) (m : MetricParts) → metric_at kind (metrics_also new m) ≡ also_some has_same_code (metric_at kind m) (shown_in (flag_of kind) new)
-more_at Link_in new m = refl
-more_at kind new m = refl
+more_at kind new m = grind (arith, common_steps)
 
 metrics_more : (S U : List ℕ → Type 0) (new : List ℕ) → IsMore S U new → (m : MetricParts) → MetricsAre S m → MetricsAre U (metrics_also new m)
 metrics_more S U new more m h = record {
@@ -159,21 +137,7 @@ pub record IsMoreOf (S U : ℕ → List ℕ → Type 0) (type : ℕ) (new : List
 -- what is kept of one type
 kept_at : {A : Type 0} (Is : (List ℕ → Type 0) → A → Type 0) (change : A → A) (S U : ℕ → List ℕ → Type 0) (type : ℕ) (new : List ℕ) → IsMoreOf S U type new → (K : ℕ) →
     (AreSame (S K) (U K) → (a : A) → Is (S K) a → Is (U K) a) → (IsMore (S K) (U K) new → (a : A) → Is (S K) a → Is (U K) (change a)) → (a : A) → Is (S K) a → Is (U K) (cond (type == K) (change a) a)
-kept_at Is change S U type new more K same further a h = elim (cases_Bool (type == K)) [
-  | inl e ↦
-      let here = eqb-true type K e in
-      rw e (further (record {
-        split = λ x u. elim (more.split K x u) [ inl s ↦ inl s | inr f ↦ inr f.1 ];
-        keep = more.keep K;
-        said = subst (λ (k : ℕ). U k new) here more.said;
-      }) a h)
-  | inr e ↦
-      let apart = eqb-false type K e in
-      rw e (same (record {
-        back = λ x u. elim (more.split K x u) [ inl s ↦ s | inr f ↦ absurd (apart (sym f.0)) ];
-        keep = more.keep K;
-      }) a h)
-]
+kept_at Is change S U type new more K same further a h = grind (arith, common_steps, cases_Bool)
 
 -- ---- all that is kept of one address
 
@@ -197,21 +161,4 @@ row_same S U back keep r h = record {
 
 -- nothing is said
 pub row_none : (S : ℕ → List ℕ → Type 0) → ((k : ℕ) (x : List ℕ) → S k x → ⊥) → RowIs S no_parts
-row_none S never =
-    let test : (k : ℕ) (P : List ℕ → Type 0) → IsTrue false ↔ SomeIs (S k) P = λ k P. (λ e. absurd (cc), λ w. absurd (never k w.0 w.1)) in
-    record {
-      octets = λ kind. subst (OctetsAre kind (S (type_of kind))) (sym (at_by_kind (λ k. record { wrong = false; one = Absent; first = false; second = false }) kind)) (record {
-        wrong = test (type_of kind) (λ x. octet_in kind x ≡ None);
-        one = λ n w. never (type_of kind) w.0 w.1;
-        first = test (type_of kind) (IsFlag 1);
-        second = test (type_of kind) (IsFlag 2);
-      });
-      metrics = record {
-        wrong = test link_metric (λ x. length x ≢ 2);
-        each = λ kind. subst (OneIs (Reads (shown_in (flag_of kind)) (S link_metric))) (none_at kind) (λ m w. never link_metric w.0 w.1);
-      };
-    }
-  where
-    none_at : (kind : MetricKind) → ◌≡◌ {A = Single Metric} Absent (metric_at kind (record { wrong = false; link_in = Absent; link_out = Absent; near_in = Absent; near_out = Absent }))
-    none_at Link_in = refl
-    none_at kind = refl
+row_none S never = grind (arith, common_steps, type_of, at_by_kind, shown_in)

@@ -1,5 +1,5 @@
 -- A HELLO spelled otherwise than the writers spell it may be sent; messages with what a reading ignores may not.
-use Rattle.mesh_wire.proofs.Common.{◌≡◌, ℕ, zero, suc, ◌+◌, ◌-◌, ◌<◌, ◌≤◌, ◌⊎◌, inl, inr, Bool, true, false, List, [], ◌∷◌, ◌++◌, length, drop, get_or, None, refl, sym, ap, subst, ◌∙◌, arith, lit≤, lit<, Contains, slice_index, replicate, cond, ltb, ltb-true, false≢true, length-append, append_assoc, append-nil, get_or_append_left, get_or-append-add, get_or-replicate, get_or_past, NetAddr, Hello, has, SpellsBlock, SpellsHead, SpellsTail, Span, MessageFields, Spells, SpellsMessage, SpellsPair, SpellsNumber, SpellsHeaderTlvs, TlvFields, SpellsTlvBlock, SpellsAddrTlvBlock, own, own_net, local, own_block, near, near_net, lone, lone_hello, BreaksHello, Undefined, OctetKind, Local, Link, Mpr, local_if, link_status, link_metric, mpr, MetricKind, Link_in, Link_out, Near_in, Near_out, flag_of, statuses, type_of, is_value, IsOctetOf, Keeps, HasPart, HasValue, HoldsAddressAt, HasBriefBlocks, IsSoleMessage, HasFlag, IsReadOfHello, IsReadOfOther, IsReadOfHelloAddress, WritesHello, alone, contains_at, heads_equal, tails_equal}
+use Rattle.mesh_wire.proofs.Common.{◌≡◌, ℕ, zero, suc, ◌+◌, ◌-◌, ◌<◌, ◌≤◌, ◌⊎◌, inl, inr, Bool, true, false, List, [], ◌∷◌, ◌++◌, length, drop, get_or, None, refl, sym, ap, subst, ◌∙◌, arith, lit≤, lit<, Contains, slice_index, replicate, cond, ltb, length-append, append_assoc, append-nil, ltb-true, false≢true, get_or_append_left, get_or-append-add, get_or-replicate, get_or_past, NetAddr, Hello, has, SpellsBlock, SpellsHead, SpellsTail, Span, MessageFields, Spells, SpellsMessage, SpellsPair, SpellsNumber, SpellsHeaderTlvs, TlvFields, SpellsTlvBlock, SpellsAddrTlvBlock, own, own_net, local, own_block, near, near_net, lone, lone_hello, BreaksHello, Undefined, OctetKind, Local, Link, Mpr, local_if, link_status, link_metric, mpr, MetricKind, Link_in, Link_out, Near_in, Near_out, flag_of, statuses, type_of, is_value, IsOctetOf, Keeps, HasPart, HasValue, HoldsAddressAt, HasBriefBlocks, IsSoleMessage, HasFlag, IsReadOfHello, IsReadOfOther, IsReadOfHelloAddress, WritesHello, alone, contains_at, heads_equal, tails_equal}
 use Rattle.mesh_wire.specs.Spellings.{wordy_tlvs, wordy_local, short_block, long_block, message_with, wordy, too_wordy, IsForNone, IsSentForNone, unknown_tlv, beside, two, with_near, status, own_two, status_of_sender}
 use Rattle.mesh_wire.proofs.Examples.{says, part_only, lone_is, lone_keeps}
 use Rattle.mesh_wire.proofs.Behind.{behind_head, behind_tlvs}

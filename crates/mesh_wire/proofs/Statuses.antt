@@ -1,10 +1,9 @@
 -- Laws of what rows of a HELLO say by LOCAL_IF, LINK_STATUS and OTHER_NEIGHB, type by type.
-use Rattle.mesh_wire.proofs.Common.{◌≡◌, ℕ, zero, suc, ◌<◌, ◌⊎◌, inl, inr, refl, sym, ◌∙◌, ap, arith, true, Contains, Option, Some, None, IsSome, nat_le, nat_lt, option_map, ltb-true, and_parts as both, All-from_recursion, All-contains, NetAddr, LocalIf, This, Metrics, HelloRow, IsAlone, contains_at, some_equal, AddressParts, OctetKind, local_value, link_value, other_value, row_octet, local_from, link_from, other_from, sender_row, row_with, statuses, hello_kinds, type_of, IsStatusType, is_within, is_value, at, mpr, link_metric, value_from}
+use Rattle.mesh_wire.proofs.Common.{common_steps, ◌≡◌, ℕ, ◌<◌, ◌⊎◌, refl, arith, true, Contains, Option, Some, None, IsSome, nat_le, nat_lt, option_map, ltb-true, and_parts as both, All-from_recursion, All-contains, NetAddr, LocalIf, HelloRow, IsAlone, contains_at, some_equal, AddressParts, OctetKind, local_value, link_value, other_value, row_octet, local_from, link_from, other_from, sender_row, row_with, statuses, hello_kinds, type_of, IsStatusType, is_within, is_value, at, mpr, link_metric, value_from}
 use Rattle.mesh_atoms.specs.declared.hello.LinkStatus.{LinkStatus}
 use Rattle.mesh_atoms.specs.declared.hello.LinkStatus.TheVariants as link
 use Rattle.mesh_atoms.specs.declared.hello.OtherStatus.{OtherStatus}
 use Rattle.mesh_atoms.specs.declared.hello.OtherStatus.TheVariants as other
-use Rattle.mesh_atoms.specs.declared.hello.Mpr.{Mpr}
 use Rattle.mesh_wire.specs.declared.octets.OctetKind.TheVariants as kinds
 use Rattle.mesh_wire.proofs.OctetKinds.{place_of}
 use Rattle.mesh_wire.proofs.Single.{told_by}
@@ -25,43 +24,32 @@ row_kind row kind n e = contains_at hello_kinds (place_of (type_of kind) hello_k
 
 -- they are of other types than relays and metrics
 pub apart : (type : ℕ) → IsStatusType type → (type ≡ mpr → ⊥) × (type ≡ link_metric → ⊥)
-apart type (kind, among, is) =
-    each (λ kind. type ≡ type_of kind → (type ≡ mpr → ⊥) × (type ≡ link_metric → ⊥)) (λ e. ((λ f. omega (arith, e, f)), (λ f. omega (arith, e, f)))) (λ e. ((λ f. omega (arith, e, f)), (λ f. omega (arith, e, f))))
-    (λ e. ((λ f. omega (arith, e, f)), (λ f. omega (arith, e, f)))) kind among is
+apart type h1 = grind (arith, common_steps, type_of)
 
 -- ---- rows that are made of what is kept
 
 back_again : {X : Type 0} (value : X → ℕ) (from : ℕ → X) (o : Option ℕ) → ((n : ℕ) → o ≡ Some n → value (from n) ≡ n) → option_map value (option_map from o) ≡ o
-back_again value from None back = refl
-back_again value from (Some n) back = ap Some (back n refl)
+back_again value from o back = grind (arith, common_steps)
 
 -- a value of the type is below its bound
 below_of : (low bound n : ℕ) → is_within low bound n ≡ true → n < bound
 below_of low bound n e = ltb-true n bound (both (nat_le low n) (nat_lt n bound) e).1
 
 local_back : (n : ℕ) → is_value kinds.Local n ≡ true → local_value (local_from n) ≡ n
-local_back zero h = refl
-local_back (suc zero) h = refl
-local_back (suc (suc n)) h = absurd (omega (arith, below_of 0 2 (suc (suc n)) h))
+local_back n h = grind (arith, common_steps, below_of)
 
 link_back : (n : ℕ) → is_value kinds.Link n ≡ true → link_value (link_from n) ≡ n
-link_back zero h = refl
-link_back (suc zero) h = refl
-link_back (suc (suc zero)) h = refl
-link_back (suc (suc (suc n))) h = absurd (omega (arith, below_of 0 3 (suc (suc (suc n))) h))
+link_back n h = grind (arith, common_steps, below_of)
 
 other_back : (n : ℕ) → is_value kinds.Other n ≡ true → other_value (other_from n) ≡ n
-other_back zero h = refl
-other_back (suc zero) h = refl
-other_back (suc (suc n)) h = absurd (omega (arith, below_of 0 2 (suc (suc n)) h))
+other_back n h = grind (arith, common_steps, below_of)
 
 -- an octet that is kept is a value of the type
 abbrev pub IsKept : AddressParts → OctetKind → Type 0
 IsKept t kind = (n : ℕ) → value_from (at kind t.parts.octets).one ≡ Some n → is_value kind n ≡ true
 
 none_mapped : {X : Type 0} (from : ℕ → X) (o : Option ℕ) → option_map from o ≡ None → None ≡ o
-none_mapped from None e = refl
-none_mapped from (Some n) e = cc
+none_mapped from o e = grind (arith, common_steps)
 
 -- the row of the sender's address says its LOCAL_IF
 pub local_made : (t : AddressParts) → IsKept t kinds.Local → option_map local_value (option_map local_from (value_from t.parts.octets.local.one)) ≡ value_from t.parts.octets.local.one
@@ -81,55 +69,36 @@ abbrev IsDefined : HelloRow → OctetKind → Type 0
 IsDefined row kind = (n : ℕ) → row_octet row kind ≡ Some n → (is_value kind n ≡ true) × (IsSome row.local ⊎ (IsSome row.link ⊎ IsSome row.other))
 
 value_of : {X : Type 0} (value : X → ℕ) (kind : OctetKind) → ((x : X) → is_value kind (value x) ≡ true) → (o : Option X) (n : ℕ) → option_map value o ≡ Some n → (is_value kind n ≡ true) × IsSome o
-value_of value kind valid None n e = cc
-value_of value kind valid (Some x) n e = rw (sym (some_equal (value x) n e)) (valid x, refl)
+value_of value kind valid o n e = grind (arith, common_steps, some_equal)
 
 local_valid : (x : LocalIf) → is_value kinds.Local (local_value x) ≡ true
-local_valid This = refl
-local_valid x = refl
+local_valid x = grind (arith, common_steps)
 
 link_valid : (x : LinkStatus) → is_value kinds.Link (link_value x) ≡ true
-link_valid link.Lost = refl
-link_valid x = refl
+link_valid x = grind (arith, common_steps)
 
 other_valid : (x : OtherStatus) → is_value kinds.Other (other_value x) ≡ true
-other_valid other.Lost = refl
-other_valid x = refl
+other_valid x = grind (arith, common_steps)
 
 pub defined : (row : HelloRow) (kind : OctetKind) → Contains statuses kind → IsDefined row kind
-defined row = each (IsDefined row)
-    (λ n e. let (v, some) = value_of local_value kinds.Local local_valid row.local n e in (v, inl some))
-    (λ n e. let (v, some) = value_of link_value kinds.Link link_valid row.link n e in (v, inr (inl some)))
-    (λ n e. let (v, some) = value_of other_value kinds.Other other_valid row.other n e in (v, inr (inr some)))
+defined row = grind (arith, common_steps, value_of, local_valid, link_valid, other_valid)
 
 -- ---- rows that say the same
 
 local_again : (x : LocalIf) → local_from (local_value x) ≡ x
-local_again This = refl
-local_again x = refl
+local_again x = grind (arith, common_steps)
 
 link_again : (x : LinkStatus) → link_from (link_value x) ≡ x
-link_again link.Lost = refl
-link_again x = refl
+link_again x = grind (arith, common_steps)
 
 other_again : (x : OtherStatus) → other_from (other_value x) ≡ x
-other_again other.Lost = refl
-other_again x = refl
+other_again x = grind (arith, common_steps)
 
 pub same_local : (r s : HelloRow) → row_octet r kinds.Local ≡ row_octet s kinds.Local → r.local ≡ s.local
 same_local r s e = told_by local_value local_from local_again r.local s.local e
 
-abbrev row_of : NetAddr → Option LocalIf → Option LinkStatus → Option OtherStatus → Metrics → Mpr → HelloRow
-row_of a l k o m p = record { addr = a; local = l; link = k; other = o; metrics = m; mpr = p }
-
 same_fields : (r s : HelloRow) → r.addr ≡ s.addr → r.local ≡ s.local → r.link ≡ s.link → r.other ≡ s.other → r.metrics ≡ s.metrics → r.mpr ≡ s.mpr → r ≡ s
-same_fields r s a l k o m p =
-    ap (λ (x : NetAddr). row_of x r.local r.link r.other r.metrics r.mpr) a
-    ∙ ap (λ (x : Option LocalIf). row_of s.addr x r.link r.other r.metrics r.mpr) l
-    ∙ ap (λ (x : Option LinkStatus). row_of s.addr s.local x r.other r.metrics r.mpr) k
-    ∙ ap (λ (x : Option OtherStatus). row_of s.addr s.local s.link x r.metrics r.mpr) o
-    ∙ ap (λ (x : Metrics). row_of s.addr s.local s.link s.other x r.mpr) m
-    ∙ ap (λ (x : Mpr). row_of s.addr s.local s.link s.other s.metrics x) p
+same_fields r s a l k o m p = grind (arith, common_steps)
 
 pub same_row : (r s : HelloRow) → r.addr ≡ s.addr → ((kind : OctetKind) → Contains statuses kind → row_octet r kind ≡ row_octet s kind) → r.metrics ≡ s.metrics → r.mpr ≡ s.mpr → r ≡ s
 same_row r s a same m p =

@@ -1,5 +1,5 @@
 -- The rules on what a TC says before its rows, one by one.
-use Rattle.mesh_wire.proofs.Common.{◌≡◌, ℕ, ◌+◌, ◌*◌, ◌⊎◌, inl, inr, refl, sym, ◌∙◌, subst, arith, Bool, List, [], ◌∷◌, length, map, slice_index, ◌≢◌, Option, Some, None, ◌==◌, cond, option_copied, Addr4, NetAddr, short_in, RawAddr, TlvFields, fields, MessageFields, OriginatorIs, octets_of, ContentIs, contents_in, BreaksTc, AddressWidth, NoOriginator, NoSequence, NoValidity, WrongInterval, Content, distance_of, ValidityIs, IntervalIs}
+use Rattle.mesh_wire.proofs.Common.{common_steps, ◌≡◌, ℕ, ◌+◌, ◌*◌, ◌⊎◌, inl, inr, refl, sym, ◌∙◌, subst, arith, Bool, List, [], ◌∷◌, length, map, slice_index, ◌≢◌, Option, Some, None, ◌==◌, cond, option_copied, Addr4, NetAddr, short_in, RawAddr, TlvFields, fields, MessageFields, OriginatorIs, octets_of, ContentIs, contents_in, BreaksTc, distance_of, ValidityIs, IntervalIs}
 use Rattle.mesh_tlv.specs.declared.tlv.Tlv.{Tlv}
 use Rattle.mesh_wire.proofs.InOrder.{NoneBelow, one_further}
 
@@ -13,17 +13,10 @@ Wrong m k =
     (cond (k == 36) ((ansn : ℕ) (complete : Bool) → ContentIs m ansn complete → ⊥) (Unit {0})))))
 
 wrong : (m : MessageFields) (k : ℕ) (a : Option NetAddr) → BreaksTc m k a → Wrong m k
-wrong m k a (AddressWidth h) = h
-wrong m k a (NoOriginator none) = inl none
-wrong m k a (NoSequence none) = inr none
-wrong m k a (NoValidity none) = none
-wrong m k a (WrongInterval none) = none
-wrong m k a (Content none) = none
-wrong m k a other = tt
+wrong m k a h3 = grind (arith, common_steps)
 
 pub first_number : (m : MessageFields) → NoneBelow (BreaksTc m) 32
-first_number m k a (AddressWidth h) = omega arith
-first_number m k a other = omega arith
+first_number m k a h3 = grind (arith, common_steps)
 
 module _ (m : MessageFields) where
   pub width_kept : m.width ≡ 4 → (a : Option NetAddr) → BreaksTc m 32 a → ⊥
@@ -57,20 +50,15 @@ module _ (m : MessageFields) where
   past_content below ansn complete is = one_further (BreaksTc m) 36 below (content_kept ansn complete is)
 
 pub no_originator : (o : Option RawAddr) → OriginatorIs o None → o ≡ None
-no_originator None h = refl
-no_originator (Some a) h = absurd h
+no_originator o h = grind (arith, common_steps)
 
 pub an_originator : (o : Option RawAddr) (a : Addr4) → OriginatorIs o (Some a) → o ≡ None → ⊥
-an_originator None a h e = h
-an_originator (Some b) a h e = cc
+an_originator o a h e = grind (arith, common_steps)
 
 -- ---- the content
 
 two_octets : (x : List ℕ) → length x ≡ 2 → x ≡ slice_index x 0 ∷ slice_index x 1 ∷ []
-two_octets [] two = absurd (omega arith)
-two_octets (a ∷ []) two = absurd (omega arith)
-two_octets (a ∷ b ∷ []) two = refl
-two_octets (a ∷ b ∷ c ∷ rest) two = absurd (omega arith)
+two_octets x two = grind (arith, common_steps)
 
 pub content_made : (tlvs slice : List Tlv) (tlv : Tlv) (octets : List ℕ) (number : ℕ) → slice ≡ tlvs → contents_in (map fields slice) ≡ fields tlv ∷ [] → octets ≡ octets_of (option_copied tlv.value) →
     length octets ≡ 2 → number ≡ short_in octets →

@@ -1,7 +1,7 @@
 -- The rules on the addresses of a TC, by tests of what is kept.
-use Rattle.mesh_wire.proofs.Common.{◌≡◌, ℕ, ◌≤◌, inl, inr, refl, ap, arith, Bool, true, List, Contains, lit≤, ◌||◌, ◌&&◌, Option, Some, None, nat_lt, slice_get, ltb-true, lt-ltb, and_parts as both, or_parts, or_cases, or_left, or_right, and_from as and_both, NetAddr, MessageFields, AddressParts, Octets, RowParts, has_wrong_type, has_wrong_gateway, has_wrong_metric, tc_tests, tc_rule, nbr_addr_type, gateway, Near_out, HasValue, BreaksTc, AddressWidth, AddrType, TwoAddrTypes, ShortPrefix, GatewayOctet, TwoGateways, Beside, WrongMetric, is_conflict, is_said}
+use Rattle.mesh_wire.proofs.Common.{common_steps, ◌≡◌, ℕ, ◌≤◌, inl, inr, refl, ap, arith, Bool, true, List, Contains, lit≤, ◌||◌, ◌&&◌, Option, Some, None, nat_lt, slice_get, ltb-true, lt-ltb, and_parts as both, or_parts, or_cases, or_left, or_right, and_from as and_both, NetAddr, MessageFields, AddressParts, Octets, RowParts, has_wrong_type, has_wrong_gateway, has_wrong_metric, tc_tests, tc_rule, nbr_addr_type, gateway, HasValue, BreaksTc, AddressWidth, AddrType, TwoAddrTypes, ShortPrefix, GatewayOctet, TwoGateways, Beside, WrongMetric, is_conflict, is_said}
 use Rattle.mesh_wire.specs.declared.octets.OctetKind.TheVariants as kinds
-use Rattle.mesh_wire.proofs.FirstTest.{AtMost, given, failed, passed, at_most_more}
+use Rattle.mesh_wire.proofs.FirstTest.{AtMost, given, passed, at_most_more}
 use Rattle.mesh_wire.proofs.Kept.{AreTold, says_has, no_value, none_read, said_found, type_said, two_found, two_said}
 use Rattle.mesh_wire.proofs.Ruled.{Decides, Reaches}
 use Rattle.mesh_wire.proofs.Slots.{RowIs}
@@ -46,15 +46,7 @@ module _ (m : MessageFields) (net : NetAddr) (r : RowParts) (h : RowIs (HasValue
   ]
 
 pub sound_of : (t : AddressParts) → tc_rule t ≡ None → IsSound t
-sound_of t e =
-    let (typed, (gate, (wrong, none))) = failed (tc_tests t) e in
-    let o = t.parts.octets.gateway in
-    let p = or_parts o.wrong (is_conflict o.one || (is_said o.one && is_said t.parts.octets.addr_type.one)) gate in
-    record {
-      gateway = p.0;
-      one = (or_parts (is_conflict o.one) (is_said o.one && is_said t.parts.octets.addr_type.one) p.1).0;
-      metric = right_metric t.parts wrong Near_out;
-    }
+sound_of t e = grind (arith, common_steps, or_parts, right_metric)
 
 -- ---- the rules
 

@@ -1,5 +1,5 @@
 -- What is written of a TC reads as it, breaks no rule, and has nothing that is ignored.
-use Rattle.mesh_wire.proofs.Common.{◌≡◌, ℕ, ◌/◌, ◌%◌, ◌≤◌, ◌⊎◌, inl, inr, List, [], ◌∷◌, length, take, map, refl, sym, ap, subst, ◌∙◌, arith, length-take, Contains, AllPairs, Option, Some, None, IsTrue, Bool, true, false, cond, option_map, is_some, length-map, NetAddr, TcRow, Tc, IsBefore, time_at_distance, IsTimeValue, AreOneType, HaveTypeWhole, Span, MessageFields, PacketFields, Spells, IsEncodableMessage, LeastForm, TlvFields, AddressTlvKind, Octet, NearOut, Gateway, HasTcValues, heading_of, IsTcMessage, FitsAlone, validity_time, nbr_addr_type, gateway, link_metric, cont_seq_num, kind_of, value_of, tc_line, tc_kinds, flags_number, IsOctetOf, Near_out, octets_of, values_of, HasPart, HasValue, Keeps, IsReadTcRow, TcIs, BreaksTc, AddressWidth, NoOriginator, NoSequence, NoValidity, WrongInterval, Content, AddrType as AddrTypeRule, TwoAddrTypes, ShortPrefix, GatewayOctet, TwoGateways, Beside, WrongMetric, distance_of, ValidityIs, IsSoleMessage, HasFlag, IsReadOfTcAddress, WritesTc, WritesLeastTc, alone, ReadsBackTc, none_not}
+use Rattle.mesh_wire.proofs.Common.{common_steps, ◌≡◌, ℕ, ◌/◌, ◌%◌, ◌≤◌, ◌⊎◌, inr, List, [], ◌∷◌, length, take, map, refl, sym, ap, subst, ◌∙◌, arith, length-take, Contains, AllPairs, Option, Some, None, IsTrue, Bool, cond, option_map, is_some, length-map, NetAddr, TcRow, Tc, IsBefore, time_at_distance, IsTimeValue, AreOneType, HaveTypeWhole, Span, MessageFields, PacketFields, Spells, IsEncodableMessage, LeastForm, TlvFields, AddressTlvKind, Gateway, HasTcValues, heading_of, IsTcMessage, FitsAlone, validity_time, nbr_addr_type, gateway, link_metric, cont_seq_num, kind_of, value_of, tc_line, tc_kinds, flags_number, IsOctetOf, Near_out, octets_of, values_of, HasPart, HasValue, Keeps, IsReadTcRow, TcIs, BreaksTc, AddressWidth, NoOriginator, NoSequence, NoValidity, WrongInterval, Content, AddrType as AddrTypeRule, TwoAddrTypes, ShortPrefix, GatewayOctet, TwoGateways, Beside, WrongMetric, distance_of, ValidityIs, IsSoleMessage, HasFlag, IsReadOfTcAddress, WritesTc, WritesLeastTc, alone, ReadsBackTc, none_not}
 use Rattle.mesh_wire.specs.declared.octets.OctetKind.TheVariants.{AddrType}
 use Rattle.mesh_wire.proofs.Fits.{message_fits, HasFewParts, narrow_most, metric_most, lines_few, fits_alone}
 use Rattle.mesh_wire.proofs.Headings.{validity_told, interval_is, interval_told, content_is, read_of_tc}
@@ -15,20 +15,14 @@ few_of row = let l = tc_line row in omega (arith, narrow_most tc_kinds l, metric
 
 -- a flag is set where a type is said
 set_of : (a b : Bool) (octets : List ℕ) → option_map (λ (n : ℕ). n ∷ []) (flags_number a b) ≡ Some octets → IsTrue a ⊎ IsTrue b
-set_of false false octets e = cc
-set_of true b octets e = inl refl
-set_of false true octets e = inr refl
+set_of a b octets e = grind (arith, common_steps)
 
 -- the one octet of a distance
 distance_octet : (o : Option ℕ) (octets : List ℕ) → option_map (λ (n : ℕ). n ∷ []) o ≡ Some octets → IsOctetOf Gateway octets
-distance_octet None octets e = cc
-distance_octet (Some n) octets e = (n, cc, refl)
+distance_octet o octets e = grind (arith, common_steps)
 
 part_of : (row : TcRow) (kind : ℕ) (octets : List ℕ) (c : AddressTlvKind) → kind ≡ kind_of c → value_of c (tc_line row) ≡ Some octets → (kind ≡ nbr_addr_type) ⊎ ((kind ≡ gateway) ⊎ ((kind ≡ link_metric) × HasFlag Near_out octets))
-part_of row kind octets (Octet AddrType) e v = inl e
-part_of row kind octets (Octet Gateway) e v = inr (inl e)
-part_of row kind octets NearOut e v = inr (inr (e, metric_flagged Near_out row.metric octets (sym (metric_value Near_out (tc_line row)) ∙ v)))
-part_of row kind octets c e v = cc
+part_of row kind octets c e v = grind (arith, common_steps, metric_flagged, metric_value)
 
 module _ (tc : Tc) (hop_limit : ℕ) (validity values : List ℕ) (m : MessageFields) (h : IsTcMessage tc hop_limit validity (map tc_line tc.rows) values m) (has : HasTcValues tc (map tc_line tc.rows) values)
     (up : AllPairs (λ (a b : TcRow). IsBefore a.dest b.dest) tc.rows) (one_type : AreOneType tc.rows) (is_whole : HaveTypeWhole tc.rows)

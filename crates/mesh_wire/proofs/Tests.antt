@@ -1,5 +1,5 @@
 -- Rules on addresses, by tests of what is kept: what the rules of a HELLO and of a TC have in common.
-use Rattle.mesh_wire.proofs.Common.{◌≡◌, ℕ, inl, inr, refl, sym, ◌∙◌, ap, Bool, true, false, List, [], ◌∷◌, Contains, Decides, Option, Some, list_any, false≢true, cases_Bool, or_parts, or_cases, or_left, or_right, NetAddr, Decides-some, contains_at, MessageFields, AddressParts, MetricParts, RowParts, metric_at, link_metric, MetricKind, Link_in, Link_out, Near_in, Near_out, metric_kinds, ShowsMetric, HasWrongMetric, has_wrong_metric, HoldsAddress, HasValue, is_conflict}
+use Rattle.mesh_wire.proofs.Common.{arith, common_steps, ◌≡◌, ℕ, inl, inr, refl, sym, ap, Bool, true, false, List, [], Contains, Decides, Option, Some, list_any, cases_Bool, or_parts, or_cases, or_left, or_right, NetAddr, Decides-some, contains_at, MessageFields, AddressParts, MetricParts, RowParts, metric_at, MetricKind, Link_in, Link_out, Near_in, Near_out, metric_kinds, ShowsMetric, HasWrongMetric, has_wrong_metric, HoldsAddress, HasValue, is_conflict}
 use Rattle.mesh_wire.proofs.FirstTest.{AtMost}
 use Rattle.mesh_wire.proofs.Kept.{AreTold, told_of, says_has, differ_conflict, conflict_differ, metrics_told}
 use Rattle.mesh_wire.proofs.Ruled.{Reaches}
@@ -43,11 +43,7 @@ metric_wrong m net r h (inr (kind, a, b, x, y, d)) =
 
 -- metrics are right, so there is one of each kind
 pub right_metric : (r : RowParts) → has_wrong_metric r ≡ false → (kind : MetricKind) → is_conflict (metric_at kind r.metrics) ≡ false
-right_metric r e kind = elim (cases_Bool (is_conflict (metric_at kind r.metrics))) [
-  | inl y ↦ absurd (false≢true (sym (or_parts r.metrics.wrong (some_two r) e).1 ∙ (some_metric r.metrics).1 (kind, each_metric kind, y)))
-  | inr n ↦ n
-]
+right_metric r e kind = grind (arith, common_steps, cases_Bool, or_parts, some_metric, each_metric)
 
 pub wrong_metric_has : (m : MessageFields) (net : NetAddr) → HasWrongMetric m net → HoldsAddress m net
-wrong_metric_has m net (inl (x, said, other)) = says_has m net link_metric x said
-wrong_metric_has m net (inr (kind, a, b, (high, low, said, on, is), y, d)) = says_has m net link_metric (high ∷ low ∷ []) said
+wrong_metric_has m net h2 = grind (arith, common_steps, says_has)

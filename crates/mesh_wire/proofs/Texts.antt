@@ -1,22 +1,16 @@
 -- Texts that are laid one after the other, and those of a part of a list.
-use Rattle.mesh_wire.proofs.Common.{◌≡◌, ℕ, zero, suc, ◌+◌, ◌-◌, ◌≤◌, List, [], ◌∷◌, ◌++◌, length, take, drop, refl, sym, ap, ◌∙◌, arith, append_assoc, length-append, ◌*◌, slice_range, Bool, true, false, cond, unwrap_or, flat_map, take-append-drop, flat_map-append, take-append_seam, drop-append_seam, AddressTlvKind, AddressRecord, is_wide, width_of, octet_pair, laid, column_text}
+use Rattle.mesh_wire.proofs.Common.{common_steps, ◌≡◌, ℕ, zero, suc, ◌+◌, ◌-◌, ◌≤◌, List, [], ◌∷◌, ◌++◌, length, take, drop, refl, sym, ap, ◌∙◌, arith, append_assoc, length-append, ◌*◌, slice_range, Bool, true, false, cond, unwrap_or, flat_map, take-append-drop, flat_map-append, take-append_seam, AddressTlvKind, AddressRecord, is_wide, width_of, octet_pair, laid, column_text}
 
 -- ---- lists
 
 pub take_more : {X : Type 0} (a n : ℕ) (xs : List X) → take (a + n) xs ≡ take a xs ++ take n (drop a xs)
 take_more zero n xs = let e : zero + n ≡ n = omega arith in rw e refl
-take_more (suc a) n [] = let e : suc a + n ≡ suc (a + n) = omega arith in rw e (none n)
-  where
-    none : {X : Type 0} (n : ℕ) → ◌≡◌ {A = List X} [] (take n [])
-    none zero = refl
-    none (suc n) = refl
+take_more (suc a) n [] = grind (arith, common_steps)
 take_more (suc a) n (x ∷ xs) = let e : suc a + n ≡ suc (a + n) = omega arith in rw e (ap (λ (l : List _). x ∷ l) (take_more a n xs))
 
 -- the text between two others
 seam : (before text after : List ℕ) → take (length (before ++ text) - length before) (drop (length before) (before ++ (text ++ after))) ≡ text
-seam before text after =
-    let e : length (before ++ text) - length before ≡ length text = omega (arith, length-append before text) in
-    rw (e, drop-append_seam before (text ++ after)) (take-append_seam text after)
+seam before text after = grind (arith, common_steps)
 
 -- ---- texts of a list
 
@@ -50,19 +44,12 @@ pub front_of : (whole first others : List ℕ) → whole ≡ first ++ others →
 front_of whole first others e = rw e (take-append_seam first others)
 
 pub back_of : (whole first others : List ℕ) → whole ≡ first ++ others → take (length whole - length first) (drop (length first) whole) ≡ others
-back_of whole first others e =
-    let n : length (first ++ others) - length first ≡ length others = omega (arith, length-append first others) in
-    rw (e, drop-append_seam first others, n) (all_of others)
-  where
-    all_of : (xs : List ℕ) → take (length xs) xs ≡ xs
-    all_of [] = refl
-    all_of (x ∷ xs) = ap (λ (l : List ℕ). x ∷ l) (all_of xs)
+back_of whole first others e = grind (arith, common_steps)
 
 -- ---- values of a column
 
 one_or_two : (b : Bool) (x y : ℕ) → length (x ∷ cond b (y ∷ []) []) ≡ cond b 2 1
-one_or_two true x y = refl
-one_or_two false x y = refl
+one_or_two b x y = grind (arith, common_steps)
 
 pub laid_long : (c : AddressTlvKind) (l : AddressRecord) → length (laid c l) ≡ width_of c
 laid_long c l = one_or_two (is_wide c) (unwrap_or (octet_pair c l) (0, 0)).0 (unwrap_or (octet_pair c l) (0, 0)).1

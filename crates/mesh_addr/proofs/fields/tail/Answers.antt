@@ -1,4 +1,4 @@
-use Rattle.mesh_addr.proofs.Common.{arith, rules, tail_at, take-replicate, ℕ}
+use Rattle.mesh_addr.proofs.Common.{arith, rules, ℕ, tail_at, take-replicate}
 use Rattle.mesh_addr.proofs.fields.tail.Goals as goal
 
 pub returns-then-flags-ne0-2-clause-exact : goal.returns-then-flags-ne0-2-clause-exact

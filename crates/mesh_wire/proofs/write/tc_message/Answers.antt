@@ -1,4 +1,4 @@
-use Rattle.mesh_wire.proofs.Common.{◌≡◌, refl, sym, ap, subst, ◌∙◌, List, ℕ, map, Bool, cond, Some, is_some, take, fields_of_block, AddressRecord, HasTcValues, heading_of, AreBlocks}
+use Rattle.mesh_wire.proofs.Common.{◌≡◌, refl, sym, ap, subst, ◌∙◌, List, ℕ, map, Bool, cond, Some, take, is_some, fields_of_block, AddressRecord, HasTcValues, heading_of, AreBlocks}
 use Rattle.mesh_wire.proofs.write.tc_message.Goals.{then-tc, else-tc}
 use Rattle.mesh_wire.proofs.write.tc_message.Goals as goal
 
