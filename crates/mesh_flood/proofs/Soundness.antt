@@ -1,35 +1,14 @@
 -- The sets stay sound: what is noted is not expired, and expiry leaves nothing that is.
-use Rattle.mesh_flood.proofs.Common.{◌≡◌, ◌<◌, ◌+◌, ℕ, [], length, Option, Some, None, Bool, true, false, cond, refl, sym, ap, subst, ◌∙◌, arith, nat_lt, nat_eq, eqb-true, eqb-false, lt-ltb, FloodKey, Noted, RouterSettings, Base, base_of, find, flood_eq, if_live, Expires, IsFresh, NotedMessages, LiveNoted, SoundNoted, IsWithin, distinct_none, Heading, Forward, key_of, is_received, is_forwarded, Notes, AfterNote, AreWithin}
+use Rattle.mesh_flood.proofs.Common.{common_steps, ◌≡◌, ◌<◌, ◌+◌, ℕ, [], length, Bool, true, false, refl, sym, subst, ◌∙◌, arith, nat_eq, eqb-true, eqb-false, FloodKey, Noted, Base, base_of, flood_eq, Expires, IsFresh, NotedMessages, LiveNoted, distinct_none, Heading, Forward, key_of, is_received, is_forwarded, Notes, AfterNote, AreWithin}
+use Rattle.mesh_atoms.specs.declared.settings.RouterSettings.{RouterSettings}
+use Rattle.mesh_atoms.specs.Sound.{SoundNoted, IsWithin}
 use Rattle.mesh_atoms.specs.declared.settings.Times.{Times}
 
-later : (now hold until : ℕ) (value : Noted) → 0 < hold → Some (let e : Noted × ℕ = (record {}, now + hold) in e) ≡ Some (value, until) → nat_lt now until ≡ true
-later now hold until value some is =
-    let left : Noted × ℕ = (record {}, now + hold) in
-    let right : Noted × ℕ = (value, until) in
-    let both : left ≡ right = cc in
-    let end : now + hold ≡ until = ap (λ (e : Noted × ℕ). e.1) both in
-    lt-ltb now until (omega (arith, end, some))
-
 fresh_noted : (wanted : Bool) (key : FloodKey) (now hold : ℕ) (old new : Base FloodKey Noted) → 0 < hold → Notes wanted key (now + hold) old new → IsFresh flood_eq now old → IsFresh flood_eq now new
-fresh_noted false key now hold old new some same fresh q value until found = fresh q value until (sym (same q) ∙ found)
-fresh_noted true key now hold old new some sets fresh q value until found = by_key (flood_eq key q) (sym (sets q) ∙ found) where
-  by_key : (b : Bool) → cond b (Some (record {}, now + hold)) (find flood_eq old q) ≡ Some (value, until) → nat_lt now until ≡ true
-  by_key true is = later now hold until value some is
-  by_key false is = fresh q value until is
+fresh_noted wanted key now hold old new some same fresh q value until found = grind (arith, common_steps)
 
 fresh_live : (now : ℕ) (old new : Base FloodKey Noted) → Expires flood_eq now old new → IsFresh flood_eq now new
-fresh_live now old new expires q value until found = by_entry (find flood_eq old q) (sym (expires q) ∙ found) where
-  by_live : (e : Noted × ℕ) (b : Bool) → nat_lt now e.1 ≡ b → cond b (Some e) None ≡ Some (value, until) → nat_lt now until ≡ true
-  by_live e true live is =
-      let right : Noted × ℕ = (value, until) in
-      let both : e ≡ right = cc in
-      let end : e.1 ≡ until = ap (λ (f : Noted × ℕ). f.1) both in
-      subst (λ (n : ℕ). nat_lt now n ≡ true) end live
-  by_live e false live is = absurd cc
-
-  by_entry : (o : Option (Noted × ℕ)) → if_live now o ≡ Some (value, until) → nat_lt now until ≡ true
-  by_entry None is = absurd cc
-  by_entry (Some e) is = by_live e (nat_lt now e.1) refl is
+fresh_live now old new expires q value until found = grind (arith, common_steps)
 
 -- sound sets, once a message is noted for any hold times and each set is within its limit
 pub sound_by_times : (settings : RouterSettings) (times : Times) (now i : ℕ) (heading : Heading) (processed : Bool) (answer : Forward) (old new : NotedMessages)
@@ -65,8 +44,7 @@ sound_by_times settings times now i heading processed answer old new sound after
 -- sound sets, once a message is noted for the hold times of the settings
 pub sound_after_note : (settings : RouterSettings) (now i : ℕ) (heading : Heading) (processed : Bool) (answer : Forward) (old new : NotedMessages)
     → SoundNoted settings now old → AfterNote settings.times now i heading processed answer old new → AreWithin new → SoundNoted settings now new
-sound_after_note settings now i heading processed answer old new sound after within =
-    sound_by_times settings settings.times now i heading processed answer old new sound after within
+sound_after_note settings now i heading processed answer old new sound after within = grind (arith, common_steps, sound_by_times)
 
 -- sound sets are within their limits
 pub within_of : (settings : RouterSettings) (now : ℕ) (noted : NotedMessages) → SoundNoted settings now noted → AreWithin noted
@@ -88,21 +66,4 @@ none_sound settings now noted interfaces received processed forwarded = record {
 -- sound sets, once what is expired is gone and each set is within its limit
 pub sound_after_expiry : (settings : RouterSettings) (now : ℕ) (old new : NotedMessages)
     → length old.received ≡ length settings.interfaces → LiveNoted now old new → AreWithin new → SoundNoted settings now new
-sound_after_expiry settings now old new interfaces live within = record {
-  interfaces = live.interfaces ∙ interfaces;
-  received = λ j. record {
-    distinct = live.distinct_received j;
-    limit = within.received j;
-    fresh = fresh_live now (base_of old.received j) (base_of new.received j) (live.received j);
-  };
-  processed = record {
-    distinct = live.distinct_processed;
-    limit = within.processed;
-    fresh = fresh_live now old.processed new.processed live.processed;
-  };
-  forwarded = record {
-    distinct = live.distinct_forwarded;
-    limit = within.forwarded;
-    fresh = fresh_live now old.forwarded new.forwarded live.forwarded;
-  };
-}
+sound_after_expiry settings now old new interfaces live within = grind (arith, common_steps, fresh_live)

@@ -1,5 +1,5 @@
 -- Walks over the places of a list, and what they gather.
-use Rattle.mesh_hello.proofs.Common.{◌≡◌, ℕ, ◌+◌, ◌<◌, ◌≤◌, ◌⊎◌, ◌↔◌, inl, inr, refl, sym, ◌∙◌, ap, subst, arith, List, [], ◌∷◌, ◌++◌, length, take, Contains, slice_get, get_or, Some, common_steps, Bool, true, IsEquivalence, keys_of, cases_eq, append_assoc, take_more, take_all, Contains-append_cases, Contains-append_left, Contains-append_right, Contains-push, Contains-push_cases, slice_get_within, get_or_from_slice_get, slice_get_cases, slice_get_read, place_from_lookup, lookup_from_place, Base, find, HasDistinctKeys, Gathers}
+use Rattle.mesh_hello.proofs.Common.{◌≡◌, ℕ, ◌+◌, ◌<◌, ◌≤◌, ◌⊎◌, ◌↔◌, inl, inr, refl, sym, ◌∙◌, ap, subst, arith, List, [], ◌∷◌, ◌++◌, length, take, Contains, slice_get, get_or, Some, Bool, true, common_steps, IsEquivalence, keys_of, cases_eq, append_assoc, take_more, take_all, Contains-append_cases, Contains-append_left, Contains-append_right, Contains-push, Contains-push_cases, slice_get_within, get_or_from_slice_get, slice_get_cases, slice_get_read, place_from_lookup, lookup_from_place, Base, find, HasDistinctKeys, Gathers}
 
 -- some element below a place has the property
 abbrev pub SomeBelow : {E : Type 0} → List E → ℕ → (E → Type 0) → Type 0

@@ -1,5 +1,5 @@
 -- Elements of lists by their places.
-use Rattle.mesh_hello.proofs.Common.{◌≡◌, ℕ, zero, suc, ◌+◌, ◌++◌, List, [], ◌∷◌, drop, refl, ap, subst, add-one, arith, common_steps, Contains, Some, slice_get, ◌↔◌, flat_map, append_assoc, same_some, none_not}
+use Rattle.mesh_hello.proofs.Common.{◌≡◌, ℕ, zero, suc, ◌+◌, ◌++◌, List, [], ◌∷◌, drop, refl, ap, subst, add-one, arith, Contains, Some, slice_get, ◌↔◌, common_steps, flat_map, append_assoc, same_some, none_not}
 
 drop_at : {A : Type 0} (xs : List A) (k : ℕ) (x : A) → slice_get xs k ≡ Some x → drop k xs ≡ x ∷ drop (suc k) xs
 drop_at [] k x h = none_not refl h

@@ -1,5 +1,5 @@
 -- Addresses in ascending order.
-use Rattle.mesh_hello.proofs.Common.{◌≡◌, ◌<◌, List, Ordering, Less, get_or, sym, refl, ◌∙◌, arith, common_steps, false, IsDistinct, dedup, IsTotalOrder, ne_eqb, eq-eqb, IsStrictlySortedBy-dedup, Addr4, addr_eq, IsAscending}
+use Rattle.mesh_hello.proofs.Common.{◌≡◌, ◌<◌, List, Ordering, Less, get_or, sym, refl, ◌∙◌, arith, false, common_steps, IsDistinct, dedup, IsTotalOrder, ne_eqb, eq-eqb, IsStrictlySortedBy-dedup, Addr4, addr_eq, IsAscending}
 use Rattle.std.specs.List.Sorted.{IsSorted}
 use Rattle.std.specs.Ordering.{nat_cmp, eq_by_cmp}
 use Rattle.std.proofs.lemmas.Cmp.{on_total, nat_cmp_total, ranked, by_ranked}

@@ -1,5 +1,5 @@
 -- What quality makes of links, one after the other.
-use Rattle.mesh_links.proofs.Common.{◌≡◌, ℕ, ◌<◌, ◌≤◌, ◌++◌, ◌+◌, take, drop, map, min, arith, inl, inr, refl, sym, ap, subst, ◌∙◌, Bool, true, false, cond, List, [], ◌∷◌, length, Some, slice_get, nat_eq, nat_le, nat_lt, not, ◌&&◌, ◌||◌, fold, filter, list_all, list_any, eqb-true, and_parts, lookup_from_place, lookup-map_values, slice_get_cases, append-nil, length-drop, nil_from_length, take_all, Addr4, Admit, LinkKey, Link, Base, HasDistinctKeys, find, link_eq, addr_eq, quality_of, quality_at, by_quality, admitted, link_equiv, changed_at, changed_at-agrees, distinct-changed_at, walk_at, walk_changed, AdmitsLinks, HasRoom, IsFewer, is_steady, ruled}
+use Rattle.mesh_links.proofs.Common.{common_steps, ◌≡◌, ℕ, ◌<◌, ◌≤◌, ◌++◌, ◌+◌, take, drop, map, min, arith, inl, inr, refl, sym, ap, ◌∙◌, Bool, true, cond, List, [], ◌∷◌, length, Some, slice_get, nat_eq, fold, filter, list_all, list_any, and_parts, lookup_from_place, lookup-map_values, slice_get_cases, append-nil, length-drop, nil_from_length, take_all, Addr4, Admit, LinkKey, Link, Base, HasDistinctKeys, find, link_eq, addr_eq, quality_of, quality_at, by_quality, admitted, link_equiv, changed_at, changed_at-agrees, distinct-changed_at, walk_at, walk_changed, AdmitsLinks, HasRoom, IsFewer, is_steady, ruled}
 use Rattle.mesh_atoms.specs.declared.admit.QualityStep.{QualityStep}
 use Rattle.mesh_atoms.specs.declared.admit.SenderQuality.{SenderQuality}
 use Rattle.mesh_links.specs.declared.admittance.Ruling.{Ruling}
@@ -13,11 +13,7 @@ record StaysAlike (e f : Link × ℕ) : Type 0 where
   pub sym : f.0.sym ≡ e.0.sym
 
 alike : (rule : Admit) (hold now quality : ℕ) (e : Link × ℕ) → StaysAlike e (by_quality rule hold now quality e)
-alike rule hold now quality e = by_test (nat_le rule.accept quality) (nat_lt quality rule.reject && not (e.0.pending || e.0.lost)) where
-  by_test : (b c : Bool) → StaysAlike e (cond b (record e.0 { quality = quality; pending = false; lost = false }, e.1) (cond c (record e.0 { quality = quality; lost = true }, min e.1 (now + hold)) (record e.0 { quality = quality }, e.1)))
-  by_test true c = record { addrs = refl; sym = refl }
-  by_test false true = record { addrs = refl; sym = refl }
-  by_test false false = record { addrs = refl; sym = refl }
+alike rule hold now quality e = grind (arith, common_steps)
 
 pub addrs-admitted : (rule : Admit) (hold now : ℕ) (e : Link × ℕ) → (admitted rule hold now e).0.addrs ≡ e.0.addrs
 addrs-admitted rule hold now e = (alike rule hold now (quality_at rule e.0.addrs now) e).addrs
@@ -27,21 +23,18 @@ sym-admitted rule hold now e = (alike rule hold now (quality_at rule e.0.addrs n
 
 -- a change that changes nothing, and two changes of one entry
 on_one : (b : Bool) (k : LinkKey) (x : Link × ℕ) (es fs : Base LinkKey Link) → es ≡ fs → (k, cond b x x) ∷ es ≡ (k, x) ∷ fs
-on_one true k x es fs rest = ap (λ (l : Base LinkKey Link). (k, x) ∷ l) rest
-on_one false k x es fs rest = ap (λ (l : Base LinkKey Link). (k, x) ∷ l) rest
+on_one b k x es fs rest = grind (arith, common_steps)
 
 changed_at-same : (key : LinkKey) (base : Base LinkKey Link) → changed_at link_eq base key (λ e. e) ≡ base
 changed_at-same key [] = refl
 changed_at-same key (e ∷ es) = on_one (link_eq key e.0) e.0 e.1 (changed_at link_eq es key (λ x. x)) es (changed_at-same key es)
 
 on_two : (b : Bool) (k : LinkKey) (first second : Link × ℕ → Link × ℕ) (x : Link × ℕ) (es fs : Base LinkKey Link) → es ≡ fs → (k, cond b (second (cond b (first x) x)) (cond b (first x) x)) ∷ es ≡ (k, cond b (second (first x)) x) ∷ fs
-on_two true k first second x es fs rest = ap (λ (l : Base LinkKey Link). (k, second (first x)) ∷ l) rest
-on_two false k first second x es fs rest = ap (λ (l : Base LinkKey Link). (k, x) ∷ l) rest
+on_two b k first second x es fs rest = grind (arith, common_steps)
 
 pub changed_at-twice : (key : LinkKey) (first second : Link × ℕ → Link × ℕ) (base : Base LinkKey Link) → changed_at link_eq (changed_at link_eq base key first) key second ≡ changed_at link_eq base key (λ e. second (first e))
 changed_at-twice key first second [] = refl
-changed_at-twice key first second (e ∷ es) =
-    on_two (link_eq key e.0) e.0 first second e.1 (changed_at link_eq (changed_at link_eq es key first) key second) (changed_at link_eq es key (λ x. second (first x))) (changed_at-twice key first second es)
+changed_at-twice key first second (e ∷ es) = grind (arith, common_steps, on_two, (changed_at-twice key first second es))
 
 -- a change that leaves what stands at the key
 pub changed_at-still : (key : LinkKey) (change : Link × ℕ → Link × ℕ) (base : Base LinkKey Link) → HasDistinctKeys link_eq base → ((entry : Link × ℕ) → find link_eq base key ≡ Some entry → change entry ≡ entry) → base ≡ changed_at link_eq base key change
@@ -57,22 +50,13 @@ same_key x y h = let pair : x ≡ y = cc in ap (λ (p : LinkKey × (Link × ℕ)
 -- by the ruling on the link at a place
 pub admitted_by : (rule : Admit) (hold now : ℕ) (old new : Base LinkKey Link) (place : ℕ) (key : LinkKey) (ruling : Ruling) (e : Link × ℕ) → HasDistinctKeys link_eq old → slice_get old place ≡ Some (key, e)
     → ruled ruling e.0 ≡ admitted rule hold now e → new ≡ changed_at link_eq old key (λ f. ruled ruling f.0) → (q : LinkKey) (f : Link × ℕ) → slice_get old place ≡ Some (q, f) → new ≡ changed_at link_eq old q (admitted rule hold now)
-admitted_by rule hold now old new place key ruling e distinct at is set q f at_too =
-    let same : key ≡ q = same_key (key, e) (q, f) (sym at ∙ at_too) in
-    let there = found_at key e old place distinct at in
-    set ∙ changed_at-agrees link_equiv key (λ x. ruled ruling x.0) (admitted rule hold now) old distinct (λ entry found. (
-    let one : Some e ≡ Some entry = sym there ∙ found in
-    let entry_is : e ≡ entry = cc in
-    subst (λ (x : Link × ℕ). ruled ruling x.0 ≡ admitted rule hold now x) entry_is is))
-    ∙ ap (λ (k : LinkKey). changed_at link_eq old k (admitted rule hold now)) same
+admitted_by rule hold now old new place key ruling e distinct at is set q f at_too = grind (arith, common_steps, same_key, found_at, changed_at-agrees, link_equiv, admitted)
 
 no_steps : (steps : List QualityStep) (now : ℕ) → nat_eq (length steps) 0 ≡ true → quality_of steps now ≡ 100
-no_steps [] now h = refl
-no_steps (s ∷ ss) now h = let none : length (s ∷ ss) ≡ 0 = eqb-true (length (s ∷ ss)) 0 h in absurd (omega (arith, none))
+no_steps steps now h = grind (arith, common_steps)
 
 one_more : (b : Bool) (s : SenderQuality) (ss : List SenderQuality) (now : ℕ) → quality_of s.steps now ≡ 100 → fold min 100 (map (λ x. quality_of x.steps now) ss) ≡ 100 → fold min 100 (map (λ x. quality_of x.steps now) (cond b (s ∷ ss) ss)) ≡ 100
-one_more true s ss now is rest = rw is rest
-one_more false s ss now is rest = rest
+one_more b s ss now is rest = grind (arith, common_steps)
 
 qualities : (among : SenderQuality → Bool) (now : ℕ) (senders : List SenderQuality) → list_all (λ s. nat_eq (length s.steps) 0) senders ≡ true → fold min 100 (map (λ s. quality_of s.steps now) (filter among senders)) ≡ 100
 qualities among now [] none = refl

@@ -1,11 +1,10 @@
 -- The names that the proofs of this crate cite of its definitions and of the crates below, passed on from one place.
-pub use Rattle.mesh_atoms.proofs.Lookups.{addr_equiv, link_equiv, same_addr, same_link}
-pub use Rattle.mesh_atoms.proofs.Options.{by_result, none_is_some, none_not, same_some, some_equal, true_false}
+pub use Rattle.mesh_atoms.proofs.Lookups.{addr_equiv, link_equiv, same_addr}
+pub use Rattle.mesh_atoms.proofs.Options.{by_result, none_not, same_some, true_false}
 pub use Rattle.mesh_atoms.specs.AfterHello.{IsApart, LinkKeptOrMade, Made, Stood, by_status, made, renewed}
 pub use Rattle.mesh_atoms.specs.Base.{Base, Expires, HasDistinctKeys, SetsOnly, addr_eq, find, if_live, link_eq}
 pub use Rattle.mesh_atoms.specs.Live.{trim, trimmed}
 pub use Rattle.mesh_atoms.specs.Quality.{admitted, by_quality, quality_at, quality_of}
-pub use Rattle.mesh_atoms.specs.State.{is_symmetric}
 pub use Rattle.mesh_atoms.specs.Words.{IsKept, Meets}
 pub use Rattle.mesh_atoms.specs.declared.addr.Addr4.{Addr4}
 pub use Rattle.mesh_atoms.specs.declared.admit.Admit.{Admit}
@@ -18,8 +17,9 @@ pub use Rattle.mesh_links.specs.Ending.{Spares}
 pub use Rattle.mesh_links.specs.Links.{AdmitsLinks, ExpiresLinks, HasRoom, HearsOn, IsLinkUnchanged, Linked, Unlinked}
 pub use Rattle.mesh_links.specs.Owners.{HasLinkOwners, IsFewer, IsKeptOrGone, OwnsAll, OwnsMore, owner_of}
 pub use Rattle.mesh_links.specs.Rulings.{is_steady, ruled}
-pub use Rattle.std.proofs.Common.{Bool, Contains, Decides, IsSome, IsTrue, List, None, OnOk, Option, Some, [], ap, arith, cond, drop, false, get_or, inl, inr, is_some, length, map, min, nat_eq, nat_le, nat_lt, not, option_map, refl, rules, slice_get, subst, sym, take, true, ℕ, ◌&&◌, ◌++◌, ◌+◌, ◌<◌, ◌^◌, ◌||◌, ◌↔◌, ◌∙◌, ◌∷◌, ◌≡◌, ◌≢◌, ◌≤◌, ◌⊎◌}
-pub use Rattle.std.proofs.lemmas.Bool.{and_parts, eqb-true, false≢true}
+pub use Rattle.std.proofs.Common.{Bool, Contains, Decides, IsSome, IsTrue, List, None, Option, Some, [], ap, arith, cond, drop, false, get_or, inl, inr, is_some, length, map, min, nat_eq, nat_lt, not, option_map, refl, rules, slice_get, subst, sym, take, true, ℕ, ◌++◌, ◌+◌, ◌<◌, ◌^◌, ◌↔◌, ◌∙◌, ◌∷◌, ◌≡◌, ◌≢◌, ◌≤◌, ◌⊎◌}
+pub use Rattle.std.proofs.lemmas.Bool.{and_parts, false≢true}
+pub use Rattle.std.proofs.lemmas.Grind.{common_steps}
 pub use Rattle.std.proofs.lemmas.List.{append-nil, get_or_default, length-drop, nil_from_length, take_all}
 pub use Rattle.std.proofs.lemmas.List.Elements.{All-contains, All-from_all_within, AllWithin-more, AllWithin-upto, Contains-get_or}
 pub use Rattle.std.proofs.lemmas.Map.Entries.{lookup-filter-values, lookup_from_place, place_from_lookup}

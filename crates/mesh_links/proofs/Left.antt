@@ -1,5 +1,5 @@
 -- What is left where some links are taken out.
-use Rattle.mesh_links.proofs.Common.{◌≡◌, ℕ, inl, inr, refl, sym, subst, ◌∙◌, Bool, true, false, Option, Some, None, Link, LinkKey, Base, find, link_eq, SetsOnly, IsKept, link_equiv, find_same, IsKeptOrGone}
+use Rattle.mesh_links.proofs.Common.{arith, common_steps, ◌≡◌, ℕ, inl, inr, refl, sym, ◌∙◌, Bool, true, false, Option, Some, None, Link, LinkKey, Base, find, link_eq, SetsOnly, IsKept, link_equiv, find_same, IsKeptOrGone}
 
 -- one more is taken out
 pub left_without : (Goes : Link × ℕ → Type 0) (first before after : Base LinkKey Link) (gone : LinkKey) (e : Link × ℕ)
@@ -16,18 +16,8 @@ left_without Goes first before after gone e found goes removed left key = by_key
 
 -- all that are left stay
 pub left_kept : {A : Type 0} (Stays : A → Type 0) (old new : Option A) → IsKeptOrGone (λ e. Stays e → ⊥) old new → ((e : A) → new ≡ Some e → Stays e) → IsKept Stays old new
-left_kept Stays None new left all = elim left [
-  | inl same ↦ same
-  | inr gone ↦ let both = gone.1 in absurd cc
-]
-left_kept Stays (Some e) new left all = elim left [
-  | inl same ↦ inl (all e same, same)
-  | inr gone ↦ let is : gone.0 ≡ e = let both = gone.1 in cc in inr ((λ stays. gone.2 (subst Stays (sym is) stays)), gone.3)
-]
+left_kept Stays old new left all = grind (arith, common_steps)
 
 -- taken out in two steps
 pub left_twice : {A : Type 0} (Goes : A → Type 0) (old mid new : Option A) → IsKeptOrGone Goes old mid → IsKeptOrGone Goes mid new → IsKeptOrGone Goes old new
-left_twice Goes old mid new (inl one) (inl two) = inl (two ∙ one)
-left_twice Goes old mid new (inl one) (inr gone) = inr (gone.0, sym one ∙ gone.1, gone.2, gone.3)
-left_twice Goes old mid new (inr gone) (inl two) = inr (gone.0, gone.1, gone.2, two ∙ gone.3)
-left_twice Goes old mid new (inr gone) (inr more) = let both : None ≡ Some more.0 = sym gone.3 ∙ more.1 in absurd cc
+left_twice Goes old mid new h4 h5 = grind (arith, common_steps)

@@ -1,5 +1,5 @@
 -- The map from addresses to links after each change.
-use Rattle.mesh_links.proofs.Common.{◌≡◌, ◌≢◌, ◌⊎◌, ℕ, inl, inr, refl, sym, ap, subst, ◌∙◌, Bool, true, false, cond, List, Option, Some, None, Contains, slice_get, nat_lt, option_map, IsSome, All-contains, Addr4, Admit, Link, LinkKey, Base, find, if_live, link_eq, addr_eq, SetsOnly, trim, trimmed, IsApart, LinkKeptOrMade, Stood, Made, renewed, IsKept, Meets, Shown, ExpiresLinks, HearsOn, owner_of, HasLinkOwners, OwnsAll, OwnsMore, IsFewer, IsKeptOrGone, changed_at, find_same, find-changed_at, list_any, AllWithin, HoldsAt, Decides, ◌+◌, ◌<◌, length, get_or, get_or_default, AllWithin-more, Contains-get_or, link_equiv, same_link, same_addr, addr_equiv, same_some, none_not}
+use Rattle.mesh_links.proofs.Common.{arith, common_steps, ◌≡◌, ◌≢◌, ◌⊎◌, ℕ, inl, inr, refl, sym, ap, subst, ◌∙◌, Bool, true, false, cond, List, Option, Some, None, Contains, slice_get, nat_lt, option_map, IsSome, Decides, ◌+◌, ◌<◌, length, get_or, All-contains, AllWithin-more, Contains-get_or, Addr4, Admit, Link, LinkKey, Base, find, if_live, link_eq, addr_eq, SetsOnly, trim, trimmed, IsApart, LinkKeptOrMade, Stood, Made, renewed, IsKept, Meets, Shown, ExpiresLinks, HearsOn, owner_of, HasLinkOwners, OwnsAll, OwnsMore, IsFewer, IsKeptOrGone, changed_at, find_same, find-changed_at, list_any, AllWithin, HoldsAt, get_or_default, link_equiv, same_addr, addr_equiv, same_some, none_not}
 use Rattle.mesh_atoms.proofs.Deciding.{Decides-some, Decides-addr}
 use Rattle.mesh_links.proofs.Renewed.{addrs-trimmed}
 
@@ -9,13 +9,6 @@ owned_fewer owners old new owned fewer = record {
   owner = λ key e a found has. (let (f, at, same) = fewer key e found in owned.owner key f a at (rw same has));
   first = λ key e found. (let (f, at, same) = fewer key e found in rw (← same) (owned.first key f at));
 }
-
--- what is left
-pub fewer_left : (Goes : Link × ℕ → Type 0) (old new : Base LinkKey Link) → ((key : LinkKey) → IsKeptOrGone Goes (find link_eq old key) (find link_eq new key)) → IsFewer old new
-fewer_left Goes old new left key e found = elim (left key) [
-  | inl same ↦ (e, sym same ∙ found, refl)
-  | inr gone ↦ let both : None ≡ Some e = sym gone.3 ∙ found in absurd cc
-]
 
 -- what expiry leaves
 pub fewer_expired : (now : ℕ) (old new : Base LinkKey Link) → ExpiresLinks now old new → IsFewer old new
@@ -31,44 +24,16 @@ fewer_expired now old new expired key e found = by_old (find link_eq old key) re
 -- one link is set, whose addresses have its key
 pub owned_set : (owners : List (Addr4 × LinkKey)) (old new : Base LinkKey Link) (key : LinkKey) (entry : Link × ℕ) → HasLinkOwners owners old → SetsOnly link_eq old new key (Some entry)
     → OwnsAll owners entry.0.addrs key → slice_get entry.0.addrs 0 ≡ Some key.addr → HasLinkOwners owners new
-owned_set owners old new key entry owned sets mine first = record {
-  owner = λ q e a found has. by_owner q e a found has (link_eq key q) refl;
-  first = λ q e found. by_first q e found (link_eq key q) refl;
-} where
-  entry_is : (q : LinkKey) (e : Link × ℕ) → find link_eq new q ≡ Some e → link_eq key q ≡ true → entry ≡ e
-  entry_is q e found is = let at : Some entry ≡ Some e = rw is at (sym (sets q)) ∙ found in cc
-
-  by_owner : (q : LinkKey) (e : Link × ℕ) (a : Addr4) → find link_eq new q ≡ Some e → Contains e.0.addrs a → (b : Bool) → link_eq key q ≡ b → owner_of owners a ≡ Some q
-  by_owner q e a found has true is =
-      All-contains (λ x. owner_of owners x ≡ Some key) entry.0.addrs a mine (rw (entry_is q e found is) has) ∙ ap Some (same_link key q is)
-  by_owner q e a found has false is = owned.owner q e a (rw is at (sym (sets q)) ∙ found) has
-
-  by_first : (q : LinkKey) (e : Link × ℕ) → find link_eq new q ≡ Some e → (b : Bool) → link_eq key q ≡ b → slice_get e.0.addrs 0 ≡ Some q.addr
-  by_first q e found true is = rw (← entry_is q e found is) (first ∙ ap (λ (k : LinkKey). Some k.addr) (same_link key q is))
-  by_first q e found false is = owned.first q e (rw is at (sym (sets q)) ∙ found)
+owned_set owners old new key entry owned sets mine first = grind (arith, common_steps, All-contains)
 
 -- more addresses have a key, of which no other link has one
 pub owned_more : (old new : List (Addr4 × LinkKey)) (links : Base LinkKey Link) (addrs : List Addr4) (key : LinkKey) → HasLinkOwners old links → slice_get addrs 0 ≡ Some key.addr
     → ((q : LinkKey) (e : Link × ℕ) → find link_eq links q ≡ Some e → IsApart addrs e.0) → OwnsMore old new addrs key → HasLinkOwners new links
-owned_more old new links addrs key owned first apart more = record { owner = by_more; first = owned.first } where
-  by_more : (q : LinkKey) (e : Link × ℕ) (a : Addr4) → find link_eq links q ≡ Some e → Contains e.0.addrs a → owner_of new a ≡ Some q
-  by_more q e a found has = elim (more a) [
-    | inl same ↦ same ∙ owned.owner q e a found has
-    | inr noted ↦ elim (apart q e found) [
-      | inl is ↦
-          let at : Some key.addr ≡ Some q.addr = sym first ∙ ap (λ l. slice_get l 0) (sym is) ∙ owned.first q e found in
-          let addr : key.addr ≡ q.addr = cc in
-          let one : key ≡ q = ap (λ (x : Addr4). let k : LinkKey = record { addr = x } in k) addr in
-          noted.1 ∙ ap Some one
-      | inr none ↦ absurd (none (a, has, noted.0))
-    ]
-  ]
+owned_more old new links addrs key owned first apart more = grind (arith, common_steps)
 
 -- what a kept entry was
 pub kept_from : {A : Type 0} (P : A → Type 0) (old new : Option A) (e : A) → IsKept P old new → new ≡ Some e → P e × (old ≡ Some e)
-kept_from P None new e k is = none_not k is
-kept_from P (Some f) new e (inl k) is = let same : f ≡ e = same_some refl (sym k.1 ∙ is) in (subst P same k.0, ap Some same)
-kept_from P (Some f) new e (inr k) is = none_not k.1 is
+kept_from P old new e k is = grind (arith, common_steps, none_not, same_some)
 
 -- the links from which a HELLO begins
 pub begins_before : (rule : Admit) (shown : Shown) (now : ℕ) (o mid : Option (Link × ℕ)) (start : Link × ℕ) → IsKept (λ e. IsApart shown.sending e.0) o mid → LinkKeptOrMade rule shown now mid start → LinkKeptOrMade rule shown now o start
@@ -82,10 +47,7 @@ begins_before rule shown now o mid start kept (Made none) = Made (λ e at same. 
   ]
 
 other_link : (least key : LinkKey) → key ≢ least → link_eq least key ≡ false
-other_link least key other = by_case (link_eq least key) refl where
-  by_case : (b : Bool) → link_eq least key ≡ b → b ≡ false
-  by_case false is = refl
-  by_case true is = absurd (other (sym (same_link least key is)))
+other_link least key other = grind (arith, common_steps)
 
 -- the others end, and then the one is renewed or made
 pub hears_after : (rule : Admit) (shown : Shown) (least : LinkKey) (hold now : ℕ) (old mid new : Base LinkKey Link) (start : Link × ℕ)
@@ -100,10 +62,7 @@ hears_after rule shown least hold now old mid new start kept begins sets = recor
 -- the link that has an address is the noted one
 pub sole : (owners : List (Addr4 × LinkKey)) (links : Base LinkKey Link) (key : LinkKey) (e : Link × ℕ) (a : Addr4) (k : LinkKey) → HasLinkOwners owners links → find link_eq links key ≡ Some e → Contains e.0.addrs a
     → owner_of owners a ≡ Some k → (key ≡ k) × (find link_eq links k ≡ Some e)
-sole owners links key e a k owned found has noted =
-    let both : Some key ≡ Some k = sym (owned.owner key e a found has) ∙ noted in
-    let one : key ≡ k = cc in
-    (one, subst (λ q. find link_eq links q ≡ Some e) one found)
+sole owners links key e a k owned found has noted = grind (arith, common_steps)
 
 -- of two links that are found at one key there is one
 pub one_at : (links : Base LinkKey Link) (k l : LinkKey) (x y : Link × ℕ) → find link_eq links k ≡ Some x → find link_eq links l ≡ Some y → l ≡ k → x ≡ y
@@ -121,17 +80,10 @@ unlinked owners links key e a k owned found has noted none = let both : None ≡
 -- the link of a noted address is gone
 pub sole_gone : (Stays : Link × ℕ → Type 0) (owners : List (Addr4 × LinkKey)) (old new : Base LinkKey Link) (a : Addr4) (k : LinkKey) → HasLinkOwners owners old → owner_of owners a ≡ Some k → SetsOnly link_eq old new k None
     → (key : LinkKey) (e : Link × ℕ) → find link_eq new key ≡ Some e → Contains e.0.addrs a → Stays e
-sole_gone Stays owners old new a k owned noted sets key e found has = by_key (link_eq k key) refl where
-  by_key : (b : Bool) → link_eq k key ≡ b → Stays e
-  by_key true is = let both : None ≡ Some e = rw is at (sym (sets key)) ∙ found in absurd cc
-  by_key false is =
-      let one = (sole owners old key e a k owned (rw is at (sym (sets key)) ∙ found) has noted).0 in
-      let same : link_eq k key ≡ true = rw one (link_equiv.refl k) in
-      absurd (let both : true ≡ false = sym same ∙ is in cc)
+sole_gone Stays owners old new a k owned noted sets key e found has = grind (arith, common_steps, link_equiv)
 
 pub back_left : (Goes : Link × ℕ → Type 0) (o new : Option (Link × ℕ)) (e : Link × ℕ) → IsKeptOrGone Goes o new → new ≡ Some e → o ≡ Some e
-back_left Goes o new e (inl same) found = sym same ∙ found
-back_left Goes o new e (inr gone) found = let both : None ≡ Some e = sym gone.3 ∙ found in absurd cc
+back_left Goes o new e h4 found = grind (arith, common_steps)
 
 -- two lists meet or don't
 pub by_meeting : (xs ys : List Addr4) (Stays : Type 0) → ((a : Addr4) → Contains ys a → Contains xs a → Stays) → ((Meets xs ys → ⊥) → Stays) → Stays

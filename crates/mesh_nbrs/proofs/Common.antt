@@ -19,14 +19,14 @@ pub use Rattle.mesh_nbrs.specs.Parts.{AreSummariesOf, HasSummaryAt, IsNoteAt, Is
 pub use Rattle.mesh_nbrs.specs.TwoHops.TwoHops.{DropsLink, KnowsLinks, link_cmp}
 pub use Rattle.mesh_nbrs.specs.declared.neighbours.LinkNote.{LinkNote}
 pub use Rattle.mesh_nbrs.specs.declared.summary.Summary.{Summary}
-pub use Rattle.std.proofs.Common.{Bool, Contains, Decides, Err, IfNone, IsSome, IsTrue, List, None, Ok, OnErr, OnOk, Option, Result, Some, [], ap, arith, cond, eqb, false, get_or, inl, inr, is_err, is_some, length, length-take, max, nat_lt, not, option_map, refl, rules, slice_get, slice_set, subst, suc, swap_remove, sym, take, true, zero, ℕ, ◌&&◌, ◌++◌, ◌+◌, ◌-◌, ◌<◌, ◌||◌, ◌↔◌, ◌∙◌, ◌∷◌, ◌≡◌, ◌≢◌, ◌≤◌, ◌⊎◌}
+pub use Rattle.std.proofs.Common.{Bool, Contains, Decides, IfNone, IsSome, IsTrue, List, None, OnErr, OnOk, Option, Result, Some, [], ap, arith, cond, eqb, false, get_or, inl, inr, is_err, is_some, length, length-take, max, not, option_map, refl, rules, slice_get, slice_set, subst, suc, swap_remove, sym, take, true, zero, ℕ, ◌&&◌, ◌++◌, ◌+◌, ◌-◌, ◌<◌, ◌||◌, ◌↔◌, ◌∙◌, ◌∷◌, ◌≡◌, ◌≢◌, ◌≤◌, ◌⊎◌}
 pub use Rattle.std.proofs.lemmas.Bool.{and_parts, cases_lt, cases_order, cond_both, false≢true, or_cases, or_left, or_right}
+pub use Rattle.std.proofs.lemmas.Grind.{common_steps}
 pub use Rattle.std.proofs.lemmas.List.{take_all, take_more}
-pub use Rattle.std.proofs.lemmas.List.Elements.{Contains-append_left, Contains-append_right, Contains-get_or, Contains-push, Contains-push_cases}
-pub use Rattle.std.proofs.lemmas.List.Folds.{list_any_at, list_any_more}
+pub use Rattle.std.proofs.lemmas.List.Elements.{Contains-append_left, Contains-append_right, Contains-push, Contains-push_cases}
+pub use Rattle.std.proofs.lemmas.List.Folds.{list_any_at}
 pub use Rattle.std.proofs.lemmas.Map.Entries.{length-keys_of, lookup-filter-values, lookup_from_place, option_filter}
-pub use Rattle.std.proofs.lemmas.Option.{slice_get_cases, slice_get_within}
 pub use Rattle.std.proofs.lemmas.Result.{IfOk-weaker, on_ok_weaker}
-pub use Rattle.std.specs.Cmp.{IsEquivalence, unsigned_ties}
+pub use Rattle.std.specs.Cmp.{IsEquivalence}
 pub use Rattle.std.specs.List.{filter, list_any}
 pub use Rattle.std.specs.Map.{keys_of}

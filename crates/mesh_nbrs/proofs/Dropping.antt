@@ -1,5 +1,5 @@
 -- The tuples of a link go, from the last place on.
-use Rattle.mesh_nbrs.proofs.Common.{◌≡◌, ◌⊎◌, inl, inr, refl, sym, ap, subst, ◌∙◌, ℕ, ◌+◌, ◌≤◌, arith, Bool, true, false, cond, Option, Some, None, length, length-take, get_or, ◌-◌, slice_get, slice_set, swap_remove, cases_order, false≢true, slice_get_within, LinkKey, TwoHopKey, TwoHop, Base, find, HasDistinctKeys, SetsOnly, link_eq, two_hop_eq, same_two_hop, two_hop_equiv, swapped_at, swapped_out, walked, DropsLink}
+use Rattle.mesh_nbrs.proofs.Common.{◌≡◌, ◌⊎◌, inl, inr, refl, sym, subst, ◌∙◌, ℕ, ◌+◌, ◌≤◌, arith, Bool, true, false, cond, Option, Some, None, length, length-take, get_or, ◌-◌, slice_get, slice_set, swap_remove, cases_order, false≢true, LinkKey, TwoHopKey, TwoHop, Base, find, HasDistinctKeys, SetsOnly, link_eq, two_hop_eq, same_two_hop, two_hop_equiv, swapped_at, swapped_out, walked, DropsLink}
 
 -- from a place on no tuple is one of the link, and the tuples that have gone are
 pub record Dropping (link : LinkKey) (first now : Base TwoHopKey TwoHop) (place : ℕ) : Type 0 where
@@ -9,14 +9,6 @@ pub record Dropping (link : LinkKey) (first now : Base TwoHopKey TwoHop) (place 
   pub shorter : length now ≤ length first
 
 module _ (link : LinkKey) (first now : Base TwoHopKey TwoHop) (place : ℕ) where
-  pub starts : HasDistinctKeys two_hop_eq now → first ≡ now → place ≡ length now → Dropping link first now place
-  starts distinct same end = record {
-    distinct = distinct;
-    left = λ q. inl (ap (λ (b : Base TwoHopKey TwoHop). find two_hop_eq b q) (sym same));
-    behind = λ i e le at. absurd (omega (arith, le, end, slice_get_within now i e at));
-    shorter = omega (arith, ap length same);
-  }
-
   module _ (dropping : Dropping link first now place) where
     -- a tuple of another link stays
     pub stays : (at : ℕ) → place ≤ at + 1 → ((e : TwoHopKey × (TwoHop × ℕ)) → slice_get now at ≡ Some e → link_eq e.0.link link ≡ false) → Dropping link first now at

@@ -1,25 +1,14 @@
 -- Tuples that end while the others stay.
-use Rattle.mesh_nbrs.proofs.Common.{◌≡◌, ℕ, Bool, true, false, Option, Some, None, ◌⊎◌, inl, inr, refl, sym, subst, ◌∙◌, IfNone, Base, find, SetsOnly, IsKept}
+use Rattle.mesh_nbrs.proofs.Common.{arith, common_steps, ◌≡◌, ℕ, Bool, true, false, Option, Some, None, ◌⊎◌, inl, inr, refl, sym, subst, ◌∙◌, IfNone, Base, find, SetsOnly}
 
 -- what follows where nothing is given
 pub if_none_so : {A P Q : Type 0} (o : Option A) → (P → Q) → IfNone o P → IfNone o Q
-if_none_so None so h = so h
-if_none_so (Some x) so h = tt
+if_none_so o so h = grind (arith, common_steps)
 
 module _ {K V : Type 0} (eq : K → K → Bool) (ends : K → V → Type 0) (before now : Base K V) where
   -- a key has what it had, or what it had ended
   abbrev pub HasEnded : K → Type 0
   HasEnded q = (find eq now q ≡ find eq before q) ⊎ ((find eq now q ≡ None) × (e : V × ℕ) × (find eq before q ≡ Some e) × ends q e.0)
-
-  -- where nothing more ends, all that ends is gone
-  pub all_ended : ((q : K) → HasEnded q) → ((q : K) (e : V × ℕ) → find eq now q ≡ Some e → ends q e.0 → ⊥) → (q : K) → IsKept (λ (e : V × ℕ). ends q e.0 → ⊥) (find eq before q) (find eq now q)
-  all_ended each none q = elim (each q) [
-    | inl same ↦ by_case (find eq before q) same
-    | inr gone ↦ rw (gone.2) (inr ((λ stays. stays gone.3), gone.0))
-  ] where
-    by_case : (o : Option (V × ℕ)) → find eq now q ≡ o → IsKept (λ (e : V × ℕ). ends q e.0 → ⊥) o (find eq now q)
-    by_case None is = is
-    by_case (Some e) is = inl ((none q e is), is)
 
 -- one more ends
 pub ended_more : {K V : Type 0} (eq : K → K → Bool) (exact : (a b : K) → eq a b ≡ true → a ≡ b) (ends : K → V → Type 0) (before now after : Base K V) (key : K) (e : V × ℕ)

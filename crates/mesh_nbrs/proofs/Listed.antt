@@ -1,5 +1,5 @@
 -- Whether a key is listed, by a test and by membership.
-use Rattle.mesh_nbrs.proofs.Common.{◌≡◌, ℕ, zero, suc, ◌+◌, ◌<◌, take, length, get_or, Bool, true, false, cond, List, [], ◌∷◌, Contains, refl, sym, ◌∙◌, ap, subst, arith, ◌&&◌, ◌||◌, list_any, IsEquivalence, Contains-append_right, list_any_at, list_any_more}
+use Rattle.mesh_nbrs.proofs.Common.{common_steps, ◌≡◌, ℕ, zero, suc, take, Bool, true, false, List, [], ◌∷◌, Contains, refl, sym, ◌∙◌, subst, arith, ◌&&◌, list_any, IsEquivalence, Contains-append_right, list_any_at}
 
 module _ {K : Type 0} {eq : K → K → Bool} where
   -- a test that passes tells a member
@@ -21,16 +21,7 @@ module _ {K : Type 0} {eq : K → K → Bool} where
   -- a test of the listed keys that a key is, where it passes
   pub listed_where : (exact : (a b : K) → eq a b ≡ true → a ≡ b) (test : K → Bool) (xs : List K) (a : K) → list_any (λ x. eq x a && test x) xs ≡ (list_any (λ x. eq x a) xs && test a)
   listed_where exact test [] a = refl
-  listed_where exact test (x ∷ xs) a = by_head (eq x a) refl (listed_where exact test xs a) where
-    joined : (any passes : Bool) → (passes || (any && passes)) ≡ passes
-    joined true true = refl
-    joined true false = refl
-    joined false true = refl
-    joined false false = refl
-
-    by_head : (b : Bool) → eq x a ≡ b → list_any (λ y. eq y a && test y) xs ≡ (list_any (λ y. eq y a) xs && test a) → list_any (λ y. eq y a && test y) (x ∷ xs) ≡ (list_any (λ y. eq y a) (x ∷ xs) && test a)
-    by_head true is others = rw (is, others, exact x a is) (joined (list_any (λ y. eq y a) xs) (test a))
-    by_head false is others = rw (is, others) refl
+  listed_where exact test (x ∷ xs) a = grind (arith, common_steps, (listed_where exact test xs a))
 
 -- what passes a test, where something does
 pub found_of : {A : Type 0} (test : A → Bool) (xs : List A) → list_any test xs ≡ true → (x : A) × Contains xs x × (test x ≡ true)
@@ -44,16 +35,4 @@ found_of {A} test (x ∷ xs) h = by_head (test x) refl (found_of test xs) where
 pub any_take : {A : Type 0} (test : A → Bool) (i : ℕ) (xs : List A) → list_any test (take i xs) ≡ true → list_any test xs ≡ true
 any_take test zero xs h = absurd cc
 any_take test (suc i) [] h = absurd cc
-any_take {A} test (suc i) (x ∷ xs) h = by_head (test x) refl (any_take test i xs) where
-  by_head : (b : Bool) → test x ≡ b → (list_any test (take i xs) ≡ true → list_any test xs ≡ true) → list_any test (x ∷ xs) ≡ true
-  by_head true is behind = rw is refl
-  by_head false is behind = rw is (behind (rw is at h))
-
--- one more is looked at
-pub any_more : {K : Type 0} (test : K → Bool) (xs : List K) (i : ℕ) (d : K) (old new : Bool) → i < length xs → new ≡ cond (test (get_or xs i d)) true old → old ≡ list_any test (take i xs) → new ≡ list_any test (take (i + 1) xs)
-any_more test xs i d old new lt is before = is ∙ ap (λ (b : Bool). cond (test (get_or xs i d)) true b) before ∙ joined (test (get_or xs i d)) (list_any test (take i xs)) ∙ sym (list_any_more test xs i d lt) where
-  joined : (b any : Bool) → cond b true any ≡ (any || b)
-  joined true true = refl
-  joined true false = refl
-  joined false true = refl
-  joined false false = refl
+any_take {A} test (suc i) (x ∷ xs) h = grind (arith, common_steps, (any_take test i xs))

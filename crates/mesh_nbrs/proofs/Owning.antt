@@ -1,5 +1,5 @@
 -- The map from addresses to originators after each change.
-use Rattle.mesh_nbrs.proofs.Common.{◌≡◌, ◌≢◌, ℕ, inl, inr, refl, sym, ap, subst, ◌∙◌, Bool, true, false, cond, List, [], take, Contains, Option, Some, None, is_some, ◌↔◌, option_map, IsSome, IfNone, OnOk, OnErr, Result, Ok, Err, is_err, list_any, keys_of, option_filter, Addr4, Neighbour, Base, SetsOnly, find, addr_eq, IsKept, Meets, addr_equiv, same_addr, changed_at, find-changed_at, owner_of, addrs_at, HasAt, Owned, KeepsAddrs, LeavesNotesOf, SetsOwner}
+use Rattle.mesh_nbrs.proofs.Common.{arith, common_steps, ◌≡◌, ◌≢◌, ℕ, refl, sym, ap, subst, ◌∙◌, Bool, true, false, cond, List, take, Contains, Option, Some, None, is_some, ◌↔◌, option_map, IsSome, IfNone, OnOk, OnErr, Result, is_err, list_any, keys_of, option_filter, Addr4, Neighbour, Base, SetsOnly, find, addr_eq, IsKept, Meets, addr_equiv, same_addr, changed_at, find-changed_at, owner_of, addrs_at, HasAt, Owned, KeepsAddrs, LeavesNotesOf, SetsOwner}
 use Rattle.std.proofs.lemmas.Map.Views.{Contains-keys_from_lookup, IsSome-lookup_from_Contains}
 use Rattle.mesh_nbrs.proofs.Listed.{contains_of, unlisted_of, any_take}
 use Rattle.mesh_nbrs.proofs.Sets.{set_there, set_elsewhere}
@@ -59,9 +59,6 @@ module _ (owners : Owners) (base : Nbrs) (owned : Owned owners base) where
 
 -- ---- what keeps the tie
 
-pub owned_none : Owned [] []
-owned_none a o = ((λ noted. absurd cc), (λ has. let at : None ≡ Some has.0 = has.1 in absurd cc))
-
 pub owned_kept : (owners : Owners) (old new : Nbrs) → Owned owners old → KeepsAddrs old new → Owned owners new
 owned_kept owners old new owned keeps a o = (
   (λ noted. let h = (owned a o).0 noted in (h.0, keeps o ∙ h.1, h.2)),
@@ -88,13 +85,10 @@ owned_removed first second old new originator owned leaves sets = owned_left (λ
     absurd cc)
 
 kept_there : {A : Type 0} (Stays : A → Type 0) (old new : Option A) → IsKept Stays old new → IsSome new → new ≡ old
-kept_there Stays None new kept some = kept
-kept_there Stays (Some e) new (inl stays) some = stays.1
-kept_there Stays (Some e) new (inr ends) some = absurd (let clash : false ≡ true = sym (ap is_some ends.1) ∙ some in cc)
+kept_there Stays old new kept some = grind (arith, common_steps)
 
 some_of : (p : Option (Neighbour × ℕ)) (addrs : List Addr4) → option_map (λ (e : Neighbour × ℕ). e.0.addrs) p ≡ Some addrs → IsSome p
-some_of None addrs at = absurd cc
-some_of (Some e) addrs at = refl
+some_of p addrs at = grind (arith, common_steps)
 
 pub owned_purged : (Stays : Addr4 → Neighbour × ℕ → Type 0) (first second : Owners) (old new : Nbrs) → Owned first old → ((o : Addr4) → IsKept (Stays o) (find addr_eq old o) (find addr_eq new o))
     → LeavesNotesOf (λ o. IsSome (find addr_eq new o)) first second → Owned second new
@@ -104,17 +98,7 @@ owned_purged Stays first second old new owned kept leaves = owned_left (λ o. Is
 
 -- what a test of the originators leaves
 pub leaves_tested : (test : Addr4 → Bool) (before after : Option Addr4) (o : Addr4) → after ≡ option_filter test before → (after ≡ Some o) ↔ ((before ≡ Some o) × (test o ≡ true))
-leaves_tested test None after o is = ((λ noted. let both : None ≡ Some o = sym is ∙ noted in absurd cc), (λ was. absurd (let both : None ≡ Some o = was.0 in cc)))
-leaves_tested test (Some p) after o is = by_test (test p) refl where
-  by_test : (b : Bool) → test p ≡ b → (after ≡ Some o) ↔ ((Some p ≡ Some o) × (test o ≡ true))
-  by_test true passes =
-      let same : after ≡ Some p = is ∙ rw passes refl in
-      ((λ noted. let both : Some p ≡ Some o = sym same ∙ noted in let one : p ≡ o = cc in (both, subst (λ (q : Addr4). test q ≡ true) one passes)), (λ was. same ∙ was.0))
-  by_test false fails =
-      let gone : after ≡ None = is ∙ rw fails refl in (
-        (λ noted. let both : None ≡ Some o = sym gone ∙ noted in absurd cc),
-        (λ was. let one : p ≡ o = (let both : Some p ≡ Some o = was.0 in cc) in let clash : false ≡ true = sym fails ∙ ap test one ∙ was.1 in absurd cc),
-      )
+leaves_tested test before after o is = grind (arith, common_steps)
 
 -- ---- one neighbour's notes go
 
@@ -210,12 +194,7 @@ others_keep old new addrs i owner sets a unlisted = by_listed (list_any (λ x. a
 -- ---- neighbours that keep their addresses
 
 pub keeps_put : (old new : Nbrs) (originator : Addr4) (addrs : List Addr4) (e : Neighbour × ℕ) → addrs_at old originator ≡ Some addrs → e.0.addrs ≡ addrs → SetsOnly addr_eq old new originator (Some e) → KeepsAddrs old new
-keeps_put old new originator addrs e at same put o = by_key (addr_eq originator o) refl where
-  by_key : (b : Bool) → addr_eq originator o ≡ b → addrs_at new o ≡ addrs_at old o
-  by_key true is =
-      let there : find addr_eq new o ≡ Some e = put o ∙ rw is refl in
-      ap (option_map (λ (x : Neighbour × ℕ). x.0.addrs)) there ∙ ap Some same ∙ sym at ∙ ap (addrs_at old) (same_addr originator o is)
-  by_key false is = let there : find addr_eq new o ≡ find addr_eq old o = put o ∙ rw is refl in ap (option_map (λ (x : Neighbour × ℕ). x.0.addrs)) there
+keeps_put old new originator addrs e at same put o = grind (arith, common_steps, same_addr)
 
 pub keeps_same : (old new : Nbrs) → new ≡ old → KeepsAddrs old new
 keeps_same old new is o = ap (λ (l : Nbrs). addrs_at l o) is
@@ -233,14 +212,11 @@ keeps_changed old new key change same is o =
     by_key false p = refl
 
 pub on_err_so : {A B Q : Type 0} (r : Result A B) → is_err r ≡ true → OnErr r Q → Q
-on_err_so (Ok x) is q = absurd cc
-on_err_so (Err e) is q = q
+on_err_so r is q = grind (arith, common_steps)
 
 pub on_ok_so : {A B P : Type 0} (r : Result A B) → is_err r ≡ false → OnOk r P → P
-on_ok_so (Ok x) is p = p
-on_ok_so (Err e) is p = absurd cc
+on_ok_so r is p = grind (arith, common_steps)
 
 -- what holds, where nothing is given too
 pub if_none_holds : {A P : Type 0} (o : Option A) → P → IfNone o P
-if_none_holds None h = h
-if_none_holds (Some x) h = tt
+if_none_holds o h = grind (arith, common_steps)

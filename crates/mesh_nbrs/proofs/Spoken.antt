@@ -1,12 +1,11 @@
 -- The neighbours that a HELLO speaks of.
-use Rattle.mesh_nbrs.proofs.Common.{◌≡◌, ◌≢◌, ℕ, inl, inr, refl, sym, ap, ◌∙◌, Bool, true, false, cond, List, Contains, Option, Some, None, is_some, ◌↔◌, ◌&&◌, not, list_any, list_any_at, Contains-list_any, Addr4, Neighbour, find, addr_eq, IsKept, Meets, addr_equiv, same_addr, IsSpokenOf, owner_of, is_owner, Owned, some_of, and_parts, cond_both}
+use Rattle.mesh_nbrs.proofs.Common.{arith, common_steps, ◌≡◌, ◌≢◌, ℕ, inl, inr, refl, sym, ap, ◌∙◌, Bool, true, false, cond, List, Contains, Option, Some, None, is_some, ◌↔◌, ◌&&◌, not, list_any, list_any_at, Contains-list_any, Addr4, Neighbour, find, addr_eq, IsKept, Meets, addr_equiv, same_addr, IsSpokenOf, owner_of, is_owner, Owned, some_of, and_parts, cond_both}
 use Rattle.mesh_atoms.specs.AfterHello.{Matches}
 use Rattle.mesh_nbrs.proofs.Listed.{listed_of, contains_of, listed_where, found_of}
 use Rattle.mesh_nbrs.proofs.Owning.{Owners, Nbrs, from_at, noted_of}
 
 is_owner_so : (p : Option Addr4) (o : Addr4) → is_owner p o ≡ true → p ≡ Some o
-is_owner_so None o h = absurd cc
-is_owner_so (Some p) o h = ap Some (same_addr p o h)
+is_owner_so p o h = grind (arith, common_steps, same_addr)
 
 module _ (owners : Owners) (base : Nbrs) (originator : Addr4) (listed keys : List Addr4) (owned : Owned owners base)
     (are : (o : Addr4) → list_any (addr_eq o) keys ≡ cond (is_some (find addr_eq base originator) && addr_eq originator o) true (list_any (λ x. is_owner (owner_of owners x) o) listed)) where
@@ -41,16 +40,10 @@ module _ (owners : Owners) (base : Nbrs) (originator : Addr4) (listed keys : Lis
 module _ (old mid : Nbrs) (originator : Addr4) (listed found : List Addr4) (told : (o : Addr4) → Contains found o ↔ IsSpokenOf old originator listed o)
     (gone : (o : Addr4) → find addr_eq mid o ≡ cond (list_any (λ x. addr_eq x o && not (addr_eq x originator)) found) None (find addr_eq old o)) where
   gone_other : (o : Addr4) → addr_eq o originator ≡ false → find addr_eq mid o ≡ cond (list_any (λ x. addr_eq x o) found) None (find addr_eq old o)
-  gone_other o other = gone o ∙ rw (listed_where same_addr (λ x. not (addr_eq x originator)) found o, other) (by_any (list_any (λ x. addr_eq x o) found)) where
-    by_any : (b : Bool) → cond (b && true) None (find addr_eq old o) ≡ cond b None (find addr_eq old o)
-    by_any true = refl
-    by_any false = refl
+  gone_other o other = grind (arith, common_steps, listed_where, same_addr)
 
   other_key : (o : Addr4) → o ≢ originator → addr_eq o originator ≡ false
-  other_key o other = by_key (addr_eq o originator) refl where
-    by_key : (b : Bool) → addr_eq o originator ≡ b → b ≡ false
-    by_key false is = refl
-    by_key true is = absurd (other (same_addr o originator is))
+  other_key o other = grind (arith, common_steps, same_addr)
 
   kept_by : (o : Addr4) (stood : Option (Neighbour × ℕ)) → find addr_eq old o ≡ stood → (b : Bool) → list_any (λ x. addr_eq x o) found ≡ b → find addr_eq mid o ≡ cond b None stood → IsKept (λ e. Matches originator listed o e.0 → ⊥) stood (find addr_eq mid o)
   kept_by o None was true is now = now

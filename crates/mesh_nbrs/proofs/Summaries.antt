@@ -1,5 +1,5 @@
 -- What notes tell together.
-use Rattle.mesh_nbrs.proofs.Common.{◌≡◌, ℕ, ◌≤◌, ◌⊎◌, inl, inr, max, Bool, true, false, List, get_or, Option, Some, None, refl, sym, subst, ◌∙◌, arith, IsTrue, ◌||◌, cases_lt, or_cases, or_left, or_right, Addr4, Metric, Neighbour, addr_eq, IsKept, IsLeastMetric, addr_equiv, same_addr, list_any, list_any_at, LinkNote, Summary, HasNote, HasNoNote, IsNotesSummary, IsByNotes, RestoresBy, HasSummary, by_summary}
+use Rattle.mesh_nbrs.proofs.Common.{common_steps, ◌≡◌, ℕ, ◌⊎◌, inl, inr, max, Bool, true, false, List, get_or, Option, Some, None, refl, sym, subst, ◌∙◌, arith, IsTrue, ◌||◌, cases_lt, or_cases, or_left, or_right, Addr4, Metric, Neighbour, addr_eq, IsKept, IsLeastMetric, addr_equiv, same_addr, list_any, list_any_at, LinkNote, Summary, HasNote, HasNoNote, IsNotesSummary, IsByNotes, RestoresBy, HasSummary, by_summary}
 use Rattle.mesh_nbrs.proofs.Listed.{contains_of, listed_of, found_of}
 use Rattle.mesh_atoms.specs.Codes.Codes.{metric_value}
 
@@ -7,21 +7,14 @@ use Rattle.mesh_atoms.specs.Codes.Codes.{metric_value}
 
 -- of the same metrics
 pub least_same : {P Q : Metric → Type 0} (o : Option Metric) → ((m : Metric) → P m → Q m) → ((m : Metric) → Q m → P m) → IsLeastMetric P o → IsLeastMetric Q o
-least_same None to from h = λ m q. h m (from m q)
-least_same (Some m) to from h = (to m h.0, λ n q. h.1 n (from n q))
+least_same o to from h = grind (arith, common_steps)
 
 -- of some metrics and more, from the least of the some
 pub least_joined : (P N : Metric → Type 0) (o best : Option Metric) → IsLeastMetric P o → IsLeastMetric (λ m. (o ≡ Some m) ⊎ N m) best → IsLeastMetric (λ m. P m ⊎ N m) best
 least_joined P N None None h k = λ m either. elim either [ inl p ↦ h m p | inr n ↦ k m (inr n) ]
 least_joined P N (Some x) None h k = absurd (k x (inl refl))
-least_joined P N None (Some b) h k = (
-  elim k.0 [ inl e ↦ absurd cc | inr n ↦ inr n ],
-  λ m either. elim either [ inl p ↦ absurd (h m p) | inr n ↦ k.1 m (inr n) ],
-)
-least_joined P N (Some x) (Some b) h k = (
-  elim k.0 [ inl e ↦ let same : x ≡ b = cc in inl (subst P same h.0) | inr n ↦ inr n ],
-  λ m either. elim either [ inl p ↦ let low : metric_value x ≤ metric_value m = h.1 m p in let lower : metric_value b ≤ metric_value x = k.1 x (inl refl) in omega arith | inr n ↦ k.1 m (inr n) ],
-)
+least_joined P N None (Some b) h k = grind (arith, common_steps)
+least_joined P N (Some x) (Some b) h k = grind (arith, common_steps, metric_value)
 
 -- ---- all that notes tell
 

@@ -1,5 +1,5 @@
 -- A base whose entries are changed place by place, each in its way.
-use Rattle.mesh_nbrs.proofs.Common.{◌≡◌, ℕ, ◌+◌, ◌<◌, ◌≤◌, inl, inr, Bool, true, false, cond, List, [], ◌∷◌, length, Option, Some, None, refl, sym, subst, ap, ◌∙◌, arith, zero, suc, slice_get, slice_set, option_map, IsEquivalence, cases_lt, lookup_from_place, Base, find, HasDistinctKeys, changed_at, walked, find-changed_at, changed_at-place, distinct-changed_at, length-changed_at}
+use Rattle.mesh_nbrs.proofs.Common.{common_steps, ◌≡◌, ℕ, ◌+◌, ◌<◌, ◌≤◌, inl, inr, Bool, true, cond, List, [], ◌∷◌, length, Option, Some, None, refl, sym, subst, ap, ◌∙◌, arith, zero, suc, slice_get, slice_set, option_map, IsEquivalence, cases_lt, lookup_from_place, Base, find, HasDistinctKeys, changed_at, walked, find-changed_at, changed_at-place, distinct-changed_at, length-changed_at}
 use Rattle.mesh_atoms.proofs.Lists.{set_here}
 
 -- the entries before a place are changed as they may be, and the others are as they were
@@ -18,17 +18,12 @@ other_place (x ∷ xs) (suc i) zero y apart = refl
 other_place (x ∷ xs) (suc i) (suc k) y apart = other_place xs i k y (λ e. apart (ap suc e))
 
 was_none : {A : Type 0} (b : Bool) (o : Option A) (f : A → A) → cond b (option_map f o) o ≡ None → o ≡ None
-was_none b None f h = refl
-was_none true (Some x) f h = absurd cc
-was_none false (Some x) f h = absurd cc
+was_none b o f h = grind (arith, common_steps)
 
 -- two changes of a key are one
 pub changed_at-twice : {K V : Type 0} (eq : K → K → Bool) (key : K) (f g : V × ℕ → V × ℕ) (base : Base K V) → changed_at eq (changed_at eq base key f) key g ≡ changed_at eq base key (λ e. g (f e))
 changed_at-twice eq key f g [] = refl
-changed_at-twice {K} {V} eq key f g (e ∷ es) = rw (changed_at-twice eq key f g es) (ap (λ (x : V × ℕ). (e.0, x) ∷ changed_at eq es key (λ e. g (f e))) (both (eq key e.0))) where
-  both : (b : Bool) → cond b (g (cond b (f e.1) e.1)) (cond b (f e.1) e.1) ≡ cond b (g (f e.1)) e.1
-  both true = refl
-  both false = refl
+changed_at-twice {K} {V} eq key f g (e ∷ es) = grind (arith, common_steps, (changed_at-twice eq key f g es))
 
 -- before the walk
 pub walk_begins : {K V : Type 0} {eq : K → K → Bool} (May : V × ℕ → V × ℕ → Type 0) (before : Base K V) → IsEquivalence eq → HasDistinctKeys eq before → IsWalked eq May before before 0

@@ -1,6 +1,5 @@
 -- A link that is as its quality has it stays so, whatever else of it changes.
-use Rattle.mesh_nhdp.proofs.Common.{◌≡◌, ℕ, ◌+◌, min, arith, refl, sym, ◌∙◌, ap, subst, Option, Some, None, Bool, true, false, cond, not, nat_le, nat_lt, ◌&&◌, ◌||◌, false≢true, lt-ltb, ltb-true, leb-true, leb-false, Admit, Shown, LinkStatus, Symmetric, Heard, RouterSettings, Link, is_symmetric, quality_at, admitted, rule_of, admit_on, trimmed, made, by_status, renewed, same_some, none_not}
-use Rattle.mesh_atoms.specs.declared.hello.LinkStatus.TheVariants.{Lost as Down}
+use Rattle.mesh_nhdp.proofs.Common.{common_steps, ◌≡◌, ℕ, ◌+◌, min, arith, refl, sym, ◌∙◌, ap, subst, Option, Some, None, Bool, true, false, cond, not, nat_le, nat_lt, ◌&&◌, ◌||◌, false≢true, Admit, Shown, LinkStatus, RouterSettings, Link, quality_at, admitted, rule_of, admit_on, trimmed, made, by_status, renewed, same_some, none_not}
 
 -- What quality asks of a link
 
@@ -14,18 +13,13 @@ abbrev pub FollowsQuality : Admit → ℕ → Link → Type 0
 FollowsQuality rule now link = HasQuality rule (quality_at rule link.addrs now) link
 
 or_true : (b : Bool) → (b || true) ≡ true
-or_true true = refl
-or_true false = refl
+or_true b = grind (arith, common_steps)
 
 not_rejected : (low out : Bool) → (low && not out) ≡ false → low ≡ true → out ≡ true
-not_rejected true true h k = refl
-not_rejected true false h k = absurd (false≢true (sym h))
-not_rejected false out h k = absurd (false≢true k)
+not_rejected low out h k = grind (arith, common_steps)
 
 is_out : (low out : Bool) → (low && not out) ≡ true → (low ≡ true) × (out ≡ false)
-is_out true true h = absurd (false≢true h)
-is_out true false h = (refl, refl)
-is_out false out h = absurd (false≢true h)
+is_out low out h = grind (arith, common_steps)
 
 -- what quality makes of a link has what it asks
 pub admitted_follows : (rule : Admit) (hold now : ℕ) (e : Link × ℕ) → FollowsQuality rule now (admitted rule hold now e).0
@@ -45,32 +39,15 @@ admitted_follows rule hold now e = by_case (quality_at rule e.0.addrs now) refl 
   }
 
 not_below : (q accept : ℕ) → nat_le accept q ≡ true → nat_lt q accept ≡ false
-not_below q accept h = by_case (nat_lt q accept) refl where
-  by_case : (b : Bool) → nat_lt q accept ≡ b → b ≡ false
-  by_case true is = let low = ltb-true q accept is in let high = leb-true accept q h in absurd (omega (arith, low, high))
-  by_case false is = refl
+not_below q accept h = grind (arith, common_steps)
 
 -- a made link has it too
 pub made_follows : (rule : Admit) (shown : Shown) (now : ℕ) → FollowsQuality rule now (made rule shown now).0
-made_follows rule shown now =
-    let quality = quality_at rule shown.sending now in
-    record {
-      quality_is = refl;
-      accepted = λ h. (not_below quality rule.accept h, refl);
-      rejected = λ h low. ap (λ (x : Bool). x || false) (lt-ltb quality rule.accept (leb-false rule.accept quality h));
-    }
-
-written : (link : Link) (q : ℕ) (p l : Bool) → link.quality ≡ q → link.pending ≡ p → link.lost ≡ l → record link { quality = q; pending = p; lost = l } ≡ link
-written link q p l is_q is_p is_l = rw (← is_q, ← is_p, ← is_l) refl
+made_follows rule shown now = grind (arith, common_steps, not_below)
 
 -- of a link that has what it asks quality makes nothing else
 pub admitted_again : (rule : Admit) (hold now : ℕ) (e : Link × ℕ) → FollowsQuality rule now e.0 → admitted rule hold now e ≡ e
-admitted_again rule hold now e h = by_case (nat_le rule.accept (quality_at rule e.0.addrs now)) (nat_lt (quality_at rule e.0.addrs now) rule.reject && not (e.0.pending || e.0.lost)) refl refl where
-  by_case : (b c : Bool) → nat_le rule.accept (quality_at rule e.0.addrs now) ≡ b → (nat_lt (quality_at rule e.0.addrs now) rule.reject && not (e.0.pending || e.0.lost)) ≡ c
-      → cond b (record e.0 { quality = quality_at rule e.0.addrs now; pending = false; lost = false }, e.1) (cond c (record e.0 { quality = quality_at rule e.0.addrs now; lost = true }, min e.1 (now + hold)) (record e.0 { quality = quality_at rule e.0.addrs now }, e.1)) ≡ e
-  by_case true c accept out = let (p, l) = h.accepted accept in ap (λ (link : Link). (link, e.1)) (written e.0 (quality_at rule e.0.addrs now) false false h.quality_is p l)
-  by_case false true accept out = let (low, not_out) = is_out (nat_lt (quality_at rule e.0.addrs now) rule.reject) (e.0.pending || e.0.lost) out in absurd (false≢true (sym not_out ∙ h.rejected accept low))
-  by_case false false accept out = ap (λ (link : Link). (link, e.1)) (written e.0 (quality_at rule e.0.addrs now) e.0.pending e.0.lost h.quality_is refl refl)
+admitted_again rule hold now e h = grind (arith, common_steps, is_out)
 
 pub follows_same : (rule : Admit) (hold now : ℕ) (e : Link × ℕ) → admitted rule hold now e ≡ e → FollowsQuality rule now e.0
 follows_same rule hold now e is = subst (λ (x : Link × ℕ). FollowsQuality rule now x.0) is (admitted_follows rule hold now e)
@@ -88,45 +65,26 @@ pub alike_twice : (a b c : Link) → IsAlike a b → IsAlike b c → IsAlike a c
 alike_twice a b c p q = record { addrs = q.addrs ∙ p.addrs; quality = q.quality ∙ p.quality; pending = q.pending ∙ p.pending; lost = q.lost ∙ p.lost }
 
 pub trimmed_alike : (now : ℕ) (e : Link × ℕ) → IsAlike e.0 (trimmed now e).0
-trimmed_alike now e = by_case (is_symmetric e.0 now) where
-  by_case : (b : Bool) → IsAlike e.0 (cond b e (record e.0 { link_out = None; selector = false }, e.1)).0
-  by_case true = record { addrs = refl; quality = refl; pending = refl; lost = refl }
-  by_case false = record { addrs = refl; quality = refl; pending = refl; lost = refl }
+trimmed_alike now e = grind (arith, common_steps)
 
 status_alike : (shown : Shown) (hold now : ℕ) (status : Option LinkStatus) (e : Link × ℕ) → IsAlike e.0 (by_status shown hold now status e).0
-status_alike shown hold now None e = record { addrs = refl; quality = refl; pending = refl; lost = refl }
-status_alike shown hold now (Some Down) e = record { addrs = refl; quality = refl; pending = refl; lost = refl }
-status_alike shown hold now (Some Symmetric) e = record { addrs = refl; quality = refl; pending = refl; lost = refl }
-status_alike shown hold now (Some Heard) e = record { addrs = refl; quality = refl; pending = refl; lost = refl }
+status_alike shown hold now status e = grind (arith, common_steps)
 
 pub renewed_alike : (shown : Shown) (hold now : ℕ) (e : Link × ℕ) → IsAlike e.0 (renewed shown hold now e).0
-renewed_alike shown hold now e =
-    let f : Link × ℕ = by_status shown hold now shown.status e in
-    let both = alike_twice e.0 f.0 (trimmed now f).0 (status_alike shown hold now shown.status e) (trimmed_alike now f) in
-    record { addrs = both.addrs; quality = both.quality; pending = both.pending; lost = both.lost }
+renewed_alike shown hold now e = grind (arith, common_steps, alike_twice, status_alike, trimmed_alike)
 
 pub follows_alike : (rule : Admit) (now : ℕ) (a b : Link) → IsAlike a b → FollowsQuality rule now a → FollowsQuality rule now b
-follows_alike rule now a b like h =
-    let same : quality_at rule b.addrs now ≡ quality_at rule a.addrs now = ap (λ l. quality_at rule l now) like.addrs in
-    record {
-      quality_is = like.quality ∙ (h.quality_is ∙ sym same);
-      accepted = λ k. let (p, l) = h.accepted (ap (λ (n : ℕ). nat_le rule.accept n) (sym same) ∙ k) in (like.pending ∙ p, like.lost ∙ l);
-      rejected = λ k low. ap (λ (x : Bool). x || b.lost) like.pending ∙ (ap (λ (x : Bool). a.pending || x) like.lost ∙ h.rejected (ap (λ (n : ℕ). nat_le rule.accept n) (sym same) ∙ k) (ap (λ (n : ℕ). nat_lt n rule.reject) (sym same) ∙ low));
-    }
+follows_alike rule now a b like h = grind (arith, common_steps)
 
 -- The links of an interface
 
 -- links that have what quality asks stay as they are
 pub admit_stays : (settings : RouterSettings) (i now : ℕ) (o : Option (Link × ℕ)) → ((e : Link × ℕ) → o ≡ Some e → FollowsQuality (rule_of settings i) now e.0) → admit_on settings i now o ≡ o
-admit_stays settings i now None follows = refl
-admit_stays settings i now (Some e) follows = ap (λ (x : Link × ℕ). Some x) (admitted_again (rule_of settings i) settings.times.link_hold now e (follows e refl))
+admit_stays settings i now o follows = grind (arith, common_steps, admitted_again)
 
 -- and those that stay have it
 pub follows_if_stays : (settings : RouterSettings) (i now : ℕ) (o : Option (Link × ℕ)) (e : Link × ℕ) → admit_on settings i now o ≡ o → o ≡ Some e → FollowsQuality (rule_of settings i) now e.0
-follows_if_stays settings i now None e stays at = none_not refl at
-follows_if_stays settings i now (Some f) e stays at =
-    let h : FollowsQuality (rule_of settings i) now f.0 = follows_same (rule_of settings i) settings.times.link_hold now f (sym (same_some stays refl)) in
-    subst (λ (x : Link × ℕ). FollowsQuality (rule_of settings i) now x.0) (same_some refl at) h
+follows_if_stays settings i now o e stays at = grind (arith, common_steps, none_not, follows_same, same_some)
 
 -- what a link was before
 pub admit_from : (settings : RouterSettings) (i now : ℕ) (o : Option (Link × ℕ)) (e : Link × ℕ) → admit_on settings i now o ≡ Some e → (f : Link × ℕ) × (o ≡ Some f) × (e ≡ admitted (rule_of settings i) settings.times.link_hold now f)

@@ -1,5 +1,5 @@
 -- The 2-hop tuples that are expired go, interface by interface.
-use Rattle.mesh_nhdp.proofs.Common.{◌≡◌, ℕ, zero, suc, ◌+◌, ◌<◌, ◌≤◌, inl, inr, refl, sym, ◌∙◌, ap, subst, arith, List, [], length, Bool, true, false, nat_eq, slice_set, ◌&&◌, cases_lt, eqb-true, eqb-false, and_parts as both_so, length-set, set-get_or, TwoHopKey, TwoHop, Base, HasDistinctKeys, Expires, base_of, two_hop_eq}
+use Rattle.mesh_nhdp.proofs.Common.{common_steps, ◌≡◌, ℕ, ◌+◌, ◌<◌, ◌≤◌, sym, ◌∙◌, subst, arith, List, length, Bool, true, false, nat_eq, slice_set, ◌&&◌, TwoHopKey, TwoHop, Base, HasDistinctKeys, Expires, base_of, two_hop_eq}
 use Rattle.mesh_nhdp.proofs.AllHears.{written_same, written_other}
 
 pub record GoesOver (now : ℕ) (first sets : List (Base TwoHopKey TwoHop)) (same : Bool) (i : ℕ) : Type 0 where
@@ -11,13 +11,10 @@ pub record GoesOver (now : ℕ) (first sets : List (Base TwoHopKey TwoHop)) (sam
   pub changed : same ≡ false → (k : ℕ) × (k < i) × (length (base_of sets k) < length (base_of first k))
 
 some_of : (n : ℕ) → (n ≡ 0 → ⊥) → 0 < n
-some_of zero not = absurd (not refl)
-some_of (suc n) not = omega arith
+some_of n not = grind (arith, common_steps)
 
 pub some_gone : (first same : Bool) (gone : ℕ) → same ≡ (first && nat_eq gone 0) → first ≡ true → same ≡ false → 0 < gone
-some_gone first same gone is at h =
-    let zero_not : nat_eq gone 0 ≡ false = ap (λ (x : Bool). x && nat_eq gone 0) (sym at) ∙ (sym is ∙ h) in
-    some_of gone (eqb-false gone 0 zero_not)
+some_gone first same gone is at h = grind (arith, common_steps, some_of)
 
 module _ (now : ℕ) (first sets : List (Base TwoHopKey TwoHop)) (was after : Base TwoHopKey TwoHop) (same next : Bool) (gone i : ℕ) (G : GoesOver now first sets same i) (within : i < length sets) (here : base_of sets i ≡ was)
     (expires : Expires two_hop_eq now was after) (distinct : HasDistinctKeys two_hop_eq after) (count : gone + length after ≡ length was) (none : gone ≡ 0 → after ≡ was) (is : next ≡ (same && nat_eq gone 0)) where
@@ -25,28 +22,13 @@ module _ (now : ℕ) (first sets : List (Base TwoHopKey TwoHop)) (was after : Ba
   was_first = sym here ∙ G.left i (omega arith)
 
   one_more_done : (k : ℕ) → k < i + 1 → Expires two_hop_eq now (base_of first k) (base_of (slice_set sets i after) k)
-  one_more_done k lt = elim (cases_lt k i) [
-    | inl less ↦ subst (λ (b : Base TwoHopKey TwoHop). Expires two_hop_eq now (base_of first k) b) (sym (written_other sets i k after (λ e. omega (arith, e, less)))) (G.done k less)
-    | inr past ↦
-        let at : i ≡ k = omega (arith, past, lt) in
-        subst (λ (n : ℕ). Expires two_hop_eq now (base_of first n) (base_of (slice_set sets i after) n)) at
-        (subst (λ (b : Base TwoHopKey TwoHop). Expires two_hop_eq now (base_of first i) b) (sym (written_same sets i after within))
-        (subst (λ (b : Base TwoHopKey TwoHop). Expires two_hop_eq now b after) was_first expires))
-  ]
+  one_more_done k lt = grind (arith, common_steps, written_other, written_same, was_first)
 
   one_more_distinct : (k : ℕ) → k < i + 1 → HasDistinctKeys two_hop_eq (base_of (slice_set sets i after) k)
-  one_more_distinct k lt = elim (cases_lt k i) [
-    | inl less ↦ subst (λ (b : Base TwoHopKey TwoHop). HasDistinctKeys two_hop_eq b) (sym (written_other sets i k after (λ e. omega (arith, e, less)))) (G.distinct k less)
-    | inr past ↦
-        let at : i ≡ k = omega (arith, past, lt) in
-        subst (λ (n : ℕ). HasDistinctKeys two_hop_eq (base_of (slice_set sets i after) n)) at (subst (λ (b : Base TwoHopKey TwoHop). HasDistinctKeys two_hop_eq b) (sym (written_same sets i after within)) distinct)
-  ]
+  one_more_distinct k lt = grind (arith, common_steps, written_other, written_same)
 
   still_same : next ≡ true → slice_set sets i after ≡ first
-  still_same h =
-      let both = both_so same (nat_eq gone 0) (sym is ∙ h) in
-      let stands : after ≡ base_of sets i = none (eqb-true gone 0 both.1) ∙ sym here in
-      ap (λ (b : Base TwoHopKey TwoHop). slice_set sets i b) stands ∙ (set-get_or sets i [] ∙ G.unchanged both.0)
+  still_same h = grind (arith, common_steps)
 
   has_changed : (b : Bool) → same ≡ b → next ≡ false → (k : ℕ) × (k < i + 1) × (length (base_of (slice_set sets i after) k) < length (base_of first k))
   has_changed false at h =
@@ -61,11 +43,4 @@ module _ (now : ℕ) (first sets : List (Base TwoHopKey TwoHop)) (was after : Ba
       )
 
   pub goes_over_one : GoesOver now first (slice_set sets i after) next (i + 1)
-  goes_over_one = record {
-    lengths = length-set sets i after ∙ G.lengths;
-    done = one_more_done;
-    distinct = one_more_distinct;
-    left = λ k past. written_other sets i k after (λ e. omega (arith, e, past)) ∙ G.left k (omega (arith, past));
-    unchanged = still_same;
-    changed = has_changed same refl;
-  }
+  goes_over_one = grind (arith, common_steps, one_more_done, one_more_distinct, still_same, has_changed)

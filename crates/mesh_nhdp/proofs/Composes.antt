@@ -1,5 +1,5 @@
 -- The calls of the sets, one after the other, are expiry and the taking of a HELLO.
-use Rattle.mesh_nhdp.proofs.Common.{◌≡◌, ℕ, zero, suc, ◌<◌, ◌≢◌, ◌⊎◌, ◌↔◌, inl, inr, refl, sym, ◌∙◌, ap, subst, arith, List, [], ◌∷◌, length, Contains, slice_index_or, Option, Some, None, true, Addr4, Admit, LinkKey, LinkNote, Link, Neighbour, Lost, Base, base_of, find, link_eq, addr_eq, Neighbourhood, is_symmetric, HasLinkOf, HasSymmetricOf, IsByLinks, Restores, SettlesLost, Back, Gone, Stays, IsKept, IsBeyond, Meets, Told, GoesOn, IsApart, IsTheirs, LinkKeptOrMade, Stood, Made, renewed, Matches, announced, BecomesOther, Joins, Remains, EndsOutside, HearsOn, HasNote, HasSymmetricNote, IsByNotes, RestoresBy, Replaces, note_of, TellsLinks, TellsLinksOf, same_some, none_not, contains_or_not, kept_from, least_same}
+use Rattle.mesh_nhdp.proofs.Common.{common_steps, ◌≡◌, ℕ, zero, suc, ◌<◌, ◌≢◌, ◌⊎◌, ◌↔◌, inl, inr, refl, sym, ◌∙◌, ap, subst, arith, List, [], ◌∷◌, length, Contains, slice_index_or, Option, Some, None, true, Addr4, Admit, LinkKey, LinkNote, Link, Neighbour, Lost, Base, base_of, find, link_eq, addr_eq, Neighbourhood, is_symmetric, HasLinkOf, HasSymmetricOf, IsByLinks, Restores, SettlesLost, IsKept, IsBeyond, Meets, Told, GoesOn, IsApart, IsTheirs, LinkKeptOrMade, Stood, Made, renewed, Matches, announced, BecomesOther, Joins, Remains, EndsOutside, HearsOn, HasNote, HasSymmetricNote, IsByNotes, RestoresBy, Replaces, note_of, TellsLinks, TellsLinksOf, same_some, none_not, contains_or_not, kept_from, least_same}
 
 -- Neighbours: by the notes of all links is by the links
 
@@ -62,34 +62,15 @@ restores_of near now addrs notes T old new = restores_so near now notes (λ xs. 
 
 pub settles_by : {was is : Type 0} {until : ℕ} {stood new : Option (Lost × ℕ)} (P Q : Type 0) → (was → P) → (P → was) → (is → Q) → (Q → is) →
     SettlesLost was is until stood new → SettlesLost P Q until stood new
-settles_by P Q to from on off (Back i e) = Back (on i) e
-settles_by P Q to from on off (Gone w not_is e) = Gone (to w) (λ q. not_is (off q)) e
-settles_by P Q to from on off (Stays not_was not_is e) = Stays (λ p. not_was (from p)) (λ q. not_is (off q)) e
+settles_by P Q to from on off h6 = grind (arith, common_steps)
 
 -- What is kept twice
 
 pub kept_iff : {A : Type 0} (P Q : A → Type 0) → ((e : A) → P e → Q e) → ((e : A) → Q e → P e) → (old new : Option A) → IsKept P old new → IsKept Q old new
-kept_iff P Q to from None new k = k
-kept_iff P Q to from (Some e) new (inl k) = inl (to e k.0, k.1)
-kept_iff P Q to from (Some e) new (inr k) = inr (λ q. k.0 (from e q), k.1)
+kept_iff P Q to from old new k = grind (arith, common_steps)
 
 pub kept_twice : {A : Type 0} (P Q : A → Type 0) (old mid new : Option A) → IsKept P old mid → IsKept Q mid new → IsKept (λ e. P e × Q e) old new
-kept_twice P Q None mid new k l = none_kept Q mid new k l
-  where
-    none_kept : {A : Type 0} (Q : A → Type 0) (mid new : Option A) → mid ≡ None → IsKept Q mid new → new ≡ None
-    none_kept Q None new e l = l
-    none_kept Q (Some f) new e l = none_not e refl
-kept_twice {A} P Q (Some e) mid new (inl k) l = again mid k.1 l
-  where
-    again : (mid : Option A) → mid ≡ Some e → IsKept Q mid new → IsKept (λ e. P e × Q e) (Some e) new
-    again None at l = none_not refl at
-    again (Some f) at (inl l) = let same : f ≡ e = same_some refl at in inl ((k.0, subst Q same l.0), l.1 ∙ at)
-    again (Some f) at (inr l) = let same : f ≡ e = same_some refl at in inr (λ both. l.0 (subst Q (sym same) both.1), l.1)
-kept_twice {A} P Q (Some e) mid new (inr k) l = none_kept mid k.1 l
-  where
-    none_kept : (mid : Option A) → mid ≡ None → IsKept Q mid new → IsKept (λ e. P e × Q e) (Some e) new
-    none_kept None at l = inr (λ both. k.0 both.0, l)
-    none_kept (Some f) at l = none_not at refl
+kept_twice P Q old mid new k l = grind (arith, common_steps, none_not, same_some)
 
 -- Links: `end_outside` on every interface, and `hear` on the one
 
@@ -141,8 +122,7 @@ module _ (near : Neighbourhood) (told : Told) (theirs : List Addr4) (is_theirs :
 -- Neighbours: `replace`, and then `expire` by the notes of the new links
 
 pub restores_at : (near : Neighbourhood) (now : ℕ) (n : Neighbour) (u v : ℕ) (new : Option (Neighbour × ℕ)) → Restores near now (Some (n, u)) new → Restores near now (Some (n, v)) new
-restores_at near now n u v None r = r
-restores_at near now n u v (Some f) r = r
+restores_at near now n u v new r = grind (arith, common_steps)
 
 meets_or_not : (xs ys : List Addr4) → Meets xs ys ⊎ (Meets xs ys → ⊥)
 meets_or_not [] ys = inr (λ m. absurd (omega (arith, m.1.1)))
@@ -161,8 +141,7 @@ meets_or_not (x ∷ xs) ys = elim (contains_or_not ys x) [
 pub replaced_other : (near : Neighbourhood) (now : ℕ) (told : Told) (o : Addr4) (old mid new : Option (Neighbour × ℕ)) → o ≢ told.originator →
     IsKept (λ e. Matches told.originator told.listed o e.0 → ⊥) old mid → Restores near now mid new → BecomesOther near now told o old new
 replaced_other near now told o None mid new other k r = Remains (λ e at m. none_not refl at) (subst (λ (x : Option (Neighbour × ℕ)). Restores near now x new) k r)
-replaced_other near now told o (Some e) mid new other (inl k) r =
-    Remains (λ f at m. k.0 (subst (λ (x : Neighbour × ℕ). Matches told.originator told.listed o x.0) (same_some at refl) m)) (subst (λ (x : Option (Neighbour × ℕ)). Restores near now x new) k.1 r)
+replaced_other near now told o (Some e) mid new other (inl k) r = grind (arith, common_steps, same_some)
 replaced_other near now told o (Some e) mid new other (inr k) r = elim (meets_or_not e.0.addrs told.listed) [
   | inl meets ↦ Joins e refl (inr meets) (gone mid k.1 r)
   | inr none ↦ absurd (k.0 (λ m. elim m [ inl same ↦ other same | inr meets ↦ none meets ]))
@@ -174,5 +153,4 @@ replaced_other near now told o (Some e) mid new other (inr k) r = elim (meets_or
 
 pub replaced_one : (near : Neighbourhood) (now until : ℕ) (told : Told) (old mid : Base Addr4 Neighbour) (new : Option (Neighbour × ℕ)) → Replaces told.originator told.listed told.willing told.routing until old mid →
     Restores near now (find addr_eq mid told.originator) new → Restores near now (Some (announced told.listed told.willing told.routing, 0)) new
-replaced_one near now until told old mid new r restores =
-    restores_at near now (announced told.listed told.willing told.routing) until 0 new (subst (λ (x : Option (Neighbour × ℕ)). Restores near now x new) r.one restores)
+replaced_one near now until told old mid new r restores = grind (arith, common_steps, restores_at)

@@ -1,5 +1,5 @@
 -- When values are the same.
-use Rattle.mesh_nhdp.proofs.Common.{◌≡◌, ℕ, Bool, refl, sym, ap, subst, eqb, Option, Some, None, Decides, false≢true, Addr4, Metric}
+use Rattle.mesh_nhdp.proofs.Common.{arith, common_steps, ◌≡◌, ℕ, Bool, ap, eqb, Option, Decides, Addr4, Metric}
 use Rattle.std.specs.Option.{option_eq}
 use Rattle.std.proofs.lemmas.Bool.Decides.{Decides-eqb}
 use Rattle.mesh_atoms.proofs.Rows.{metrics}
@@ -9,10 +9,4 @@ addrs a b = (λ h. ap (λ (n : ℕ). let x : Addr4 = record { 0 = n } in x) ((De
 
 -- metrics that may be unknown
 pub known_metrics : (a b : Option Metric) (r : Bool) → r ≡ option_eq (λ (m n : Metric). eqb m.code n.code) a b → Decides r (a ≡ b)
-known_metrics a b r is = subst (λ (x : Bool). Decides x (a ≡ b)) (sym is) (options a b)
-  where
-    options : (a b : Option Metric) → Decides (option_eq (λ (m n : Metric). eqb m.code n.code) a b) (a ≡ b)
-    options None None = (λ _. refl, λ _. refl)
-    options None (Some y) = (λ e. absurd (false≢true e), λ e. absurd (cc))
-    options (Some x) None = (λ e. absurd (false≢true e), λ e. absurd (cc))
-    options (Some x) (Some y) = (λ e. ap (λ (z : Metric). Some z) ((metrics x y).0 e), λ e. let f : x ≡ y = cc in (metrics x y).1 f)
+known_metrics a b r is = grind (arith, common_steps, metrics)

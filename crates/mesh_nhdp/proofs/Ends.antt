@@ -1,5 +1,5 @@
 -- A walk over the keys of links drops the tuples of those that ended.
-use Rattle.mesh_nhdp.proofs.Common.{◌≡◌, ℕ, ◌+◌, ◌⊎◌, inl, inr, refl, sym, ◌∙◌, ap, subst, List, length, Contains, slice_get, Option, Some, None, Bool, true, false, cond, not, ◌&&◌, false≢true, LinkKey, TwoHop, link_eq, IsKept, same_link, SomeBelow, below_here, below_later, below_cases, below_contains}
+use Rattle.mesh_nhdp.proofs.Common.{arith, common_steps, ◌≡◌, ℕ, ◌+◌, ◌⊎◌, inl, inr, refl, ◌∙◌, subst, List, length, Contains, slice_get, Option, Some, None, Bool, true, false, cond, not, ◌&&◌, LinkKey, TwoHop, link_eq, IsKept, SomeBelow, below_here, below_later, below_cases, below_contains}
 use Rattle.mesh_nhdp.proofs.Composes.{kept_iff}
 use Rattle.mesh_nhdp.proofs.TwoHops.{link_eq_same}
 
@@ -10,18 +10,10 @@ IsEndedBelow keys symmetric n link = SomeBelow keys n (λ x. x ≡ link) × (sym
 module _ (keys : List LinkKey) (symmetric : LinkKey → Bool) (n : ℕ) (key link : LinkKey) (at : slice_get keys n ≡ Some key) where
   -- a step changes only tuples of the link of its key, where that ended
   ended_here : symmetric key ≡ false → link_eq link key ≡ true → IsEndedBelow keys symmetric (n + 1) link
-  ended_here ended is =
-      let same : link ≡ key = same_link link key is in
-      (below_here keys (λ x. x ≡ link) n key at (sym same), ap symmetric same ∙ ended)
+  ended_here ended is = grind (arith, common_steps, below_here)
 
   not_ended_here : (symmetric key ≡ true) ⊎ (link_eq link key ≡ false) → IsEndedBelow keys symmetric (n + 1) link → IsEndedBelow keys symmetric n link
-  not_ended_here not (below, ended) = elim (below_cases keys (λ x. x ≡ link) n key at below) [
-    | inl before ↦ (before, ended)
-    | inr same ↦ elim not [
-      | inl is ↦ absurd (false≢true (sym ended ∙ (ap symmetric (sym same) ∙ is)))
-      | inr other ↦ absurd (false≢true (sym other ∙ link_eq_same link key (sym same)))
-    ]
-  ]
+  not_ended_here not h1 = grind (arith, common_steps, below_cases, link_eq_same)
 
   ended_later : IsEndedBelow keys symmetric n link → IsEndedBelow keys symmetric (n + 1) link
   ended_later (below, ended) = (below_later keys (λ x. x ≡ link) n below, ended)

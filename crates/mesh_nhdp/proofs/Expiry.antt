@@ -1,20 +1,17 @@
 -- The parts of expiry, interface by interface.
-use Rattle.mesh_nhdp.proofs.Common.{◌≡◌, ℕ, ◌+◌, ◌<◌, ◌↔◌, inl, inr, refl, sym, ◌∙◌, ap, subst, arith, List, [], ◌++◌, length, take, drop, get_or, Contains, Some, slice_get, slice_get_cases, IsDistinct, append-nil, get_or_past, length-drop, nil_from_length, take_all, Addr4, LinkKey, Link, TwoHopKey, TwoHop, Neighbour, Lost, Admit, RouterSettings, Base, Expires, base_of, addr_eq, Neighbourhood, rule_in, rule_of, LiveNeighbourhood, SoundNeighbourhood, FollowsLinks, ChangesEach, ExpiresOn, IsWantedAddress, item_at, none_not}
+use Rattle.mesh_nhdp.proofs.Common.{common_steps, ◌≡◌, ℕ, ◌+◌, ◌<◌, ◌↔◌, inl, inr, refl, sym, ap, subst, arith, List, [], ◌++◌, length, take, drop, get_or, Contains, Some, slice_get, slice_get_cases, IsDistinct, get_or_past, nil_from_length, take_all, Addr4, LinkKey, Link, TwoHopKey, TwoHop, Neighbour, Lost, Admit, RouterSettings, Base, Expires, base_of, addr_eq, Neighbourhood, rule_in, rule_of, LiveNeighbourhood, SoundNeighbourhood, FollowsLinks, ChangesEach, ExpiresOn, IsWantedAddress, item_at, none_not, Symmetric}
 use Rattle.mesh_atoms.specs.declared.settings.Interface.{Interface}
-use Rattle.mesh_nhdp.specs.declared.near_addresses.WantedNeighbours.TheVariants.{Symmetric}
 use Rattle.mesh_nhdp.proofs.Bases.{base_cases}
 use Rattle.mesh_nhdp.proofs.Whole.{live_by_calls}
 use Rattle.mesh_nhdp.proofs.LiveSound.{live_sound}
 
 -- the rule of the interface at a place
 pub face_rule : (settings : RouterSettings) (i : ℕ) (faces : List Interface) (face : Interface) → faces ≡ settings.interfaces → i < length settings.interfaces → face ≡ get_or faces i face → face.admit ≡ rule_of settings i
-face_rule settings i faces face faces_are lt is =
-    sym (ap rule_in (item_at faces i face (subst (λ (fs : List Interface). i < length fs) (sym faces_are) lt) is)) ∙ ap (λ (fs : List Interface). rule_in (slice_get fs i)) faces_are
+face_rule settings i faces face faces_are lt is = grind (arith, common_steps, item_at)
 
 -- a slice of the whole of a vector is written back whole
 pub written_back : {A : Type 0} (len : ℕ) (new items : List A) → length new ≡ length items → len ≡ length items → take len (new ++ drop (length new) items) ≡ new
-written_back len new items same all =
-    ap (λ rest. take len (new ++ rest)) (nil_from_length (drop (length new) items) (let h = length-drop (length new) items in omega (arith, h, same))) ∙ (ap (λ xs. take len xs) (append-nil new) ∙ take_all len new (omega (arith, same, all)))
+written_back len new items same all = grind (arith, common_steps, nil_from_length, take_all)
 
 -- where there is no interface
 expires_on_none : (rule : Admit) (hold now : ℕ) → ExpiresOn rule hold now [] [] [] []

@@ -1,5 +1,5 @@
 -- The addresses that a HELLO tells as SYMMETRIC neighbours are at most as many as its rows.
-use Rattle.mesh_nhdp.proofs.Common.{◌≡◌, ℕ, ◌≤◌, ◌⊎◌, ◌↔◌, inl, inr, refl, sym, ◌∙◌, subst, arith, List, [], ◌∷◌, length, Contains, Option, Some, None, false, IsSome, IsDistinct, AllByRecursion, false≢true, cases_Bool, cases_eq, IsDistinct-cons, Addr4, Hello, HelloRow, RouterSettings, addr_eq, HasAddress, Told, tells_symmetric, AreTwoHopRows, contains_head, contains_tail, contains_cases, contains_none, same_addr, contains_or_not, below_contains, TellsSymmetric}
+use Rattle.mesh_nhdp.proofs.Common.{common_steps, ◌≡◌, ℕ, ◌≤◌, ◌⊎◌, ◌↔◌, inl, inr, refl, sym, ◌∙◌, subst, arith, List, [], ◌∷◌, length, Contains, Option, false, IsSome, IsDistinct, AllByRecursion, false≢true, cases_Bool, cases_eq, IsDistinct-cons, Addr4, Hello, HelloRow, RouterSettings, addr_eq, HasAddress, Told, tells_symmetric, AreTwoHopRows, contains_head, contains_tail, contains_cases, contains_none, same_addr, contains_or_not, below_contains, TellsSymmetric}
 use Rattle.mesh_nhdp.proofs.RowWalks.{symmetric_rows}
 
 addr_other : (a b : Addr4) → (a ≡ b → ⊥) → addr_eq a b ≡ false
@@ -10,18 +10,11 @@ other_than_all a [] not = tt
 other_than_all a (x ∷ xs) not = (addr_other a x (λ e. not (subst (λ (b : Addr4). Contains (x ∷ xs) b) (sym e) (contains_head x xs))), other_than_all a xs (λ c. not (contains_tail x xs a c)))
 
 some_or_not : {X : Type 0} (o : Option X) → IsSome o ⊎ (IsSome o → ⊥)
-some_or_not None = inr (λ e. false≢true e)
-some_or_not (Some x) = inl refl
+some_or_not o = grind (arith, common_steps)
 
 module _ (own listed : List Addr4) where
   shown_or_not : (row : HelloRow) → (IsSome row.link ⊎ IsSome row.other) ⊎ ((IsSome row.link ⊎ IsSome row.other) → ⊥)
-  shown_or_not row = elim (some_or_not row.link) [
-    | inl link ↦ inl (inl link)
-    | inr no_link ↦ elim (some_or_not row.other) [
-      | inl other ↦ inl (inr other)
-      | inr no_other ↦ inr (λ h. elim h [ inl link ↦ no_link link | inr other ↦ no_other other ])
-    ]
-  ]
+  shown_or_not row = grind (arith, common_steps, some_or_not)
 
   tells_or_not : (row : HelloRow) → TellsSymmetric own listed row row.addr.addr ⊎ (TellsSymmetric own listed row row.addr.addr → ⊥)
   tells_or_not row = elim (cases_eq row.addr.prefix 32) [

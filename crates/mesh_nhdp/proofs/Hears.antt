@@ -1,5 +1,5 @@
 -- The parts of the taking of a HELLO, interface by interface.
-use Rattle.mesh_nhdp.proofs.Common.{◌≡◌, ℕ, ◌+◌, ◌<◌, ◌≤◌, ◌≢◌, ◌⊎◌, ◌↔◌, inl, inr, refl, sym, ◌∙◌, ap, subst, arith, List, [], length, Contains, None, true, false, nat_eq, IsDistinct, get_or_past, cases_eq, ne_eqb, eq-eqb, Addr4, Hello, LinkKey, Link, TwoHopKey, TwoHop, Neighbour, Lost, RouterSettings, Base, HasDistinctKeys, find, base_of, link_eq, two_hop_eq, Neighbourhood, rule_of, Told, Tells, AfterHello, IsKept, IsFault, SoundNeighbourhood, EndsOutside, Replaces, key_at, DropsEnded, TellsTwoHops, is_symmetric_in, FollowsLinksOf, HearsAt, IsTheirs, contains_at}
+use Rattle.mesh_nhdp.proofs.Common.{common_steps, ◌≡◌, ℕ, ◌+◌, ◌<◌, ◌≤◌, ◌≢◌, ◌⊎◌, ◌↔◌, inl, inr, refl, ◌∙◌, ap, arith, List, [], length, Contains, None, true, false, nat_eq, IsDistinct, get_or_past, cases_eq, eq-eqb, Addr4, Hello, LinkKey, Link, TwoHopKey, TwoHop, Neighbour, Lost, RouterSettings, Base, HasDistinctKeys, find, base_of, link_eq, two_hop_eq, Neighbourhood, rule_of, Told, Tells, AfterHello, IsTheirs, IsFault, SoundNeighbourhood, EndsOutside, Replaces, key_at, DropsEnded, TellsTwoHops, is_symmetric_in, FollowsLinksOf, HearsAt, contains_at}
 use Rattle.mesh_nhdp.proofs.Bases.{base_cases}
 use Rattle.mesh_nhdp.proofs.Touched.{IsTheirSymmetric}
 use Rattle.mesh_nhdp.proofs.Whole.{Starts, hello_by_calls}
@@ -26,37 +26,20 @@ module _ (settings : RouterSettings) (now i : ℕ) (sender : Addr4) (told : Told
 
   links_distinct : (j : ℕ) → HasDistinctKeys link_eq (base_of links j)
   unfolding IsDistinct
-  links_distinct j = elim (base_cases links j) [
-    | inl there ↦ (each j (let lt = there.0 in omega (arith, lt, same))).distinct_links
-    | inr none ↦ subst (λ (b : Base LinkKey Link). HasDistinctKeys link_eq b) (sym none.1) tt
-  ]
+  links_distinct j = grind (arith, common_steps, base_cases)
 
   mids_distinct : (j : ℕ) → HasDistinctKeys two_hop_eq (base_of mids j)
   unfolding IsDistinct
-  mids_distinct j = elim (base_cases mids j) [
-    | inl there ↦ (each j (let lt = there.0 in let counts = S.interfaces in let counts_too = S.two_hop_interfaces in omega (arith, lt, same_mids, counts, counts_too))).distinct_two_hops
-    | inr none ↦ subst (λ (b : Base TwoHopKey TwoHop). HasDistinctKeys two_hop_eq b) (sym none.1) tt
-  ]
+  mids_distinct j = grind (arith, common_steps, base_cases)
 
   two_hops_distinct : (j : ℕ) → HasDistinctKeys two_hop_eq (base_of two_hops j)
-  two_hops_distinct j = elim (cases_eq j i) [
-    | inl at ↦ subst (λ (n : ℕ). HasDistinctKeys two_hop_eq (base_of two_hops n)) (sym at) distinct_here
-    | inr other ↦ subst (λ (b : Base TwoHopKey TwoHop). HasDistinctKeys two_hop_eq b) (sym (elsewhere j other)) (mids_distinct j)
-  ]
+  two_hops_distinct j = grind (arith, common_steps, cases_eq, mids_distinct)
 
   ends : (j : ℕ) → j ≢ i → EndsOutside theirs told.listed (base_of old.links j) (base_of links j)
-  ends j other = elim (base_cases old.links j) [
-    | inl there ↦ (each j there.0).elsewhere (ne_eqb j i other)
-    | inr none ↦ subst (λ (b : Base LinkKey Link). EndsOutside theirs told.listed b (base_of links j)) (sym none.1)
-        (subst (λ (b : Base LinkKey Link). EndsOutside theirs told.listed [] b) (sym (get_or_past links j [] (let beyond = none.0 in omega (arith, beyond, same)))) (ends_none theirs told.listed))
-  ]
+  ends j other = grind (arith, common_steps, base_cases, get_or_past, ends_none)
 
   no_drops : (j : ℕ) → length old.links ≤ j → DropsEnded keys (base_of links j) now (base_of old.two_hops j) (base_of mids j)
-  no_drops j beyond key =
-      let counts = S.interfaces in
-      let counts_too = S.two_hop_interfaces in
-      subst (λ (b : Base TwoHopKey TwoHop). IsKept (λ t. (Contains keys key.link × (is_symmetric_in (base_of links j) now key.link ≡ false)) → ⊥) (find two_hop_eq b key) (find two_hop_eq (base_of mids j) key)) (sym (get_or_past old.two_hops j [] (omega (arith, beyond, counts, counts_too))))
-      (ap (λ (b : Base TwoHopKey TwoHop). find two_hop_eq b key) (get_or_past mids j [] (omega (arith, beyond, counts, counts_too, same_mids))))
+  no_drops j beyond key = grind (arith, common_steps, get_or_past)
 
   drops : (j : ℕ) → DropsEnded keys (base_of links j) now (base_of old.two_hops j) (base_of mids j)
   drops j = elim (base_cases old.links j) [ inl there ↦ (each j there.0).two_hops | inr none ↦ no_drops j none.0 ]

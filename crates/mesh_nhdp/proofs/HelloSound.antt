@@ -1,6 +1,5 @@
 -- A HELLO keeps what holds of a neighbourhood.
-use Rattle.mesh_nhdp.proofs.Common.{◌≡◌, ℕ, ◌+◌, ◌<◌, ◌≤◌, ◌≢◌, ◌⊎◌, inl, inr, refl, sym, ◌∙◌, ap, subst, arith, List, length, Contains, slice_get, Option, Some, None, IsTrue, ◌++◌, ◌↔◌, length-append, Bool, true, false, cond, nat_lt, not, max, ◌&&◌, lt-ltb, cases_eq, ltb-true, Addr4, LinkKey, TwoHopKey, Link, TwoHop, Neighbour, Lost, Hello, Shown, HelloRow, This, Other, LinkStatus, Symmetric, Heard, RouterSettings, Base, find, base_of, two_hop_eq, Neighbourhood, is_symmetric, is_heard, link_at, two_hop_at, neighbour_at, lost_at, HasAddress, trimmed, KeepsNeighbour, is_symmetric_at, IsAscending, Told, Tells, IsListed, LooksAt, tells_symmetric, two_hop_of, AfterHello, LinkKeptOrMade, Stood, Made, renewed, by_status, by_hearing, GoesOn, Matches, announced, BecomesOther, Joins, Remains, StoodOn, Same_link, New_link, TellsTwoHop, By_row, By_none, IsHeld, IsFault, Local, Originator, Sender, IsFullOfAddresses, FitsTwoHops, SoundNeighbourhood, IsSoundLink, IsSoundNeighbour, two_hop_equiv, Admit, admit_on, rule_of, same_key, contains_at, same_some, cond_none_some, none_not, same_address, contains_or_not, kept_from}
-use Rattle.mesh_atoms.specs.declared.hello.LinkStatus.TheVariants.{Lost as Down}
+use Rattle.mesh_nhdp.proofs.Common.{common_steps, ◌≡◌, ℕ, ◌+◌, ◌<◌, ◌≤◌, ◌≢◌, ◌⊎◌, inl, inr, refl, sym, ◌∙◌, ap, subst, arith, List, length, Contains, slice_get, Option, Some, None, IsTrue, ◌++◌, ◌↔◌, length-append, Bool, true, false, cond, nat_lt, not, ◌&&◌, lt-ltb, cases_eq, ltb-true, Addr4, LinkKey, TwoHopKey, Link, TwoHop, Neighbour, Lost, Hello, Shown, HelloRow, This, Other, LinkStatus, RouterSettings, Base, find, base_of, two_hop_eq, Neighbourhood, is_symmetric, link_at, two_hop_at, neighbour_at, lost_at, HasAddress, KeepsNeighbour, is_symmetric_at, IsAscending, Told, Tells, IsListed, LooksAt, tells_symmetric, two_hop_of, AfterHello, LinkKeptOrMade, Stood, Made, renewed, by_status, GoesOn, Matches, announced, BecomesOther, Joins, Remains, StoodOn, Same_link, New_link, TellsTwoHop, By_row, By_none, IsHeld, IsFault, Local, Originator, Sender, IsFullOfAddresses, FitsTwoHops, SoundNeighbourhood, IsSoundLink, IsSoundNeighbour, two_hop_equiv, Admit, admit_on, rule_of, same_key, contains_at, same_some, cond_none_some, none_not, same_address, contains_or_not, kept_from}
 use Rattle.mesh_nhdp.proofs.Admitted.{FollowsQuality, IsAlike, made_follows, follows_alike, follows_if_stays, admit_stays, renewed_alike}
 use Rattle.mesh_nhdp.proofs.Limits.{no_more, found_left, found_right, entries_at, length_entries, found_entry}
 use Rattle.mesh_nhdp.proofs.LiveSound.{is_trimmed, restores_from, restores_to, settles_back, settles_from}
@@ -8,21 +7,10 @@ use Rattle.mesh_nhdp.proofs.LiveSound.{is_trimmed, restores_from, restores_to, s
 -- The link that the HELLO renews
 
 cond_later : (b : Bool) (now x y : ℕ) → now < x → now < y → now < cond b x y
-cond_later true now x y p q = p
-cond_later false now x y p q = q
+cond_later b now x y p q = grind (arith, common_steps)
 
 status_later : (shown : Shown) (hold now : ℕ) (status : Option LinkStatus) (e : Link × ℕ) → 0 < hold → now < e.1 → now < (by_status shown hold now status e).1
-status_later shown hold now None e holds later = later
-status_later shown hold now (Some Down) e holds later = cond_later (is_heard (record e.0 { sym = 0 }) now) now (now + hold) e.1 (omega (arith, holds)) later
-status_later shown hold now (Some Symmetric) e holds later = later
-status_later shown hold now (Some Heard) e holds later = later
-
-hearing_later : (shown : Shown) (hold now : ℕ) (e : Link × ℕ) → now < e.1 → now < (by_hearing shown hold now e).1
-hearing_later shown hold now e later =
-    let link : Link = record e.0 { heard = max (now + shown.validity) e.0.sym } in
-    cond_later link.pending now (max e.1 link.heard) _ (omega (arith, later))
-    (cond_later (is_symmetric link now) now (max e.1 (link.heard + hold)) _ (omega (arith, later))
-    (cond_later (is_heard link now) now (max e.1 (link.heard + hold)) e.1 (omega (arith, later)) later))
+status_later shown hold now status e holds later = grind (arith, common_steps, cond_later)
 
 -- what the renewed link is
 record IsRenewed (shown : Shown) (now : ℕ) (e r : Link × ℕ) : Type 0 where
@@ -32,19 +20,10 @@ record IsRenewed (shown : Shown) (now : ℕ) (e r : Link × ℕ) : Type 0 where
   pub selector : is_symmetric r.0 now ≡ false → r.0.selector ≡ false
 
 is_renewed : (shown : Shown) (hold now : ℕ) (e : Link × ℕ) → 0 < hold → IsRenewed shown now e (renewed shown hold now e)
-is_renewed shown hold now e holds =
-    let f : Link × ℕ = by_status shown hold now shown.status e in
-    let t = is_trimmed now f in
-    record {
-      alike = renewed_alike shown hold now e;
-      later = λ h. hearing_later shown hold now (trimmed now f) (subst (λ (n : ℕ). now < n) (sym t.until) (status_later shown hold now shown.status e holds h));
-      link_out = t.link_out;
-      selector = t.selector;
-    }
+is_renewed shown hold now e holds = grind (arith, common_steps, is_trimmed, renewed_alike, status_later)
 
 begins_addrs : {rule : Admit} {shown : Shown} {now : ℕ} {old : Option (Link × ℕ)} {start : Link × ℕ} → LinkKeptOrMade rule shown now old start → start.0.addrs ≡ shown.sending
-begins_addrs (Stood e at same) = same
-begins_addrs (Made none) = refl
+begins_addrs h0 = grind (arith, common_steps)
 
 module _ (settings : RouterSettings) (now i : ℕ) (sender : Addr4) (hello : Hello) (told : Told) (old new : Neighbourhood) (fault : IsFault settings sender hello None) (T : Tells settings i sender hello told)
     (lasts : 0 < told.shown.validity) (holds : 0 < settings.times.link_hold) (keeps : 0 < settings.times.neighbour_hold)
@@ -73,9 +52,7 @@ module _ (settings : RouterSettings) (now i : ℕ) (sender : Addr4) (hello : Hel
       begins_later (Made none) = omega (arith, lasts)
 
   other_link : (j : ℕ) (key : LinkKey) (e : Link × ℕ) → ((j ≢ i) ⊎ (key ≢ told.least)) → link_at new j key ≡ Some e → IsLink j key e
-  other_link j key e other is =
-      let (goes, was) = kept_from (λ (x : Link × ℕ). GoesOn old told i j x.0) (link_at old j key) (link_at new j key) e (A.other_links j key other) is in
-      Goes other goes was
+  other_link j key e other is = grind (arith, common_steps, kept_from)
 
   pub link_is : (j : ℕ) (key : LinkKey) (e : Link × ℕ) → link_at new j key ≡ Some e → IsLink j key e
   link_is j key e is = elim (cases_eq j i) [
@@ -178,9 +155,7 @@ module _ (settings : RouterSettings) (now i : ℕ) (sender : Addr4) (hello : Hel
   ]
 
   and_right : (a b : Bool) → IsTrue (a && b) → IsTrue b
-  and_right true b h = h
-  and_right false true h = refl
-  and_right false false h = h
+  and_right a b h = grind (arith, common_steps)
 
   sound_neighbour : (o : Addr4) (n : Neighbour) (until : ℕ) → neighbour_at new o ≡ Some (n, until) → IsSoundNeighbour settings new now o n until
   sound_neighbour o n until is = by_case (neighbour_is o (n, until) is)
@@ -275,10 +250,7 @@ module _ (settings : RouterSettings) (now i : ℕ) (sender : Addr4) (hello : Hel
   ]
 
   fresh_lost : (a : Addr4) (e : Lost) (until : ℕ) → lost_at new a ≡ Some (e, until) → nat_lt now until ≡ true
-  fresh_lost a e until is = elim (settles_from (A.losts a) is) [
-    | inl gone ↦ let at : until ≡ now + settings.times.neighbour_hold = gone.1 in lt-ltb now until (omega (arith, at, keeps))
-    | inr stood ↦ S.fresh_losts a e until stood
-  ]
+  fresh_lost a e until is = grind (arith, common_steps, settles_from)
 
   -- the addresses that are held were held, or the HELLO brings them
   held_is : (a : Addr4) → IsHeld new a → IsHeld old a ⊎ (Contains told.listed a ⊎ (a ≡ told.originator))
@@ -303,8 +275,7 @@ module _ (settings : RouterSettings) (now i : ℕ) (sender : Addr4) (hello : Hel
     Is_two_hop : is_symmetric_at new now j key.link ≡ true → nat_lt now t.1 ≡ true → IsTwoHop j key t
 
   row_later : (b : Bool) (two_hop : TwoHop) (t : TwoHop × ℕ) → cond b (Some (two_hop, now + told.shown.validity)) None ≡ Some t → nat_lt now t.1 ≡ true
-  row_later true two_hop t is = subst (λ (x : TwoHop × ℕ). nat_lt now x.1 ≡ true) (same_some refl is) (lt-ltb now (now + told.shown.validity) (omega (arith, lasts)))
-  row_later false two_hop t is = none_not refl is
+  row_later b two_hop t is = grind (arith, common_steps, same_some, none_not)
 
   stood_later : (a : Addr4) (stood : Option (TwoHop × ℕ)) (t : TwoHop × ℕ) → StoodOn old i told a stood → stood ≡ Some t → nat_lt now t.1 ≡ true
   stood_later a stood t (Same_link e at same) is = (S.two_hops i).fresh (record { link = told.least; addr = a }) t.0 t.1 is

@@ -1,5 +1,5 @@
 -- The tables of one interface of a router.
-use Rattle.mesh_nhdp.proofs.Common.{◌≡◌, ◌<◌, ℕ, sym, ◌∙◌, ap, length, get_or, arith, List, [], Some, slice_get, get_or_default, slice_get-get_or, Addr4, LinkKey, Link, Lost, Neighbour, Base, SoundNeighbourhood, State, Neighbourhood, NhdpState}
+use Rattle.mesh_nhdp.proofs.Common.{common_steps, ◌≡◌, ◌<◌, ℕ, sym, ◌∙◌, ap, length, get_or, arith, List, [], get_or_default, slice_get-get_or, Addr4, LinkKey, Link, Lost, Neighbour, Base, SoundNeighbourhood, State, NhdpState}
 use Rattle.mesh_atoms.specs.declared.tuples.Relays.{Relays}
 use Rattle.mesh_hello.specs.Saying.Said.{AreDisjoint, IsSeen}
 use Rattle.mesh_hello.proofs.SayingLemmas.Message.{apart_by}
@@ -21,13 +21,4 @@ apart_held held inside now i links l neighbours losts is sound lt e f g h =
 pub seen_held : (held inside : NhdpState) (now i : ℕ) (links l : Base LinkKey Link) (neighbours : Base Addr4 Neighbour) (losts : Base Addr4 Lost) → inside ≡ held →
     SoundNeighbourhood held.settings now held.near → i < length held.settings.interfaces → links ≡ l → l ≡ get_or inside.near.links i l → neighbours ≡ inside.near.neighbours → losts ≡ inside.near.losts →
     (relays : Relays) (s : State) → s.settings ≡ held.settings → s.bases.neighbourhood ≡ held.near → s.relays ≡ relays → IsSeen s inside.settings links neighbours losts relays i
-seen_held held inside now i links l neighbours losts is sound lt e f g h relays s own near chosen =
-    let lt' : i < length held.near.links = omega (arith, lt, sound.interfaces) in
-    let there : l ≡ get_or held.near.links i l = f ∙ ap (λ (x : NhdpState). get_or x.near.links i l) is in
-    record {
-      settings_are = own ∙ ap (λ (x : NhdpState). x.settings) (sym is);
-      links_are = ap (λ (n : Neighbourhood). slice_get n.links i) near ∙ (slice_get-get_or held.near.links i l lt' ∙ ap (λ (x : Base LinkKey Link). Some x) (sym there ∙ sym e));
-      neighbours_are = ap (λ (n : Neighbourhood). n.neighbours) near ∙ (ap (λ (x : NhdpState). x.near.neighbours) (sym is) ∙ sym g);
-      losts_are = ap (λ (n : Neighbourhood). n.losts) near ∙ (ap (λ (x : NhdpState). x.near.losts) (sym is) ∙ sym h);
-      relays_are = chosen;
-    }
+seen_held held inside now i links l neighbours losts is sound lt e f g h relays s own near chosen = grind (arith, common_steps, slice_get-get_or)

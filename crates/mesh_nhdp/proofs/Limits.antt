@@ -1,5 +1,5 @@
 -- How many tuples a base can have.
-use Rattle.mesh_nhdp.proofs.Common.{◌≡◌, ℕ, zero, suc, ◌<◌, ◌≤◌, refl, sym, subst, arith, List, [], ◌∷◌, ◌++◌, length, Contains, slice_index_or, Option, Some, None, Bool, true, false, cond, IsSome, ◌||◌, IsEquivalence, keys_of, lookup, list_any, false≢true, none-some, length-keys_of, Addr4, TwoHopKey, LinkKey, Base, find, HasDistinctKeys, two_hop_eq, two_hop_equiv, cond_true as on_true}
+use Rattle.mesh_nhdp.proofs.Common.{common_steps, ◌≡◌, ℕ, zero, suc, ◌<◌, ◌≤◌, refl, sym, subst, arith, List, [], ◌∷◌, ◌++◌, length, Contains, slice_index_or, Option, Some, Bool, true, false, cond, IsSome, ◌||◌, IsEquivalence, keys_of, lookup, list_any, false≢true, none-some, length-keys_of, Addr4, TwoHopKey, LinkKey, Base, find, HasDistinctKeys, two_hop_eq, two_hop_equiv, cond_true as on_true}
 use Rattle.std.proofs.lemmas.Map.Steps.{length-le_from_keys}
 
 found_step : {X : Type 0} (b : Bool) (first : X) (rest : Option X) (c : Bool) → (c ≡ true → (x : X) × (rest ≡ Some x)) → (b || c) ≡ true → (x : X) × (cond b (Some first) rest ≡ Some x)
@@ -12,8 +12,7 @@ found_if_key test [] h = absurd (false≢true h)
 found_if_key {K} {X} test (e ∷ es) h = found_step (test e.0) e.1 (lookup test es) (list_any test (keys_of es)) (λ k. found_if_key test es k) h
 
 some_is : {A : Type 0} (o : Option A) (a : A) → o ≡ Some a → IsSome o
-some_is None a e = absurd (none-some a e)
-some_is (Some b) a e = refl
+some_is o a e = grind (arith, common_steps, none-some)
 
 -- what is found in a part is found in the whole
 pub found_left : {K X : Type 0} (test : K → Bool) (xs ys : List (K × X)) (x : X) → lookup test xs ≡ Some x → (z : X) × (lookup test (xs ++ ys) ≡ Some z)

@@ -1,5 +1,5 @@
 -- Expiry keeps what holds of a neighbourhood.
-use Rattle.mesh_nhdp.proofs.Common.{◌≡◌, ℕ, ◌+◌, ◌<◌, ◌≤◌, ◌⊎◌, inl, inr, refl, sym, ◌∙◌, ap, subst, arith, List, length, Contains, slice_get, Option, Some, None, IsTrue, Bool, true, false, cond, nat_lt, ◌&&◌, false≢true, lt-ltb, Addr4, LinkKey, TwoHopKey, Link, TwoHop, Neighbour, Lost, RouterSettings, base_of, if_live, Neighbourhood, is_symmetric, link_at, two_hop_at, neighbour_at, lost_at, HasAddress, LiveNeighbourhood, trimmed, trim, HasLinkOf, KeepsNeighbour, Restores, SettlesLost, Back, Gone, Stays, is_symmetric_at, IsAscending, IsHeld, SoundNeighbourhood, IsSoundLink, IsSoundNeighbour, two_hop_equiv, admit_on, rule_of, live_from, contains_at, same_some, cond_none_some, none_not}
+use Rattle.mesh_nhdp.proofs.Common.{common_steps, ◌≡◌, ℕ, ◌<◌, ◌≤◌, ◌⊎◌, inl, inr, refl, sym, ◌∙◌, ap, subst, arith, List, length, Contains, slice_get, Option, Some, None, IsTrue, Bool, true, false, nat_lt, ◌&&◌, Addr4, LinkKey, TwoHopKey, Link, TwoHop, Neighbour, Lost, RouterSettings, base_of, if_live, Neighbourhood, is_symmetric, link_at, two_hop_at, neighbour_at, lost_at, HasAddress, LiveNeighbourhood, trimmed, trim, HasLinkOf, KeepsNeighbour, Restores, SettlesLost, is_symmetric_at, IsAscending, IsHeld, SoundNeighbourhood, IsSoundLink, IsSoundNeighbour, two_hop_equiv, admit_on, rule_of, live_from, contains_at, same_some, cond_none_some, none_not}
 use Rattle.mesh_nhdp.proofs.Admitted.{FollowsQuality, IsAlike, admitted_follows, follows_alike, admit_from, admit_stays}
 use Rattle.mesh_nhdp.proofs.Limits.{no_more}
 use Rattle.mesh_links.proofs.Admitted.{addrs-admitted}
@@ -14,11 +14,7 @@ pub record IsTrimmed (now : ℕ) (e t : Link × ℕ) : Type 0 where
   pub selector : is_symmetric t.0 now ≡ false → t.0.selector ≡ false
 
 pub is_trimmed : (now : ℕ) (e : Link × ℕ) → IsTrimmed now e (trimmed now e)
-is_trimmed now e = by_case (is_symmetric e.0 now) refl
-  where
-    by_case : (b : Bool) → is_symmetric e.0 now ≡ b → IsTrimmed now e (cond b e (record e.0 { link_out = None; selector = false }, e.1))
-    by_case true is = record { alike = record { addrs = refl; quality = refl; pending = refl; lost = refl }; until = refl; link_out = λ h. absurd (false≢true (sym h ∙ is)); selector = λ h. absurd (false≢true (sym h ∙ is)) }
-    by_case false is = record { alike = record { addrs = refl; quality = refl; pending = refl; lost = refl }; until = refl; link_out = λ h. refl; selector = λ h. refl }
+is_trimmed now e = grind (arith, common_steps)
 
 -- where a link that is left comes from
 pub record ComesFrom (settings : RouterSettings) (i now : ℕ) (old : Option (Link × ℕ)) (e : Link × ℕ) : Type 0 where
@@ -69,16 +65,12 @@ restores_to near now (Some d) (Some g) e i key f r is has = (g, refl, subst (λ 
 -- Lost addresses
 
 pub settles_back : {was is : Type 0} {until : ℕ} {stood new : Option (Lost × ℕ)} {e : Lost × ℕ} → SettlesLost was is until stood new → new ≡ Some e → is → ⊥
-settles_back (Back i none) stands here = none_not none stands
-settles_back (Gone w not_is set) stands here = not_is here
-settles_back (Stays not_was not_is same) stands here = not_is here
+settles_back h0 stands here = grind (arith, common_steps, none_not)
 
 -- where a lost address comes from
 pub settles_from : {was is : Type 0} {until : ℕ} {stood new : Option (Lost × ℕ)} {e : Lost × ℕ} → SettlesLost was is until stood new → new ≡ Some e →
     (was × (e.1 ≡ until)) ⊎ (stood ≡ Some e)
-settles_from (Back i none) stands = none_not none stands
-settles_from {e = e} (Gone w not_is set) stands = inl (w, ap (λ (x : Lost × ℕ). x.1) (same_some stands set))
-settles_from (Stays not_was not_is same) stands = inr (sym same ∙ stands)
+settles_from h0 stands = grind (arith, common_steps, none_not, same_some)
 
 module _ (settings : RouterSettings) (before now : ℕ) (old new : Neighbourhood) (S : SoundNeighbourhood settings before old) (L : LiveNeighbourhood settings now old new) where
   pub link_was : (i : ℕ) (key : LinkKey) (e : Link × ℕ) → link_at new i key ≡ Some e → ComesFrom settings i now (link_at old i key) e
@@ -144,10 +136,7 @@ module _ (settings : RouterSettings) (before now : ℕ) (old new : Neighbourhood
 
   two_hop_was : (i : ℕ) (key : TwoHopKey) (t : TwoHop × ℕ) → two_hop_at new i key ≡ Some t →
       (is_symmetric_at new now i key.link ≡ true) × (two_hop_at old i key ≡ Some t) × (nat_lt now t.1 ≡ true)
-  two_hop_was i key t is =
-      let (symmetric, live) = cond_none_some (is_symmetric_at new now i key.link) (if_live now (two_hop_at old i key)) t (sym (L.two_hops i key) ∙ is) in
-      let (stood, later) = live_from now (two_hop_at old i key) t live in
-      (symmetric, stood, later)
+  two_hop_was i key t is = grind (arith, common_steps, cond_none_some, live_from)
 
   -- the addresses that are held were held
   held_was : (a : Addr4) → IsHeld new a → IsHeld old a
@@ -167,16 +156,10 @@ module _ (settings : RouterSettings) (before now : ℕ) (old new : Neighbourhood
   ]
 
   new_fresh_lost : 0 < settings.times.neighbour_hold → (a : Addr4) (e : Lost) (until : ℕ) → lost_at new a ≡ Some (e, until) → nat_lt now until ≡ true
-  new_fresh_lost holds a e until is = elim (settles_from (L.losts a) is) [
-    | inl gone ↦ let at : until ≡ now + settings.times.neighbour_hold = gone.1 in lt-ltb now until (omega (arith, at, holds))
-    | inr stood ↦ (live_from now (lost_at old a) (e, until) stood).1
-  ]
+  new_fresh_lost holds a e until is = grind (arith, common_steps, settles_from, live_from)
 
   new_fresh_neighbour : (o : Addr4) (n : Neighbour) (until : ℕ) → neighbour_at new o ≡ Some (n, until) → nat_lt now until ≡ true
-  new_fresh_neighbour o n until is =
-      let (e, at, r) = neighbour_was o (n, until) is in
-      let (i, key, link, has) = r.by_links.latest in
-      (link_was i key (link, until) has.1).live
+  new_fresh_neighbour o n until is = grind (arith, common_steps, neighbour_was, link_was)
 
   fewer : (i : ℕ) → length (base_of new.two_hops i) ≤ length (base_of old.two_hops i)
   fewer i = no_more two_hop_equiv (base_of new.two_hops i) (base_of old.two_hops i) (L.tables.two_hops i) (λ key t is. (t, (two_hop_was i key t is).1))

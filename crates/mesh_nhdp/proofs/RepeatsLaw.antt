@@ -1,6 +1,5 @@
 -- A HELLO that repeats what is held already changes nothing but moments.
-use Rattle.mesh_nhdp.proofs.Common.{◌≡◌, ℕ, ◌+◌, ◌<◌, ◌≢◌, ◌⊎◌, ◌↔◌, inl, inr, refl, sym, ◌∙◌, ap, subst, arith, List, Contains, Option, Some, None, IsTrue, Bool, true, false, cond, nat_lt, ◌&&◌, option_map, false≢true, lt-ltb, ltb-true, cases_eq, Addr4, Metric, Hello, LinkStatus, Symmetric, Heard, Shown, Admit, RouterSettings, Link, LinkKey, Neighbour, TwoHop, TwoHopKey, base_of, addr_eq, two_hop_eq, Neighbourhood, is_symmetric, link_at, two_hop_at, neighbour_at, HasAddress, trimmed, is_symmetric_at, is_symmetric_entry, HasSymmetricOf, IsByLinks, Restores, SoundNeighbourhood, IsKept, Told, tells_symmetric, two_hop_of, AfterHello, LinkKeptOrMade, Stood, Made, renewed, by_status, GoesOn, Matches, announced, BecomesOther, Joins, Remains, StoodOn, Same_link, New_link, TellsTwoHop, By_row, By_none, SameTuples, way_at, SameNear, same_key, RepeatsStatus, RepeatsRow, RepeatsRows, Repeats, same_some, none_not, same_address}
-use Rattle.mesh_atoms.specs.declared.hello.LinkStatus.TheVariants.{Lost as Down}
+use Rattle.mesh_nhdp.proofs.Common.{common_steps, ◌≡◌, ℕ, ◌+◌, ◌<◌, ◌≢◌, ◌⊎◌, ◌↔◌, inl, inr, refl, sym, ◌∙◌, ap, subst, arith, List, Contains, Option, Some, None, IsTrue, Bool, true, false, cond, ◌&&◌, option_map, false≢true, cases_eq, Addr4, Metric, Hello, LinkStatus, Shown, Admit, RouterSettings, Link, LinkKey, Neighbour, TwoHop, TwoHopKey, base_of, addr_eq, two_hop_eq, Neighbourhood, is_symmetric, link_at, two_hop_at, neighbour_at, HasAddress, trimmed, is_symmetric_at, is_symmetric_entry, HasSymmetricOf, IsByLinks, Restores, SoundNeighbourhood, IsKept, Told, tells_symmetric, two_hop_of, AfterHello, LinkKeptOrMade, renewed, by_status, GoesOn, Matches, announced, BecomesOther, Joins, Remains, StoodOn, Same_link, New_link, TellsTwoHop, By_row, By_none, SameTuples, way_at, SameNear, same_key, RepeatsStatus, RepeatsRow, RepeatsRows, Repeats, same_some, none_not, same_address}
 use Rattle.mesh_nhdp.proofs.LiveSound.{restores_to}
 use Rattle.mesh_nhdp.proofs.RowWalks.{looks_on}
 use Rattle.mesh_nhdp.proofs.RowsRepeat.{row_value}
@@ -10,25 +9,18 @@ use Rattle.mesh_atoms.proofs.Equal.{least_only, same_neighbour}
 -- What is the only one
 
 same_truth : (a b : Bool) → (IsTrue a → IsTrue b) → (IsTrue b → IsTrue a) → a ≡ b
-same_truth true b to back = sym (to refl)
-same_truth false true to back = back refl
-same_truth false false to back = refl
+same_truth a b to back = grind (arith, common_steps)
 
 -- What is kept
 
 kept_to : {A : Type 0} (P : A → Type 0) (old new : Option A) (e : A) → IsKept P old new → old ≡ Some e → P e → new ≡ Some e
-kept_to P None new e k is p = none_not refl is
-kept_to P (Some f) new e (inl k) is p = k.1 ∙ is
-kept_to P (Some f) new e (inr k) is p = absurd (k.0 (subst P (sym (same_some refl is)) p))
+kept_to P old new e k is p = grind (arith, common_steps, none_not, same_some)
 
 kept_none : {A : Type 0} (P : A → Type 0) (old new : Option A) → IsKept P old new → old ≡ None → new ≡ None
-kept_none P None new k is = k
-kept_none P (Some f) new k is = none_not is refl
+kept_none P old new k is = grind (arith, common_steps, none_not)
 
 cond_kept : {A : Type 0} (b : Bool) (o : Option A) → ((t : A) → o ≡ Some t → b ≡ true) → cond b o None ≡ o
-cond_kept true o all = refl
-cond_kept false None all = refl
-cond_kept false (Some t) all = absurd (false≢true (all t refl))
+cond_kept b o all = grind (arith, common_steps)
 
 -- The link that the HELLO renews
 
@@ -44,43 +36,20 @@ record IsCut (now : ℕ) (f t : Link) : Type 0 where
   pub link_out : t.link_out ≡ cond (is_symmetric f now) f.link_out None
 
 cut_by : (now : ℕ) (f : Link × ℕ) → IsCut now f.0 (trimmed now f).0
-cut_by now f = by_case (is_symmetric f.0 now) refl
-  where
-    by_case : (b : Bool) → is_symmetric f.0 now ≡ b → IsCut now f.0 (cond b f (record f.0 { link_out = None; selector = false }, f.1)).0
-    by_case true is = record { symmetric = refl; link_in = refl; link_out = ap (λ (b : Bool). cond b f.0.link_out None) (sym is) }
-    by_case false is = record { symmetric = refl; link_in = refl; link_out = ap (λ (b : Bool). cond b f.0.link_out None) (sym is) }
-
--- not SYMMETRIC
-ended : (pending lost : Bool) (now : ℕ) → cond pending false (cond lost false (nat_lt now 0)) ≡ false
-ended true lost now = refl
-ended false true now = refl
-ended false false now = by_case (nat_lt now 0) refl
-  where
-    by_case : (b : Bool) → nat_lt now 0 ≡ b → nat_lt now 0 ≡ false
-    by_case true is = let less = ltb-true now 0 is in absurd (omega (arith, less))
-    by_case false is = is
+cut_by now f = grind (arith, common_steps)
 
 pending_not : (pending lost late : Bool) → pending ≡ true → cond pending false (cond lost false late) ≡ false
-pending_not true lost late is = refl
-pending_not false lost late is = absurd (false≢true is)
+pending_not pending lost late is = grind (arith, common_steps)
 
 lost_not : (pending lost late : Bool) → lost ≡ true → cond pending false (cond lost false late) ≡ false
-lost_not true lost late is = refl
-lost_not false true late is = refl
-lost_not false false late is = absurd (false≢true is)
+lost_not pending lost late is = grind (arith, common_steps)
 
 later_too : (pending lost late later : Bool) → cond pending false (cond lost false late) ≡ true → later ≡ true → cond pending false (cond lost false later) ≡ true
-later_too true lost late later is at = absurd (false≢true is)
-later_too false true late later is at = absurd (false≢true is)
-later_too false false late later is at = at
+later_too pending lost late later is at = grind (arith, common_steps)
 
 module _ (shown : Shown) (hold now : ℕ) (e : Link × ℕ) (lasts : 0 < shown.validity) (none : is_symmetric e.0 now ≡ false → e.0.link_out ≡ None) where
   out_there : cond (is_symmetric e.0 now) e.0.link_out None ≡ e.0.link_out
-  out_there = by_case (is_symmetric e.0 now) refl
-    where
-      by_case : (b : Bool) → is_symmetric e.0 now ≡ b → cond b e.0.link_out None ≡ e.0.link_out
-      by_case true is = refl
-      by_case false is = sym (none is)
+  out_there = grind (arith, common_steps)
 
   -- a link that is SYMMETRIC neither before nor after
   no_out : (b : Bool) (out : Option Metric) → b ≡ false → is_symmetric e.0 now ≡ false → cond b out None ≡ e.0.link_out
@@ -90,36 +59,18 @@ module _ (shown : Shown) (hold now : ℕ) (e : Link × ℕ) (lasts : 0 < shown.v
   said_like : (e.0.pending ≡ true) ⊎ ((e.0.lost ≡ true) ⊎ ((is_symmetric e.0 now ≡ true) × (e.0.link_out ≡ shown.link_out))) →
       (is_symmetric (record e.0 { sym = now + shown.validity; link_out = shown.link_out; selector = shown.selector }) now ≡ is_symmetric e.0 now)
       × (cond (is_symmetric (record e.0 { sym = now + shown.validity; link_out = shown.link_out; selector = shown.selector }) now) shown.link_out None ≡ e.0.link_out)
-  said_like (inl pending) =
-      let was = pending_not e.0.pending e.0.lost (nat_lt now e.0.sym) pending in
-      let is = pending_not e.0.pending e.0.lost (nat_lt now (now + shown.validity)) pending in
-      (is ∙ sym was, no_out _ shown.link_out is was)
-  said_like (inr (inl lost)) =
-      let was = lost_not e.0.pending e.0.lost (nat_lt now e.0.sym) lost in
-      let is = lost_not e.0.pending e.0.lost (nat_lt now (now + shown.validity)) lost in
-      (is ∙ sym was, no_out _ shown.link_out is was)
-  said_like (inr (inr (was, out))) =
-      let is = later_too e.0.pending e.0.lost (nat_lt now e.0.sym) (nat_lt now (now + shown.validity)) was (lt-ltb now (now + shown.validity) (omega (arith, lasts))) in
-      (is ∙ sym was, ap (λ (x : Bool). cond x shown.link_out None) is ∙ sym out)
+  said_like h0 = grind (arith, common_steps, pending_not, no_out, lost_not, later_too)
 
   status_like : (status : Option LinkStatus) → RepeatsStatus shown now e.0 status →
       let f : Link × ℕ = by_status shown hold now status e in
       (is_symmetric f.0 now ≡ is_symmetric e.0 now) × (f.0.link_in ≡ e.0.link_in) × (cond (is_symmetric f.0 now) f.0.link_out None ≡ e.0.link_out)
-  status_like None r = (refl, refl, out_there)
-  status_like (Some Down) r = (ended e.0.pending e.0.lost now ∙ sym r, refl, no_out _ e.0.link_out (ended e.0.pending e.0.lost now) r)
-  status_like (Some Symmetric) r = let h = said_like r in (h.0, refl, h.1)
-  status_like (Some Heard) r = let h = said_like r in (h.0, refl, h.1)
+  status_like status r = grind (arith, common_steps, out_there, no_out, said_like)
 
   renewed_like : RepeatsStatus shown now e.0 shown.status → IsLike now e.0 (renewed shown hold now e).0
-  renewed_like r =
-      let f : Link × ℕ = by_status shown hold now shown.status e in
-      let (symmetric, link_in, out) = status_like shown.status r in
-      let c = cut_by now f in
-      record { symmetric = c.symmetric ∙ symmetric; link_in = c.link_in ∙ link_in; link_out = c.link_out ∙ out }
+  renewed_like r = grind (arith, common_steps, status_like, cut_by)
 
 begins_one : {rule : Admit} {shown : Shown} {now : ℕ} {old : Option (Link × ℕ)} {start : Link × ℕ} (e : Link × ℕ) → LinkKeptOrMade rule shown now old start → old ≡ Some e → e.0.addrs ≡ shown.sending → start ≡ e
-begins_one e (Stood f at same) is addrs = same_some at is
-begins_one e (Made none) is addrs = absurd (none e is addrs)
+begins_one e h1 is addrs = grind (arith, common_steps, same_some)
 
 -- The whole
 
@@ -134,9 +85,7 @@ module _ (settings : RouterSettings) (now i : ℕ) (told : Told) (hello : Hello)
       S.neighbours_apart o told.originator e R.neighbour.one a at R.neighbour.stands has (subst (λ (xs : List Addr4). Contains xs a) (sym R.neighbour.addrs) listed)
 
   has_listed : (o : Addr4) (e : Neighbour × ℕ) → neighbour_at old o ≡ Some e → o ≡ told.originator → e.0.addrs ≡ told.listed
-  has_listed o e at is =
-      let same : R.neighbour.one ≡ e = same_some R.neighbour.stands (subst (λ (x : Addr4). neighbour_at old x ≡ Some e) is at) in
-      ap (λ (x : Neighbour × ℕ). x.0.addrs) (sym same) ∙ R.neighbour.addrs
+  has_listed o e at is = grind (arith, common_steps, same_some)
 
   -- Links
 

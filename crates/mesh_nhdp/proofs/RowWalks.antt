@@ -1,5 +1,5 @@
 -- A walk over the rows of a HELLO.
-use Rattle.mesh_nhdp.proofs.Common.{◌≡◌, ℕ, ◌+◌, ◌↔◌, inl, inr, refl, sym, ◌∙◌, ap, subst, List, length, Contains, slice_get, Option, Some, IsTrue, Bool, true, false, ◌≢◌, Addr4, NetAddr, Hello, HelloRow, LinkKey, TwoHopKey, TwoHop, RouterSettings, Base, find, host, two_hop_eq, HasAddress, Told, LooksAt, tells_symmetric, TellsTwoHop, By_row, By_none, row_makes, two_hop_equiv, same_two_hop, LooksOn, RowTells, Looked, Passed, TellsSymmetric, SomeBelow, below_here, below_later, below_cases, below_contains, same_address, cond_true as on_true}
+use Rattle.mesh_nhdp.proofs.Common.{arith, common_steps, ◌≡◌, ℕ, ◌+◌, ◌↔◌, inl, inr, refl, sym, ◌∙◌, ap, subst, List, length, Contains, slice_get, Option, Some, IsTrue, true, false, ◌≢◌, Addr4, NetAddr, Hello, HelloRow, LinkKey, TwoHopKey, TwoHop, RouterSettings, Base, find, host, two_hop_eq, HasAddress, Told, LooksAt, tells_symmetric, TellsTwoHop, By_row, By_none, row_makes, two_hop_equiv, same_two_hop, LooksOn, RowTells, Looked, Passed, TellsSymmetric, SomeBelow, below_here, below_later, below_cases, below_contains, same_address, cond_true as on_true}
 use Rattle.mesh_atoms.proofs.Nets.{same_net}
 use Rattle.mesh_nhdp.proofs.TwoHops.{on_false}
 
@@ -9,11 +9,7 @@ pub data RowsTell (own listed : List Addr4) (rows : List HelloRow) (n until : �
   No : (SomeBelow rows n (λ r. LooksOn own listed r × (r.addr.addr ≡ a)) → ⊥) → new ≡ stood → RowsTell own listed rows n until a stood new
 
 two_hop_other : (k l : TwoHopKey) → (k ≡ l → ⊥) → two_hop_eq k l ≡ false
-two_hop_other k l other = by_case (two_hop_eq k l) refl
-  where
-    by_case : (b : Bool) → two_hop_eq k l ≡ b → two_hop_eq k l ≡ false
-    by_case true is = absurd (other (same_two_hop k l is))
-    by_case false is = is
+two_hop_other k l other = grind (arith, common_steps, same_two_hop)
 
 module _ (own listed : List Addr4) (rows : List HelloRow) (n until : ℕ) (link : LinkKey) (row : HelloRow) (at : slice_get rows n ≡ Some row) (old new : Base TwoHopKey TwoHop) where
   -- rows whose step leaves the tuple of the address
@@ -39,9 +35,7 @@ module _ (own listed : List Addr4) (rows : List HelloRow) (n until : ℕ) (link 
   ]
 
   pub others_more : RowTells own listed link until row old new → (key : TwoHopKey) → key.link ≢ link → find two_hop_eq new key ≡ find two_hop_eq old key
-  others_more (Passed not same) key other = ap (λ (b : Base TwoHopKey TwoHop). find two_hop_eq b key) same
-  others_more (Looked looks sets) key other = sets key ∙ on_false _ (row_makes until row) (find two_hop_eq old key)
-      (two_hop_other (record { link = link; addr = row.addr.addr }) key (λ e. other (sym (ap (λ (k : TwoHopKey). k.link) e))))
+  others_more h0 key other = grind (arith, common_steps, on_false, two_hop_other)
 
 module _ (settings : RouterSettings) (told : Told) (hello : Hello) (own listed : List Addr4) (own_is : (a : Addr4) → Contains own a ↔ HasAddress settings a) (listed_is : told.listed ≡ listed) where
   -- the row is looked at

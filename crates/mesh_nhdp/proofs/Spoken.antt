@@ -1,7 +1,6 @@
 -- Addresses of the neighbours that a HELLO speaks of.
-use Rattle.mesh_nhdp.proofs.Common.{◌≡◌, ℕ, ◌↔◌, ap, subst, List, Contains, Some, None, Addr4, Neighbour, Base, find, addr_eq, Matches, IsSpokenOf, Gathers, adds_so, adds_nothing, Each, IsWanted, IsWantedAt, IsSpokenAddress, IsSymmetricSpokenAddress, same_some, none_not}
+use Rattle.mesh_nhdp.proofs.Common.{◌≡◌, ℕ, ◌↔◌, ap, subst, List, Contains, Some, None, Addr4, Neighbour, Base, find, addr_eq, Matches, IsSpokenOf, Gathers, adds_so, adds_nothing, Each, IsWanted, IsWantedAt, IsSpokenAddress, IsSymmetricSpokenAddress, same_some, none_not, Symmetric}
 use Rattle.mesh_nhdp.specs.declared.near_addresses.WantedNeighbours.{WantedNeighbours}
-use Rattle.mesh_nhdp.specs.declared.near_addresses.WantedNeighbours.TheVariants.{Symmetric}
 
 -- what is added of the neighbour that is found
 pub adds_found : (base : Base Addr4 Neighbour) (wanted : WantedNeighbours) (o : Addr4) (n : Neighbour) (until : ℕ) (old new : List Addr4) → find addr_eq base o ≡ Some (n, until) →

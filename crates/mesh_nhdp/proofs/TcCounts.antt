@@ -1,5 +1,5 @@
 -- How many rows a router advertises.
-use Rattle.mesh_nhdp.proofs.Common.{◌≡◌, ℕ, ◌<◌, ◌≤◌, ◌⊎◌, inl, inr, refl, sym, ◌∙◌, ap, subst, arith, List, [], ◌∷◌, length, map, Contains, Bool, true, false, get_or, not, AllPairs, is_some, IsDistinct, filter, false≢true, length-map, get_or-map, IsDistinct-from_apart, Addr4, NetAddr, Metric, net_eq, SoundNeighbourhood, State, IsHeld, looks_up_neighbours, net_equiv, distinct_fits, counted, rows_ascend, neighbour_held, contains_filter_cases, contains_map, contains_map_cases}
+use Rattle.mesh_nhdp.proofs.Common.{common_steps, ◌≡◌, ℕ, ◌<◌, ◌≤◌, ◌⊎◌, inl, inr, refl, sym, ◌∙◌, ap, subst, arith, List, [], ◌∷◌, length, map, Contains, Bool, true, false, get_or, not, AllPairs, is_some, IsDistinct, filter, false≢true, length-map, get_or-map, IsDistinct-from_apart, Addr4, NetAddr, Metric, net_eq, SoundNeighbourhood, State, IsHeld, looks_up_neighbours, net_equiv, distinct_fits, counted, rows_ascend, neighbour_held, contains_filter_cases, contains_map, contains_map_cases}
 use Rattle.std.proofs.lemmas.List.Filters.{length-filter_both}
 use Rattle.std.proofs.lemmas.List.Kept.{AllPairs-filter}
 use Rattle.mesh_atoms.specs.declared.settings.Attached4.{Attached4}
@@ -11,13 +11,7 @@ use Rattle.mesh_atoms.proofs.Lookups.{same_net}
 -- Lists
 
 before_apart : (x y : NetAddr) → IsBefore x y → net_eq x y ≡ false
-before_apart x y before = by_test (net_eq x y) refl where
-  by_test : (b : Bool) → net_eq x y ≡ b → b ≡ false
-  by_test true is = absurd (by_order (same_net x y is) before) where
-    by_order : x ≡ y → IsBefore x y → ⊥
-    by_order e (inl lt) = let f : x.addr.0 ≡ y.addr.0 = ap (λ (n : NetAddr). n.addr.0) e in absurd (omega (arith, f, lt))
-    by_order e (inr both) = let f : x.prefix ≡ y.prefix = ap (λ (n : NetAddr). n.prefix) e in absurd (omega (arith, f, both.1))
-  by_test false is = refl
+before_apart x y before = grind (arith, common_steps, same_net)
 
 nets_apart : (rows : List TcRow) → AllPairs (λ (r t : TcRow). IsBefore r.dest t.dest) rows → IsDistinct net_eq (map (λ (r : TcRow). r.dest) rows)
 nets_apart rows up = IsDistinct-from_apart net_eq (map (λ (r : TcRow). r.dest) rows) (apart rows up) where
@@ -41,8 +35,7 @@ abbrev of_address : TcRow → Bool
 of_address row = not (is_some row.gateway)
 
 host_row : (s : State) (r : TcRow) → IsTcRow s r → of_address r ≡ true → r.dest.prefix ≡ 32
-host_row s r (Of_address a m e origin routable gateway metric given) is = ap (λ (n : NetAddr). n.prefix) e
-host_row s r (Of_network distance m origin routable gateway metric given) is = absurd (false≢true (sym (ap (λ g. not (is_some g)) gateway) ∙ is))
+host_row s r h2 is = grind (arith, common_steps)
 
 giver_held : (s : State) (m : ℕ) → SoundNeighbourhood s.settings m s.bases.neighbourhood → (a o : Addr4) (c : Metric) → GivesAsSelector s a o c → IsHeld s.bases.neighbourhood a
 giver_held s m sound a o c gives = by_address gives.address where
@@ -59,8 +52,7 @@ row_held s m sound r (Of_network distance c origin routable gateway metric given
 
 row_attached : (s : State) (r : TcRow) → IsTcRow s r → of_network r ≡ true → Contains (map (λ (a : Attached4). a.net) s.settings.attached) r.dest
 row_attached s r (Of_address a c e origin routable gateway metric given) is = absurd (false≢true (sym (ap (λ g. is_some g) gateway) ∙ is))
-row_attached s r (Of_network distance c origin routable gateway metric given) is =
-    subst (λ (n : NetAddr). Contains (map (λ (a : Attached4). a.net) s.settings.attached) n) given.at_net (contains_map (λ (a : Attached4). a.net) s.settings.attached given.attached given.stands)
+row_attached s r (Of_network distance c origin routable gateway metric given) is = grind (arith, common_steps, contains_map)
 
 -- a sound router advertises at most 1,088 rows: of 1,024 addresses and 64 networks
 pub tc_rows_few : (s : State) (m : ℕ) (rows : List TcRow) → SoundNeighbourhood s.settings m s.bases.neighbourhood → AreTcRows s rows → length rows ≤ 1088

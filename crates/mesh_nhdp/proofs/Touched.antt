@@ -1,10 +1,9 @@
 -- What a HELLO doesn't touch: the neighbours that it doesn't speak of, with their links.
-use Rattle.mesh_nhdp.proofs.Common.{◌≡◌, ℕ, ◌≢◌, ◌⊎◌, ◌↔◌, inl, inr, refl, sym, ◌∙◌, subst, arith, List, [], Contains, Option, Some, None, IsTrue, Bool, true, false, cond, ◌&&◌, Addr4, LinkKey, Link, Neighbour, Lost, RouterSettings, HasDistinctKeys, addr_eq, Neighbourhood, link_at, neighbour_at, lost_at, HasLinkOf, HasSymmetricOf, IsByLinks, Restores, IsSymmetricAddress, SettlesLost, Back, Gone, Stays, IsKept, Told, GoesOn, IsTheirs, Matches, SoundNeighbourhood, symmetric_at, contains_at, same_some, none_not, same_address, kept_from, least_same}
+use Rattle.mesh_nhdp.proofs.Common.{common_steps, ◌≡◌, ℕ, ◌≢◌, ◌⊎◌, ◌↔◌, inl, inr, refl, sym, ◌∙◌, subst, arith, List, [], Contains, Option, Some, None, IsTrue, Bool, true, false, cond, ◌&&◌, Addr4, LinkKey, Link, Neighbour, Lost, RouterSettings, HasDistinctKeys, addr_eq, Neighbourhood, link_at, neighbour_at, lost_at, HasLinkOf, HasSymmetricOf, IsByLinks, Restores, IsSymmetricAddress, SettlesLost, Back, Gone, Stays, IsKept, Told, GoesOn, IsTheirs, Matches, SoundNeighbourhood, symmetric_at, contains_at, same_some, none_not, same_address, kept_from, least_same}
 use Rattle.mesh_nhdp.proofs.SymmetricAddresses.{symmetric_or_not}
 
 pub and_same : (a b : Bool) → (IsTrue a → IsTrue b) → a ≡ (a && b)
-and_same true b h = sym (h refl)
-and_same false b h = refl
+and_same a b h = grind (arith, common_steps)
 
 -- an address of a symmetric neighbour that the HELLO speaks of
 abbrev pub IsTheirSymmetric : Neighbourhood → Told → Addr4 → Type 0

@@ -1,5 +1,5 @@
 -- Where nothing becomes of the links, nothing becomes of the neighbours.
-use Rattle.mesh_nhdp.proofs.Common.{◌≡◌, ℕ, ◌+◌, ◌<◌, ◌≤◌, ◌⊎◌, ◌↔◌, inl, inr, refl, sym, ◌∙◌, ap, subst, arith, List, [], length, Option, Some, None, IsTrue, Bool, true, false, cond, nat_lt, nat_eq, ◌&&◌, IsDistinct, IsEquivalence, get_or_past, false≢true, eqb-true, and_parts as both_so, Addr4, Metric, LinkKey, TwoHopKey, Link, TwoHop, Neighbour, Lost, RouterSettings, Base, HasDistinctKeys, Expires, IsFresh, find, base_of, if_live, addr_eq, link_eq, two_hop_eq, admit_on, rule_of, Neighbourhood, is_symmetric, link_at, two_hop_at, neighbour_at, lost_at, LiveNeighbourhood, trimmed, trim, is_symmetric_entry, is_symmetric_at, HasSymmetricOf, IsByLinks, Restores, IsSymmetricAddress, SettlesLost, Back, Stays as Still, SoundNeighbourhood, addr_equiv, two_hop_equiv, none_not, IsLinkUnchanged, AllStay, live_from, least_same}
+use Rattle.mesh_nhdp.proofs.Common.{common_steps, ◌≡◌, ℕ, ◌+◌, ◌<◌, ◌≤◌, ◌⊎◌, ◌↔◌, inl, inr, refl, sym, ◌∙◌, ap, subst, arith, List, [], length, Option, Some, None, IsTrue, Bool, true, false, cond, nat_lt, nat_eq, ◌&&◌, IsDistinct, IsEquivalence, get_or_past, Addr4, Metric, LinkKey, TwoHopKey, Link, TwoHop, Neighbour, Lost, RouterSettings, Base, HasDistinctKeys, Expires, IsFresh, find, base_of, if_live, addr_eq, link_eq, two_hop_eq, admit_on, rule_of, Neighbourhood, is_symmetric, link_at, two_hop_at, neighbour_at, lost_at, LiveNeighbourhood, trimmed, trim, is_symmetric_entry, is_symmetric_at, HasSymmetricOf, IsByLinks, Restores, IsSymmetricAddress, SettlesLost, SoundNeighbourhood, addr_equiv, two_hop_equiv, none_not, IsLinkUnchanged, AllStay, live_from, least_same}
 use Rattle.mesh_nhdp.specs.Staying.{LinksStay, AllIsAsItWas, ExpiresBeside}
 use Rattle.mesh_nhdp.proofs.Bases.{base_cases}
 use Rattle.mesh_nhdp.proofs.BesideWalk.{some_gone}
@@ -14,35 +14,23 @@ written_out : (link : Link) (o : Option Metric) (s : Bool) → link.link_out ≡
 written_out link o s is_out is_selector = rw (← is_out, ← is_selector) refl
 
 trimmed_same : (now : ℕ) (e : Link × ℕ) → (is_symmetric e.0 now ≡ false → e.0.link_out ≡ None) → (is_symmetric e.0 now ≡ false → e.0.selector ≡ false) → trimmed now e ≡ e
-trimmed_same now e out selector = by_case (is_symmetric e.0 now) refl where
-  by_case : (b : Bool) → is_symmetric e.0 now ≡ b → cond {A = Link × ℕ} b e (record e.0 { link_out = None; selector = false }, e.1) ≡ e
-  by_case true is = refl
-  by_case false is = ap (λ (link : Link). (link, e.1)) (written_out e.0 None false (out is) (selector is))
+trimmed_same now e out selector = grind (arith, common_steps, written_out)
 
 kept_live : {V : Type 0} (now : ℕ) (e : V × ℕ) → nat_lt now e.1 ≡ true → if_live now (Some e) ≡ Some e
 kept_live now e live = rw live refl
 
 still_there : (settings : RouterSettings) (i last now : ℕ) (o : Option (Link × ℕ)) → ((e : Link × ℕ) → o ≡ Some e → IsLinkUnchanged (rule_of settings i) settings.times.link_hold last now e)
     → ((e : Link × ℕ) → o ≡ Some e → trimmed now e ≡ e) → o ≡ trim now (if_live now (admit_on settings i now o))
-still_there settings i last now None stays same = refl
-still_there settings i last now (Some e) stays same =
-    let s = stays e refl in
-    let admits : admit_on settings i now (Some e) ≡ Some e = ap (λ (x : Link × ℕ). Some x) s.by_quality in
-    sym (ap (λ (o : Option (Link × ℕ)). trim now (if_live now o)) admits ∙ (ap (λ (o : Option (Link × ℕ)). trim now o) (kept_live now e s.live) ∙ ap (λ (x : Link × ℕ). Some x) (same e refl)))
+still_there settings i last now o stays same = grind (arith, common_steps, kept_live)
 
 symmetric_entry : (last now : ℕ) (o : Option (Link × ℕ)) → ((e : Link × ℕ) → o ≡ Some e → is_symmetric e.0 now ≡ is_symmetric e.0 last) → is_symmetric_entry now o ≡ is_symmetric_entry last o
-symmetric_entry last now None same = refl
-symmetric_entry last now (Some e) same = same e refl
+symmetric_entry last now o same = grind (arith, common_steps)
 
 two_hop_there : (now : ℕ) (b : Bool) (o new : Option (TwoHop × ℕ)) → new ≡ if_live now o → ((t : TwoHop × ℕ) → o ≡ Some t → b ≡ true) → new ≡ cond b (if_live now o) None
-two_hop_there now true o new is there = is
-two_hop_there now false None new is there = is
-two_hop_there now false (Some t) new is there = absurd (false≢true (there t refl))
+two_hop_there now b o new is there = grind (arith, common_steps)
 
 lost_there : (now : ℕ) (was : Type 0) (until : ℕ) (o new : Option (Lost × ℕ)) → new ≡ if_live now o → ((e : Lost × ℕ) → o ≡ Some e → was → ⊥) → was ⊎ (was → ⊥) → SettlesLost was was until (if_live now o) new
-lost_there now was until None new is none (inl his) = Back his is
-lost_there now was until (Some e) new is none (inl his) = absurd (none e refl his)
-lost_there now was until o new is none (inr not_his) = Still not_his not_his is
+lost_there now was until o new is none h7 = grind (arith, common_steps)
 
 -- The whole
 
@@ -137,38 +125,16 @@ module _ (now : ℕ) (links : List (Base LinkKey Link)) (two_hops after : List (
     (is : same ≡ (first && nat_eq gone 0)) where
   all_distinct : (i : ℕ) → HasDistinctKeys two_hop_eq (base_of after i)
   unfolding IsDistinct
-  all_distinct i = elim (base_cases after i) [
-    | inl there ↦ distinct i (let lt = there.0 in omega (arith, lt, lengths))
-    | inr past ↦ subst (λ (b : Base TwoHopKey TwoHop). HasDistinctKeys two_hop_eq b) (sym past.1) tt
-  ]
+  all_distinct i = grind (arith, common_steps, base_cases)
 
   all_expire : (i : ℕ) → Expires two_hop_eq now (base_of two_hops i) (base_of after i)
-  all_expire i = elim (base_cases two_hops i) [
-    | inl there ↦ each i there.0
-    | inr past ↦ subst (λ (b : Base TwoHopKey TwoHop). Expires two_hop_eq now b (base_of after i)) (sym past.1)
-        (subst (λ (b : Base TwoHopKey TwoHop). Expires two_hop_eq now [] b) (sym (get_or_past after i [] (let beyond = past.0 in omega (arith, beyond, lengths)))) (λ q. refl))
-  ]
+  all_expire i = grind (arith, common_steps, base_cases, get_or_past)
 
   what_changed : (b : Bool) → first ≡ b → same ≡ false → ((i : ℕ) × (length (base_of after i) < length (base_of two_hops i))) ⊎ (length losts_after < length losts)
-  what_changed false at h = inl (changed at)
-  what_changed true at h =
-      let some = some_gone first same gone is at h in inr (omega (arith, count, some))
+  what_changed b at h = grind (arith, common_steps, some_gone)
 
   pub beside_is : ExpiresBeside now same (record { links = links; two_hops = two_hops; neighbours = neighbours; losts = losts }) (record { links = links; two_hops = after; neighbours = neighbours; losts = losts_after })
-  beside_is = record {
-    links = refl;
-    neighbours = refl;
-    interfaces = lengths;
-    distinct_two_hops = all_distinct;
-    distinct_losts = distinct_losts;
-    two_hops = all_expire;
-    losts = expires;
-    unchanged = λ h. (
-        let both = both_so first (nat_eq gone 0) (sym is ∙ h) in
-        ap (λ (hs : List (Base TwoHopKey TwoHop)). let n : Neighbourhood = record { links = links; two_hops = hs; neighbours = neighbours; losts = losts_after } in n) (unchanged both.0)
-        ∙ ap (λ (ls : Base Addr4 Lost). let n : Neighbourhood = record { links = links; two_hops = two_hops; neighbours = neighbours; losts = ls } in n) (none (eqb-true gone 0 both.1)));
-    changed = what_changed first refl;
-  }
+  beside_is = grind (arith, common_steps, all_distinct, all_expire, what_changed)
 
 -- expiry, where nothing becomes of links
 pub beside_live : (settings : RouterSettings) (last now : ℕ) (same : Bool) (old new : Neighbourhood) → SoundNeighbourhood settings last old → LinksStay settings last now old.links → ExpiresBeside now same old new → LiveNeighbourhood settings now old new

@@ -1,5 +1,5 @@
 -- Expiry and the taking of a HELLO as runs of the sets' calls.
-use Rattle.mesh_nhdp.proofs.Common.{◌≡◌, ℕ, ◌+◌, ◌≢◌, ◌⊎◌, ◌↔◌, inl, inr, refl, sym, ◌∙◌, ap, subst, List, length, Contains, Option, Some, None, true, false, cond, option_map, false≢true, cases_eq, Addr4, LinkKey, TwoHopKey, Link, TwoHop, Neighbour, Lost, Hello, RouterSettings, Base, find, base_of, if_live, Expires, Same, addr_eq, two_hop_eq, Neighbourhood, link_at, two_hop_at, neighbour_at, lost_at, LiveNeighbourhood, IsSymmetricAddress, SettlesLost, is_symmetric_at, is_symmetric_entry, trim, HasTables, admitted, admit_on, rule_of, Told, AfterHello, GoesOn, IsTheirs, Matches, LinkKeptOrMade, renewed, StoodOn, Same_link, New_link, IsKept, SoundNeighbourhood, AdmitsLinks, ExpiresLinks, EndsOutside, HearsOn, Replaces, DropsLink, key_at, TellsKeys, DropsEnded, TellsTwoHops, FollowsLinks, FollowsLinksOf, live_from, same_some, cond_true as on_true, contains_or_not}
+use Rattle.mesh_nhdp.proofs.Common.{arith, common_steps, ◌≡◌, ℕ, ◌+◌, ◌≢◌, ◌⊎◌, ◌↔◌, inl, inr, refl, sym, ◌∙◌, ap, subst, List, length, Contains, Option, Some, None, true, false, cond, option_map, false≢true, cases_eq, Addr4, LinkKey, TwoHopKey, Link, TwoHop, Neighbour, Lost, Hello, RouterSettings, Base, find, base_of, if_live, Expires, Same, addr_eq, two_hop_eq, Neighbourhood, link_at, two_hop_at, neighbour_at, lost_at, LiveNeighbourhood, IsSymmetricAddress, SettlesLost, is_symmetric_at, is_symmetric_entry, trim, HasTables, admitted, admit_on, rule_of, Told, AfterHello, GoesOn, IsTheirs, Matches, LinkKeptOrMade, renewed, StoodOn, Same_link, New_link, IsKept, SoundNeighbourhood, AdmitsLinks, ExpiresLinks, EndsOutside, HearsOn, Replaces, DropsLink, key_at, TellsKeys, DropsEnded, TellsTwoHops, FollowsLinks, FollowsLinksOf, live_from, same_some, cond_true as on_true, contains_or_not}
 use Rattle.mesh_nhdp.proofs.Composes.{restores_by, restores_of, settles_by, goes_on_elsewhere, goes_on_here, hears_link, replaced_one, replaced_other}
 use Rattle.mesh_nhdp.proofs.Touched.{IsTheirSymmetric, rests, untouched, settles}
 use Rattle.mesh_nhdp.proofs.TwoHops.{dropped_here, dropped_elsewhere, left_by_ends, left_by_keys, on_false}
@@ -25,8 +25,7 @@ pub record RunsExpiry (settings : RouterSettings) (now : ℕ) (old new : Neighbo
   pub follows : FollowsLinks now before (now + settings.times.neighbour_hold) (record new { neighbours = old.neighbours; losts = live_losts }) new
 
 admit_is : (settings : RouterSettings) (i now : ℕ) (o : Option (Link × ℕ)) → option_map (admitted (rule_of settings i) settings.times.link_hold now) o ≡ admit_on settings i now o
-admit_is settings i now None = refl
-admit_is settings i now (Some e) = refl
+admit_is settings i now o = grind (arith, common_steps)
 
 -- they are expiry
 pub live_by_calls : (settings : RouterSettings) (before now : ℕ) (old new : Neighbourhood) → SoundNeighbourhood settings before old → RunsExpiry settings now old new → LiveNeighbourhood settings now old new
@@ -114,11 +113,7 @@ module _ (settings : RouterSettings) (now i : ℕ) (told : Told) (hello : Hello)
   left j key = left_by_keys (base_of new.links j) now R.keys (base_of old.two_hops j) (R.mids j) key (λ t at not. looked_at j key.link (S.two_hop j key t at) not) (R.drops j key)
 
   started_elsewhere : (key : TwoHopKey) → key.link ≢ told.least → find two_hop_eq R.started key ≡ find two_hop_eq (R.mids i) key
-  started_elsewhere key other = by_case R.starts
-    where
-      by_case : Starts old i told (R.mids i) R.started → find two_hop_eq R.started key ≡ find two_hop_eq (R.mids i) key
-      by_case (Goes_on e at same is) = is key
-      by_case (Anew none d) = dropped_elsewhere told.least (R.mids i) R.started key d other
+  started_elsewhere key other = grind (arith, common_steps, dropped_elsewhere)
 
   other_two_hops : (j : ℕ) (key : TwoHopKey) → ((j ≢ i) ⊎ (key.link ≢ told.least)) → two_hop_at new j key ≡ cond (is_symmetric_at new now j key.link) (two_hop_at old j key) None
   other_two_hops j key other = elim (cases_eq j i) [

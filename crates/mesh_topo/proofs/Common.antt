@@ -28,7 +28,7 @@ pub use Rattle.mesh_topo.specs.declared.advertised.rows.Offer.{Offer}
 pub use Rattle.mesh_topo.specs.declared.advertised.rows.Selector.{Selector}
 pub use Rattle.mesh_topo.specs.declared.advertised.spans.PartSpan.{PartSpan}
 pub use Rattle.std.proofs.Common.{AllPairs, Bool, Contains, Decides, Err, IfOk, IsTrue, List, None, Ok, OnOk, Option, Result, Some, [], ap, arith, cond, count_by, drop, eq-eqb, eqb, false, flat_map, inl, inr, is_none, is_some, length, length-append, length-drop, length-take, map, min, nat_eq, nat_lt, not, option_map, refl, slice_get, slice_index_or, slice_range, subst, suc, sym, take, true, zero, ℕ, ◌&&◌, ◌*◌, ◌++◌, ◌+◌, ◌-◌, ◌<◌, ◌||◌, ◌↔◌, ◌∙◌, ◌∷◌, ◌≡◌, ◌≤◌, ◌⊎◌}
-pub use Rattle.std.proofs.lemmas.Bool.{and_parts, cases_Bool, cases_lt, false≢true, lt-ltb, ltb-false, ltb-true, not-true, or_parts}
+pub use Rattle.std.proofs.lemmas.Bool.{and_parts, cases_Bool, cases_lt, lt-ltb, ltb-false, not-true, or_parts}
 pub use Rattle.std.proofs.lemmas.Grind.{common_steps, flat_map-append}
 pub use Rattle.std.proofs.lemmas.List.{append-nil, at_drop_more, length-map, nil_from_length, take-append-drop}
 pub use Rattle.std.proofs.lemmas.List.Folds.{flat_map-map, list_any_at}
@@ -42,4 +42,3 @@ pub use Rattle.std.specs.List.{AllByRecursion, filter, list_any}
 pub use Rattle.std.specs.List.Sorted.{IsStrictlySortedBy}
 pub use Rattle.std.specs.Ordering.{is_eq, is_gt, is_le}
 pub use Rattle.std.specs.declared.cmp.Ordering.{Ordering}
-pub use Rattle.std.specs.declared.cmp.Ordering.TheVariants.{Equal, Greater, Less}

@@ -1,5 +1,5 @@
 -- The first set that would be too large.
-use Rattle.mesh_topo.proofs.Common.{◌≡◌, ℕ, ◌+◌, ◌≤◌, arith, Bool, true, false, cond, ◌&&◌, List, [], ◌∷◌, Option, Some, None, refl, sym, ap, ◌∙◌, common_steps, nat_lt, is_some, count_by, option_map, ltb-false, sum_by-cons, Addr4, NetAddr, Metric, Tc, TcRow, is_overfull, first_overfull, TopologyBase, router_of, address_of, network_of, network_with}
+use Rattle.mesh_topo.proofs.Common.{◌≡◌, ℕ, ◌+◌, ◌≤◌, arith, Bool, true, false, cond, ◌&&◌, List, [], ◌∷◌, Option, Some, None, refl, sym, ap, ◌∙◌, nat_lt, is_some, count_by, option_map, common_steps, ltb-false, sum_by-cons, Addr4, NetAddr, Metric, Tc, TcRow, is_overfull, first_overfull, TopologyBase, router_of, address_of, network_of, network_with}
 use Rattle.mesh_atoms.specs.declared.tuples.Base.TheVariants.{Advertisers, Routers, Addresses, Networks}
 
 -- tests that agree count the same
@@ -9,9 +9,7 @@ count_same p q same (x ∷ xs) = grind (arith, common_steps, sum_by-cons, count_
 
 -- a value that is there by two tests
 some_both : {A B : Type 0} (f : A → B) (b : Bool) (o : Option A) → is_some (cond b (option_map f o) None) ≡ (b && is_some o)
-some_both f true (Some x) = refl
-some_both f true None = refl
-some_both f false o = refl
+some_both f b o = grind (arith, common_steps)
 
 pub router_rows : (from : Addr4) (ansn : ℕ) (rows : List TcRow) → count_by (λ row. is_some (router_of from ansn row)) rows ≡ count_by (λ row. row.origin && is_some row.metric) rows
 router_rows from ansn rows = count_same _ _ (λ row. some_both _ row.origin row.metric) rows
@@ -20,9 +18,7 @@ pub address_rows : (from : Addr4) (ansn : ℕ) (rows : List TcRow) → count_by 
 address_rows from ansn rows = count_same _ _ (λ row. some_both _ row.routable row.metric) rows
 
 network_row : (from : Addr4) (ansn : ℕ) (net : NetAddr) (distance : Option ℕ) (m : Option Metric) → is_some (network_with from ansn net distance m) ≡ (is_some distance && is_some m)
-network_row from ansn net (Some d) (Some m) = refl
-network_row from ansn net (Some d) None = refl
-network_row from ansn net None m = refl
+network_row from ansn net distance m = grind (arith, common_steps)
 
 pub network_rows : (from : Addr4) (ansn : ℕ) (rows : List TcRow) → count_by (λ row. is_some (network_of from ansn row)) rows ≡ count_by (λ row. is_some row.gateway && is_some row.metric) rows
 network_rows from ansn rows = count_same _ _ (λ row. network_row from ansn row.dest row.gateway row.metric) rows
@@ -48,11 +44,7 @@ module _ (topology : TopologyBase) (tc : Tc) where
 
 -- where none of four tests is the first, none holds
 pub none_of_four : {A : Type 0} (x y z w : A) (a r d n : Bool) → cond a (Some x) (cond r (Some y) (cond d (Some z) (cond n (Some w) None))) ≡ None → (a ≡ false) × (r ≡ false) × (d ≡ false) × (n ≡ false)
-none_of_four x y z w true r d n e = absurd cc
-none_of_four x y z w false true d n e = absurd cc
-none_of_four x y z w false false true n e = absurd cc
-none_of_four x y z w false false false true e = absurd cc
-none_of_four x y z w false false false false e = (refl, refl, refl, refl)
+none_of_four x y z w a r d n e = grind (arith, common_steps)
 
 pub room_in_all : (topology : TopologyBase) (tc : Tc) → first_overfull topology tc ≡ None →
     (is_overfull topology tc Advertisers ≡ false) × (is_overfull topology tc Routers ≡ false) × (is_overfull topology tc Addresses ≡ false) × (is_overfull topology tc Networks ≡ false)
@@ -63,5 +55,4 @@ pub few_after : (before after counted rows : ℕ) → nat_lt 16384 (before + row
 few_after before after counted rows room same le = omega (arith, ltb-false 16384 (before + rows) room)
 
 pub put_few : (before after : ℕ) (stood : Bool) → nat_lt 16384 (before + 1) ≡ false → after ≡ before + cond stood 0 1 → after ≤ 16384
-put_few before after true room same = omega (arith, ltb-false 16384 (before + 1) room, same)
-put_few before after false room same = omega (arith, ltb-false 16384 (before + 1) room, same)
+put_few before after stood room same = grind (arith, common_steps)

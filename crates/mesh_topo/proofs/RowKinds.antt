@@ -1,5 +1,5 @@
 -- What the rows of a TC give, in the words of the definitions.
-use Rattle.mesh_topo.proofs.Common.{◌≡◌, ℕ, inl, inr, Bool, true, false, cond, Option, Some, None, Contains, refl, sym, ap, ◌∙◌, arith, common_steps, option_map, IsTrue, Addr4, NetAddr, Metric, Tc, TcRow, Base, host, router_eq, address_eq, network_eq, BecomesSet, GivesRouter, GivesAddress, GivesNetwork, GivenBy, router_of, address_of, network_of, network_with}
+use Rattle.mesh_topo.proofs.Common.{◌≡◌, ℕ, inl, inr, Bool, true, false, cond, Option, Some, None, Contains, refl, sym, ap, ◌∙◌, arith, option_map, IsTrue, common_steps, Addr4, NetAddr, Metric, Tc, TcRow, Base, host, router_eq, address_eq, network_eq, BecomesSet, GivesRouter, GivesAddress, GivesNetwork, GivenBy, router_of, address_of, network_of, network_with}
 use Rattle.mesh_atoms.specs.declared.tuples.RouterKey.{RouterKey}
 use Rattle.mesh_atoms.specs.declared.tuples.RouterTuple.{RouterTuple}
 use Rattle.mesh_atoms.specs.declared.tuples.AddressKey.{AddressKey}
@@ -65,9 +65,7 @@ address_set tc until old new hosts set = set_by address_eq tc until _ _ _ _ old 
 -- a network tuple by its parts
 network_parts : (from : Addr4) (ansn : ℕ) (net : NetAddr) (d : Option ℕ) (m : Option Metric) (k : NetworkKey) (t : NetworkTuple) → network_with from ansn net d m ≡ Some (k, t) →
     (k.from ≡ from) × (net ≡ k.net) × (d ≡ Some t.distance) × (m ≡ Some t.metric) × (t.ansn ≡ ansn)
-network_parts from ansn net (Some d) (Some m) k t e = grind (arith, common_steps)
-network_parts from ansn net (Some d) None k t e = absurd cc
-network_parts from ansn net None m k t e = absurd cc
+network_parts from ansn net d m k t e = grind (arith, common_steps)
 
 pub network_set : (tc : Tc) (until : ℕ) (old new : Base NetworkKey NetworkTuple) → BecomesSet network_eq tc until (λ k. k.from) (λ t. t.ansn) (GivenBy network_of tc) old new →
     BecomesSet network_eq tc until (λ k. k.from) (λ t. t.ansn) (λ k t. GivesNetwork tc k t.distance t.metric × (t.ansn ≡ tc.ansn)) old new

@@ -1,5 +1,5 @@
 -- What expiry and TCs keep of a topology.
-use Rattle.mesh_topo.proofs.Common.{◌≡◌, ℕ, ◌+◌, ◌<◌, ◌⊎◌, inl, inr, Bool, true, false, cond, [], Option, Some, None, Result, Ok, Err, refl, sym, ap, subst, ◌∙◌, arith, common_steps, nat_lt, IfOk, OnOk, lt-ltb, Addr4, Tc, if_not_dropped, Becomes, BecomesSet, Given, Left, AfterTc, TcAnswer, TakesTc, Is_old, Overfull, Takes, Base, find, if_live, Expires, IsFresh, SetsOnly, addr_eq, router_eq, address_eq, network_eq, LiveTopology, distinct_none, TopologyBase, IsOriginator, AreFew, AreFresh, same_addr}
+use Rattle.mesh_topo.proofs.Common.{◌≡◌, ℕ, ◌+◌, ◌<◌, ◌⊎◌, inl, inr, Bool, true, false, cond, [], Option, Some, None, Result, Ok, Err, refl, sym, ap, subst, ◌∙◌, arith, nat_lt, IfOk, OnOk, common_steps, lt-ltb, Addr4, Tc, if_not_dropped, Becomes, BecomesSet, AfterTc, TcAnswer, TakesTc, Base, find, if_live, Expires, IsFresh, SetsOnly, addr_eq, router_eq, address_eq, network_eq, LiveTopology, distinct_none, TopologyBase, IsOriginator, AreFew, AreFresh, same_addr}
 use Rattle.std.specs.declared.alloc.AllocError.{AllocError}
 use Rattle.mesh_atoms.specs.declared.settings.RouterSettings.{RouterSettings}
 use Rattle.mesh_atoms.specs.declared.tuples.Advertiser.{Advertiser}
@@ -11,8 +11,7 @@ use Rattle.mesh_topo.specs.Answers.{answer_of}
 
 -- what is left was there, and isn't expired
 live_from : {V : Type 0} (now : ℕ) (o : Option (V × ℕ)) (value : V) (until : ℕ) → if_live now o ≡ Some (value, until) → nat_lt now until ≡ true
-live_from now None value until e = absurd cc
-live_from now (Some x) value until e = grind (arith, common_steps)
+live_from now o value until e = grind (arith, common_steps)
 
 pub expired_fresh : {K V : Type 0} (eq : K → K → Bool) (now : ℕ) (old new : Base K V) → Expires eq now old new → IsFresh eq now new
 expired_fresh eq now old new expires q value until e = live_from now (find eq old q) value until (sym (expires q) ∙ e)
@@ -53,8 +52,7 @@ none_sound topology a r d n settings now = record {
 -- ---- a TC
 
 kept_was : {V : Type 0} (tc : Tc) (from : Addr4) (number : V → ℕ) (o : Option (V × ℕ)) (e : V × ℕ) → if_not_dropped tc from number o ≡ Some e → o ≡ Some e
-kept_was tc from number None e h = absurd cc
-kept_was tc from number (Some f) e h = grind (arith, common_steps)
+kept_was tc from number o e h = grind (arith, common_steps)
 
 above : (n v : ℕ) → 0 < v → n < n + v
 above n v lasts = omega arith
@@ -65,13 +63,11 @@ later {V} tc now given value until new lasts is e = grind (arith, common_steps, 
 
 becomes_fresh : {K V : Type 0} (tc : Tc) (now : ℕ) (from : K → Addr4) (number : V → ℕ) (G : K → V → Type 0) (key : K) (old new : Option (V × ℕ)) (value : V) (until : ℕ) → 0 < tc.validity →
     Becomes tc (now + tc.validity) from number G key old new → (old ≡ Some (value, until) → nat_lt now until ≡ true) → new ≡ Some (value, until) → nat_lt now until ≡ true
-becomes_fresh tc now from number G key old new value until lasts (Given given gives is) fresh e = later tc now given value until new lasts is e
-becomes_fresh tc now from number G key old new value until lasts (Left none is) fresh e = fresh (kept_was tc (from key) number old (value, until) (sym is ∙ e))
+becomes_fresh tc now from number G key old new value until lasts h11 fresh e = grind (arith, common_steps, kept_was)
 
 becomes_none : {K V : Type 0} (tc : Tc) (until : ℕ) (from : K → Addr4) (number : V → ℕ) (G : K → V → Type 0) (key : K) (old new : Option (V × ℕ)) →
     ((value : V) → G key value → ⊥) → Becomes tc until from number G key old new → old ≡ None → new ≡ None
-becomes_none tc until from number G key old new never (Given value gives is) none = absurd (never value gives)
-becomes_none tc until from number G key old new never (Left not_given is) none = is ∙ ap (if_not_dropped tc (from key) number) none
+becomes_none tc until from number G key old new never h9 none = grind (arith, common_steps)
 
 set_fresh : {K V : Type 0} (eq : K → K → Bool) (tc : Tc) (now : ℕ) (from : K → Addr4) (number : V → ℕ) (G : K → V → Type 0) (old new : Base K V) → 0 < tc.validity →
     BecomesSet eq tc (now + tc.validity) from number G old new → IsFresh eq now old → IsFresh eq now new
@@ -106,9 +102,7 @@ after_sound settings now tc old new lasts other few after sound =
 
 -- a TC that isn't taken changes nothing
 taken_cases : (now : ℕ) (tc : Tc) (old new : TopologyBase) (answer : TcAnswer) → TakesTc now tc old new answer → (new ≡ old) ⊎ AfterTc now tc old new
-taken_cases now tc old new answer (Is_old kept is) = inl refl
-taken_cases now tc old new answer (Overfull kind not_old first) = inl refl
-taken_cases now tc old new answer (Takes not_old none after) = inr after
+taken_cases now tc old new answer h5 = grind (arith, common_steps)
 
 pub tc_fresh : (now : ℕ) (tc : Tc) (old new : TopologyBase) (r : Result (TcTaken × Bool) AllocError) → IfOk r (λ told. TakesTc now tc old new (answer_of told.0)) → OnOk r (0 < tc.validity → AreFresh now old → AreFresh now new)
 tc_fresh now tc old new (Ok told) takes = grind (arith, common_steps, taken_cases, after_fresh)

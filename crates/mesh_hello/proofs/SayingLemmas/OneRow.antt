@@ -1,5 +1,5 @@
 -- The row of an address says what is shown of it.
-use Rattle.mesh_hello.proofs.Common.{◌≡◌, ℕ, Bool, true, false, refl, sym, ap, ◌∙◌, subst, arith, common_steps, Contains, Option, Some, None, slice_get, IsTrue, IfSome, IfNone, ◌↔◌, is_some, false≢true, place_from_lookup, lookup-from_Contains, Addr4, HelloRow, RouterSettings, LinkKey, Link, Lost, Neighbour, Relays, Base, Has, HasDistinctKeys, addr_eq, link_eq, find, host, entry_of, value_of, Bor, has_found, addr_equiv, same_addr, link_equiv, same_link, IsHelloRow, IsValue, State, IsLinkWith, IsNeighbourWith, AreDisjoint, IsLocalOn, IsRelayOf, IsFloodingRelayOver, IsHelloRowOf, said_addresses, link_status_said, other_said, link_in_said, link_out_said, near_in_said, near_out_said, contains_at, same_some, none_not}
+use Rattle.mesh_hello.proofs.Common.{◌≡◌, ℕ, Bool, true, false, refl, sym, ap, ◌∙◌, subst, arith, Contains, Option, Some, None, slice_get, IsTrue, IfSome, IfNone, ◌↔◌, is_some, common_steps, false≢true, place_from_lookup, lookup-from_Contains, Addr4, HelloRow, RouterSettings, LinkKey, Link, Lost, Neighbour, Relays, Base, Has, HasDistinctKeys, addr_eq, link_eq, find, host, entry_of, value_of, Bor, has_found, addr_equiv, same_addr, link_equiv, same_link, IsHelloRow, IsValue, State, IsLinkWith, IsNeighbourWith, AreDisjoint, IsLocalOn, IsRelayOf, IsFloodingRelayOver, IsHelloRowOf, said_addresses, link_status_said, other_said, link_in_said, link_out_said, near_in_said, near_out_said, contains_at, same_some, none_not}
 use Rattle.mesh_links.specs.Links.{HasLinkWith}
 use Rattle.mesh_hello.proofs.SayingLemmas.Parts.{IsStatus, is_status, is_only, local_told, link_told, other_told, link_in_told, link_out_told, near_in_told, near_out_told, flooding_told, routing_told}
 use Rattle.mesh_hello.proofs.SayingLemmas.Somewhere.{told_some}
@@ -70,8 +70,7 @@ lost_by losts a None b distinct is so = (
 lost_by losts a (Some e) b distinct is so = ((λ h. (e.0.now, (has_found addr_equiv same_addr losts a e.0.now distinct).1 (e.1, sym is))), (λ w. so))
 
 pub lent_some : {K V : Type 0} (o : Option (Bor K × Bor V × ℕ)) → is_some o ≡ is_some (entry_of o)
-lent_some None = refl
-lent_some (Some e) = refl
+lent_some o = grind (arith, common_steps)
 
 -- Tuples that have an address
 

@@ -1,10 +1,8 @@
 -- Rows of a router's own addresses say nothing else of them.
-use Rattle.mesh_hello.proofs.Common.{◌≡◌, ℕ, inl, inr, refl, ◌∙◌, ap, Contains, Bool, true, false, arith, common_steps, Option, Some, None, IsTrue, IsSome, false≢true, Addr4, Hello, HelloRow, LinkStatus, Symmetric, Heard, LocalIf, This, Other, Metric, RouterSettings, Relays, Part, Says, IsHelloNow, local_part, link_part, other_part, Link_in, Link_out, Near_in, Near_out, Flooding, Routing, IsValue, SoundNeighbourhood, State, Neighbourhood, HasAddress, IsHeld}
-use Rattle.mesh_atoms.specs.declared.hello.LinkStatus.TheVariants.{Lost as Down}
+use Rattle.mesh_hello.proofs.Common.{◌≡◌, ℕ, inl, inr, refl, ◌∙◌, ap, Contains, Bool, false, arith, Option, None, IsTrue, IsSome, common_steps, Addr4, Hello, HelloRow, LinkStatus, LocalIf, Metric, RouterSettings, Relays, Part, Says, IsHelloNow, local_part, link_part, other_part, Link_in, Link_out, Near_in, Near_out, Flooding, Routing, IsValue, SoundNeighbourhood, State, Neighbourhood, HasAddress, IsHeld}
 use Rattle.mesh_atoms.specs.declared.hello.Metrics.{Metrics}
 use Rattle.mesh_atoms.specs.declared.hello.Mpr.{Mpr}
 use Rattle.mesh_atoms.specs.declared.hello.OtherStatus.{OtherStatus}
-use Rattle.mesh_atoms.specs.declared.hello.OtherStatus.TheVariants.{Lost as No_more, Symmetric as Still}
 use Rattle.mesh_atoms.specs.Writable.{IsAlone}
 use Rattle.mesh_hello.proofs.SayingLemmas.RowCounts.{tuple_held, sample}
 use Rattle.mesh_hello.proofs.SayingLemmas.Whose.{IsLocal, whose}
@@ -23,26 +21,19 @@ own_only s i now m sound a mine part says = elim (whose s i now a part says) [
 -- Values
 
 none_value : {A : Type 0} (P : A → Type 0) (o : Option A) → ((a : A) → P a → ⊥) → IsValue P o → o ≡ None
-none_value P None never is = refl
-none_value P (Some a) never is = absurd (never a is)
+none_value P o never is = grind (arith, common_steps)
 
 not_set : (b : Bool) → (IsTrue b → ⊥) → b ≡ false
-not_set true never = absurd (never refl)
-not_set false never = refl
+not_set b never = grind (arith, common_steps)
 
 link_not_local : (v : LinkStatus) → IsLocal (link_part v) → ⊥
-link_not_local Down h = h
-link_not_local Symmetric h = h
-link_not_local Heard h = h
+link_not_local v h = grind (arith, common_steps)
 
 other_not_local : (v : OtherStatus) → IsLocal (other_part v) → ⊥
-other_not_local No_more h = h
-other_not_local Still h = h
+other_not_local v h = grind (arith, common_steps)
 
 local_mine : (s : State) (i now : ℕ) (a : Addr4) (o : Option LocalIf) → IsSome o → IsValue (λ v. Says s i now a (local_part v)) o → HasAddress s.settings a
-local_mine s i now a None some h = absurd (false≢true some)
-local_mine s i now a (Some This) some h = (i, h)
-local_mine s i now a (Some Other) some h = (h.0, h.2)
+local_mine s i now a o some h = grind (arith, common_steps)
 
 abbrev shown : Option Metric → Option Metric → Option Metric → Option Metric → Metrics
 shown link_in link_out near_in near_out = record { link_in = link_in; link_out = link_out; near_in = near_in; near_out = near_out }

@@ -1,5 +1,5 @@
 -- How many rows a HELLO has.
-use Rattle.mesh_hello.proofs.Common.{◌≡◌, ℕ, zero, suc, ◌+◌, ◌*◌, ◌<◌, ◌≤◌, ◌⊎◌, inl, inr, refl, sym, ◌∙◌, ap, subst, arith, List, [], ◌∷◌, ◌++◌, length, length-append, map, Contains, Bool, true, false, get_or, common_steps, not, None, AllPairs, filter, flat_map, list_any, cases_lt, false≢true, length-map, get_or-map, All-filter, All-contains, All-contains_itself, filter_passes, Contains-append_left, Contains-append_right, Contains-get_or, AllPairs-filter, list_any-from_Contains, Addr4, NetAddr, Hello, HelloRow, Interface, RouterSettings, Link, LinkKey, Neighbour, addr_eq, Part, Says, IsHelloNow, IsBefore, IsAscending, AreMoreThan, SoundNeighbourhood, State, Neighbourhood, HasAddress, HasLink, HasSymmetricWith, IsHeld, addr_equiv, same_addr, has_found, looks_up_links, looks_up_neighbours, Relays, contains_filter as picked, contains_at, contains_flat_map}
+use Rattle.mesh_hello.proofs.Common.{◌≡◌, ℕ, zero, suc, ◌+◌, ◌*◌, ◌<◌, ◌≤◌, ◌⊎◌, inl, inr, refl, sym, ◌∙◌, ap, subst, arith, List, [], ◌∷◌, ◌++◌, length, length-append, map, Contains, Bool, true, false, get_or, not, None, AllPairs, common_steps, filter, flat_map, list_any, cases_lt, false≢true, length-map, get_or-map, All-filter, All-contains, All-contains_itself, filter_passes, Contains-append_left, Contains-append_right, Contains-get_or, AllPairs-filter, list_any-from_Contains, Addr4, NetAddr, Hello, HelloRow, Interface, RouterSettings, Link, LinkKey, Neighbour, addr_eq, Part, Says, IsHelloNow, IsBefore, IsAscending, AreMoreThan, SoundNeighbourhood, State, Neighbourhood, HasAddress, HasLink, HasSymmetricWith, IsHeld, addr_equiv, same_addr, has_found, looks_up_links, looks_up_neighbours, Relays, contains_filter as picked, contains_at, contains_flat_map}
 use Rattle.mesh_hello.proofs.Sorted.{distinct_ascending}
 use Rattle.mesh_hello.proofs.SayingLemmas.Whose.{HasTuple, Linked, Near, Gone, whose}
 use Rattle.mesh_hello.proofs.Fits.{any_contains, distinct_fits}
@@ -45,8 +45,7 @@ counted own list P most up few each =
 -- Rows
 
 less : (x y : NetAddr) → x.prefix ≡ 32 → y.prefix ≡ 32 → IsBefore x y → x.addr.0 < y.addr.0
-less x y p q (inl lt) = lt
-less x y p q (inr e) = absurd (omega (arith, p, q, e.1))
+less x y p q h4 = grind (arith, common_steps)
 
 -- rows of hosts in order have ascending addresses
 pub rows_ascend : {R : Type 0} (net : R → NetAddr) (rows : List R) → ((r : R) → Contains rows r → (net r).prefix ≡ 32) → AllPairs (λ (r t : R). IsBefore (net r) (net t)) rows → IsAscending (map (λ (r : R). (net r).addr) rows)

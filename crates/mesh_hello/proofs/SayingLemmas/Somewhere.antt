@@ -1,5 +1,5 @@
 -- The addresses of which something is said are those that are put into the list.
-use Rattle.mesh_hello.proofs.Common.{◌≡◌, ◌++◌, ℕ, Bool, true, false, cond, nat_lt, inl, inr, List, [], ◌∷◌, refl, sym, ◌∙◌, ap, subst, slice_get, arith, common_steps, Contains, Option, Some, None, IsTrue, flat_map, keys_of, false≢true, cases_eq, Contains-append_left, Contains-append_right, Contains-append_cases, Addr4, LinkStatus, Symmetric, Heard, Interface, LinkKey, Link, Lost, Neighbour, Base, Has, Part, This_if, Other_if, Link_lost, Link_symmetric, Link_heard, Other_lost, Other_symmetric, Says, HasLinkTo, LinkState, Pending as Is_pending, State, state_of, HasSymmetricWith, HasAddressOn, linked_addresses, symmetric_addresses, said_addresses, contains_head, contains_flat_map_cases, contains_flat_map, contains_at, place_of, contains_cases, contains_tail, same_some}
+use Rattle.mesh_hello.proofs.Common.{◌≡◌, ◌++◌, ℕ, Bool, true, false, cond, nat_lt, inl, inr, List, [], ◌∷◌, refl, sym, ◌∙◌, ap, subst, slice_get, arith, Contains, Option, Some, None, IsTrue, common_steps, flat_map, keys_of, false≢true, cases_eq, Contains-append_left, Contains-append_right, Contains-append_cases, Addr4, LinkStatus, Symmetric, Heard, Interface, LinkKey, Link, Lost, Neighbour, Base, Has, Part, This_if, Other_if, Link_lost, Link_symmetric, Link_heard, Other_lost, Other_symmetric, Says, HasLinkTo, LinkState, Pending as Is_pending, State, state_of, HasSymmetricWith, HasAddressOn, linked_addresses, symmetric_addresses, said_addresses, contains_head, contains_flat_map_cases, contains_flat_map, contains_at, place_of, contains_cases, contains_tail, same_some}
 use Rattle.mesh_atoms.specs.declared.hello.LinkStatus.TheVariants.{Lost as Down}
 use Rattle.mesh_atoms.specs.declared.tuples.LinkState.TheVariants.{Lost as Is_lost, Symmetric as Is_symmetric, Heard as Is_heard}
 use Rattle.mesh_hello.proofs.SayingLemmas.Parts.{IsStatus, not_symmetric}
@@ -24,20 +24,16 @@ key_gives {K} {V} (x ∷ xs) k v w = elim (contains_cases x xs (k, v) w) [
 -- The addresses of one tuple
 
 linked_not_pending : (l : Link) (a : Addr4) (pending : Bool) → l.pending ≡ pending → Contains (cond pending [] l.addrs) a → (l.pending ≡ false) × Contains l.addrs a
-linked_not_pending l a true is (k, lt, at) = absurd (omega arith)
-linked_not_pending l a false is has = (is, has)
+linked_not_pending l a pending is h4 = grind (arith, common_steps)
 
 linked_so : (l : Link) (a : Addr4) (pending : Bool) → l.pending ≡ pending → (l.pending ≡ true → ⊥) → Contains l.addrs a → Contains (cond pending [] l.addrs) a
-linked_so l a true is not has = absurd (not is)
-linked_so l a false is not has = has
+linked_so l a pending is not has = grind (arith, common_steps)
 
 symmetric_given : (n : Neighbour) (a : Addr4) (symmetric : Bool) → n.symmetric ≡ symmetric → Contains (cond symmetric n.addrs []) a → IsTrue n.symmetric × Contains n.addrs a
-symmetric_given n a true is has = (is, has)
-symmetric_given n a false is (k, lt, at) = absurd (omega arith)
+symmetric_given n a symmetric is has = grind (arith, common_steps)
 
 symmetric_so : (n : Neighbour) (a : Addr4) (symmetric : Bool) → n.symmetric ≡ symmetric → IsTrue n.symmetric → Contains n.addrs a → Contains (cond symmetric n.addrs []) a
-symmetric_so n a true is so has = has
-symmetric_so n a false is so has = absurd (false≢true (sym is ∙ so))
+symmetric_so n a symmetric is so has = grind (arith, common_steps)
 
 -- a state that is another
 abbrev is_pending : LinkState → Bool
@@ -96,8 +92,7 @@ module _ (s : State) (i now : ℕ) (a : Addr4) (links : Base LinkKey Link) (at :
       (symmetric_so n a n.symmetric refl is has))))
 
   gone_in : (lost : Lost) → Has s.bases.neighbourhood.losts a lost → Contains told a
-  gone_in lost (until, stands) =
-      Contains-append_left gone (mine ++ (linked ++ near)) a (key_gives s.bases.neighbourhood.losts a (lost, until) stands)
+  gone_in lost h1 = grind (arith, common_steps, Contains-append_left, key_gives)
 
   pub told_all : (part : Part) → Says s i now a part → Contains told a
   told_all part w = elim (whose s i now a part w) [

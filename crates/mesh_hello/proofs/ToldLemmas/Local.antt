@@ -1,5 +1,5 @@
 -- What rows tell as the sender's, and which HELLOs are refused for it.
-use Rattle.mesh_hello.proofs.Common.{◌≡◌, ◌≢◌, ℕ, Bool, true, false, not, inl, inr, refl, sym, ap, ◌∙◌, arith, common_steps, IsTrue, ◌↔◌, List, Contains, Any, Some, None, Option, is_some, unwrap_or, eq-eqb, Addr4, NetAddr, LocalIf, This, Other, HelloRow, Hello, RouterSettings, host, addr_eq, IsValue, HasAddress, TellsLocal, IsListed, IsOwn, Local, Originator, Sender, IsNameless, IsFault, IsFaultAt, same_addr, same_net, IsLocalRow, IsLocalWith, IsBareSender, NamesAsSender, some_of, same_address}
+use Rattle.mesh_hello.proofs.Common.{◌≡◌, ◌≢◌, ℕ, Bool, true, false, not, inl, inr, refl, sym, ap, ◌∙◌, arith, IsTrue, ◌↔◌, List, Contains, Any, Some, None, Option, is_some, unwrap_or, common_steps, eq-eqb, Addr4, NetAddr, LocalIf, This, Other, HelloRow, Hello, RouterSettings, host, addr_eq, IsValue, HasAddress, TellsLocal, IsListed, IsOwn, Local, Originator, Sender, IsNameless, IsFault, IsFaultAt, same_addr, same_net, IsLocalRow, IsLocalWith, IsBareSender, NamesAsSender, some_of, same_address}
 
 pub host_of : (net : NetAddr) → net.prefix ≡ 32 → net ≡ host net.addr
 host_of net e = same_net net (host net.addr) refl e
@@ -103,12 +103,10 @@ pub beyond : (a first : Addr4) (b : Bool) → b ≡ not (addr_eq a first) → Is
 beyond a first b e = grind (arith, common_steps, eq-eqb, same_addr)
 
 negated : (b : Bool) → false ≡ not b → b ≡ true
-negated true e = refl
-negated false e = absurd cc
+negated b e = grind (arith, common_steps)
 
 pub no_value : {A : Type 0} (o : Option A) (b : Bool) → is_some o ≡ not b → b ≡ true → o ≡ None
-no_value None b e h = refl
-no_value (Some a) b e h = absurd cc
+no_value o b e h = grind (arith, common_steps)
 
 pub bare : (own : List Addr4) (sender : Addr4) (hello : Hello) (o : Option Addr4) (b : Bool) → Contains own sender → IsValue (λ a. TellsLocal hello a This) o →
     is_some o ≡ not b → IsTrue b ↔ IsBareSender own sender hello

@@ -1,11 +1,10 @@
 -- Lists of the sender's addresses.
-use Rattle.mesh_hello.proofs.Common.{◌≡◌, ◌↔◌, inl, inr, refl, sym, ap, subst, arith, List, [], ◌∷◌, ◌++◌, length, Contains, Some, Contains-append_cases, Contains-append_left, Contains-append_right, Addr4, NetAddr, Hello, HelloRow, LocalIf, This, Other, host, TellsLocal, IsSending, IsListed, same_net, Gathers, IsLocalAddress, IsOrSender}
+use Rattle.mesh_hello.proofs.Common.{common_steps, ◌≡◌, ◌↔◌, inl, inr, refl, sym, subst, arith, List, [], ◌∷◌, ◌++◌, length, Contains, Some, Contains-append_cases, Contains-append_left, Contains-append_right, Addr4, Hello, HelloRow, LocalIf, This, Other, TellsLocal, IsSending, IsListed, same_net, Gathers, IsLocalAddress, IsOrSender}
 use Rattle.mesh_hello.proofs.Collect.{SomeBelow, below_contains, adds_one}
 
 -- a row that shows one adds it
 pub adds_local : (old new : List Addr4) (row : HelloRow) (local : LocalIf) → new ≡ old ++ row.addr.addr ∷ [] → row.addr.prefix ≡ 32 → row.local ≡ Some local → Gathers old new (IsLocalAddress row local)
-adds_local old new row local is prefix shown =
-    adds_one old new (IsLocalAddress row local) row.addr.addr is (same_net row.addr (host row.addr.addr) refl prefix, shown) (λ a p. ap (λ (net : NetAddr). net.addr) p.0)
+adds_local old new row local is prefix shown = grind (arith, common_steps, adds_one, same_net)
 
 -- all rows show what the HELLO shows
 pub tells_local : (hello : Hello) (local : LocalIf) (a : Addr4) → SomeBelow hello.rows (length hello.rows) (λ row. IsLocalAddress row local a) ↔ TellsLocal hello a local

@@ -1,5 +1,5 @@
 -- The rows of what is offered are the rows that a router advertises.
-use Rattle.mesh_topo.proofs.Common.{◌≡◌, ◌≤◌, not, ◌⊎◌, ◌↔◌, inl, inr, Bool, true, false, cond, List, [], ◌∷◌, map, Option, Some, None, refl, sym, ap, subst, ◌∙◌, arith, common_steps, Contains, IsTrue, flat_map, is_none, list_any, is_eq, BTreeMap, get, IsOrdered, cases_Bool, and_parts as both, Addr4, NetAddr, Metric, TcRow, GivesAsSelector, AdvertisesBy, AdvertisesOriginatorBy, IsRowBy, Of_address, Of_network, AreRowsBy, AreTcRows, host, net_eq, metric_value, State, HasSymmetric, cost-injective, Offer, Selector, net_cmp, offered, of_address, of_selector, of_network, row_of, net_total, net_exact, same_at, at_same, contains_head as at_head, contains_tail as in_tail, contains_cases, contains_none as none_in, contains_map as in_map, contains_map_cases as from_map, contains_flat_map as in_each, contains_flat_map_cases, same_metric, list_any_at}
+use Rattle.mesh_topo.proofs.Common.{◌≡◌, ◌≤◌, not, ◌⊎◌, ◌↔◌, inl, inr, Bool, true, false, cond, List, [], ◌∷◌, map, Option, Some, None, refl, sym, ap, subst, ◌∙◌, arith, Contains, IsTrue, flat_map, is_none, common_steps, list_any, is_eq, BTreeMap, get, IsOrdered, cases_Bool, and_parts as both, Addr4, NetAddr, Metric, TcRow, GivesAsSelector, AdvertisesBy, AdvertisesOriginatorBy, IsRowBy, Of_address, Of_network, AreRowsBy, AreTcRows, host, net_eq, metric_value, State, HasSymmetric, cost-injective, Offer, Selector, net_cmp, offered, of_address, of_selector, of_network, row_of, net_total, net_exact, same_at, at_same, contains_head as at_head, contains_tail as in_tail, contains_cases, contains_none as none_in, contains_map as in_map, contains_map_cases as from_map, contains_flat_map as in_each, contains_flat_map_cases, same_metric, list_any_at}
 use Rattle.std.proofs.lemmas.Map.Views.{btree_map_get_iff}
 use Rattle.mesh_atoms.specs.declared.settings.Attached4.{Attached4}
 use Rattle.mesh_atoms.specs.Settings.{are_distinct}
@@ -107,9 +107,7 @@ same_cost : (a b : Metric) → metric_value a ≤ metric_value b → metric_valu
 same_cost a b le ge = same_metric a b (cost-injective a.code b.code (omega arith))
 
 same_test : (a b : Bool) → IsTrue a ↔ IsTrue b → a ≡ b
-same_test true b h = sym (h.0 refl)
-same_test false true h = h.1 refl
-same_test false false h = refl
+same_test a b h = grind (arith, common_steps)
 
 row_is : (row : TcRow) (o : Offer) → row.origin ≡ o.origin → row.routable ≡ is_none o.gateway → row.gateway ≡ o.gateway → row.metric ≡ Some o.metric → row_of (row.dest, o) ≡ row
 row_is row o origin routable gateway metric = grind (arith, common_steps, origin, gateway, metric)

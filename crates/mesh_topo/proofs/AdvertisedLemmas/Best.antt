@@ -1,5 +1,5 @@
 -- The best of what is offered of a node.
-use Rattle.mesh_topo.proofs.Common.{◌≡◌, ◌<◌, ◌≤◌, ◌⊎◌, ◌↔◌, inl, inr, Bool, true, false, cond, List, [], ◌∷◌, Option, Some, None, refl, sym, ap, subst, ◌∙◌, arith, Contains, IsTrue, is_some, nat_lt, ◌||◌, is_eq, ltb-true, ltb-false, NetAddr, Metric, metric_value, cost-le, Offer, net_cmp, lesser, put_offer, offered, same_at, at_same, contains_head as at_head, contains_tail as in_tail, contains_cases, contains_none as none_in}
+use Rattle.mesh_topo.proofs.Common.{common_steps, ◌≡◌, ◌≤◌, ◌⊎◌, ◌↔◌, inl, inr, Bool, true, false, cond, List, [], ◌∷◌, Option, Some, None, refl, sym, ap, subst, ◌∙◌, arith, Contains, IsTrue, is_some, ◌||◌, is_eq, NetAddr, Metric, metric_value, cost-le, Offer, net_cmp, lesser, put_offer, offered, same_at, at_same, contains_head as at_head, contains_tail as in_tail, contains_cases, contains_none as none_in}
 
 -- the offer sums up these offers of an address
 pub record Best (C : Offer → Type 0) (o : Offer) : Type 0 where
@@ -24,14 +24,10 @@ sums_as C C' (Some o) there back best = record {
 
 -- the lesser metric is one of the two, and no dearer than either
 lesser_cases : (a b : Metric) → ((lesser a b ≡ a) ⊎ (lesser a b ≡ b)) × (metric_value (lesser a b) ≤ metric_value a) × (metric_value (lesser a b) ≤ metric_value b)
-lesser_cases a b = by_case (nat_lt b.code a.code) refl where
-  by_case : (t : Bool) → nat_lt b.code a.code ≡ t → ((cond t b a ≡ a) ⊎ (cond t b a ≡ b)) × (metric_value (cond t b a) ≤ metric_value a) × (metric_value (cond t b a) ≤ metric_value b)
-  by_case true is = let less : b.code < a.code = ltb-true b.code a.code is in (inr refl, cost-le b.code a.code (omega arith), omega arith)
-  by_case false is = (inl refl, omega arith, cost-le a.code b.code (ltb-false b.code a.code is))
+lesser_cases a b = grind (arith, common_steps, metric_value, cost-le)
 
 either : (a b : Bool) → IsTrue (a || b) ↔ (IsTrue a ⊎ IsTrue b)
-either true b = (λ _. inl refl, λ _. refl)
-either false b = (λ e. inr e, λ t. elim t [ inl e ↦ absurd cc | inr e ↦ e ])
+either a b = grind (arith, common_steps)
 
 -- one offer more
 pub sums_more : (C : Offer → Type 0) (old : Option Offer) (new : Offer) → new.gateway ≡ None → SumsUp C old → SumsUp (λ e. C e ⊎ (e ≡ new)) (Some (put_offer old new))

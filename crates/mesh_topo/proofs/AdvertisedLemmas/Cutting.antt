@@ -1,5 +1,5 @@
 -- Rows that are cut into runs.
-use Rattle.mesh_topo.proofs.Common.{◌≡◌, ℕ, suc, ◌+◌, ◌-◌, ◌*◌, ◌<◌, ◌≤◌, inl, inr, List, [], ◌∷◌, ◌++◌, length, take, drop, map, sym, ap, subst, ◌∙◌, arith, length-append, length-take, length-drop, Some, common_steps, slice_get, slice_range, flat_map, option_map, min, cases_lt, flat_map-append, take-append-drop, nil_from_length, append-nil, length-map, flat_map-map, slice_get-map, slice_get_within, TcRow, AreParts, PartSpan, part_of, AreSpans, item_at as there, get_pushed as push_at}
+use Rattle.mesh_topo.proofs.Common.{◌≡◌, ℕ, suc, ◌+◌, ◌-◌, ◌*◌, ◌<◌, ◌≤◌, inl, inr, List, [], ◌∷◌, ◌++◌, length, take, drop, map, sym, ap, subst, ◌∙◌, arith, length-append, length-take, length-drop, Some, slice_get, slice_range, flat_map, option_map, min, common_steps, flat_map-append, cases_lt, take-append-drop, nil_from_length, append-nil, length-map, flat_map-map, slice_get-map, slice_get_within, TcRow, AreParts, PartSpan, part_of, AreSpans, item_at as there, get_pushed as push_at}
 use Rattle.std.proofs.Math.Nat.{mul-le-mul_right, suc-mul}
 use Rattle.std.proofs.Math.Seq.{take-append-add, take-length}
 
@@ -58,14 +58,7 @@ module _ (rows most first : ℕ) (spans : List PartSpan) (h : AreFull rows most 
   ends_before i lt = let le : suc i * most ≤ length spans * most = mul-le-mul_right most lt in omega (arith, le, h.reached, h.within, suc-mul i most)
 
   each : (i : ℕ) (span : PartSpan) → slice_get all i ≡ Some span → (span.first ≡ i * most) × (span.len ≡ min most (rows - i * most))
-  each i span at = elim (push_at spans last i span at) [
-    | inl before ↦ let (begins, long) = h.each i span before in (begins, omega (arith, long, ends_before i (slice_get_within spans i span before)))
-    | inr (end, is) ↦
-        let place : first ≡ i * most = h.reached ∙ ap (λ (n : ℕ). n * most) (sym end) in
-        let first_is : first ≡ span.first = ap (λ (t : PartSpan). t.first) is in
-        let len_is : rows - first ≡ span.len = ap (λ (t : PartSpan). t.len) is in
-        (sym first_is ∙ place, omega (arith, len_is, place, left))
-  ]
+  each i span at = grind (arith, common_steps, push_at, ends_before, slice_get_within)
 
   pub spans_are : AreSpans rows most all
   spans_are = record {

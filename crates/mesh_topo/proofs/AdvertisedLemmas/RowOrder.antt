@@ -1,5 +1,6 @@
 -- The rows of a map in the order of networks.
-use Rattle.mesh_topo.proofs.Common.{◌≡◌, ℕ, zero, suc, refl, sym, subst, arith, List, [], ◌∷◌, map, slice_index_or, AllPairs, Less, IsStrictlySortedBy, length-map, Less-from_sorted, NetAddr, TcRow, IsBefore, net_cmp, net_less, Offer, row_of}
+use Rattle.mesh_topo.proofs.Common.{◌≡◌, ℕ, zero, suc, refl, sym, subst, arith, List, [], ◌∷◌, map, slice_index_or, AllPairs, IsStrictlySortedBy, length-map, Less-from_sorted, NetAddr, TcRow, IsBefore, net_cmp, net_less, Offer, row_of}
+use Rattle.std.specs.declared.cmp.Ordering.TheVariants.{Less}
 use Rattle.std.specs.Map.{keys_of}
 
 dest_at : (es : List (NetAddr × Offer)) (k : ℕ) (d : TcRow) → (slice_index_or (map row_of es) k d).dest ≡ slice_index_or (keys_of es) k d.dest

@@ -1,6 +1,5 @@
 -- What a TC does to one set of tuples.
-use Rattle.mesh_topo.proofs.Common.{◌≡◌, ℕ, ◌+◌, ◌<◌, ◌≤◌, ◌⊎◌, inl, inr, Bool, true, false, cond, not, ◌&&◌, List, length, take, Option, Some, None, slice_index_or, refl, sym, ap, subst, ◌∙◌, arith, eq-eqb, option_map, slice_get, nat_eq, is_some, count_by, IsTrue, ◌↔◌, BTreeSet, IsEquivalence, Ordering, cases_lt, cases_Bool, false≢true, count_by_more_yes, count_by_more_no, slice_get-get_or, slice_get_within, get_or_from_slice_get, Addr4, Metric, Tc, Base, find, SetsOnly, addr_eq, if_not_dropped, Becomes, BecomesSet, Given, Left, AreKeys, find_same, SaysSame, GivenBy, GivenBefore, PutsGiven, PutsRows, Put, Stood}
-use Rattle.mesh_atoms.proofs.Options.{none_is_some}
+use Rattle.mesh_topo.proofs.Common.{common_steps, ◌≡◌, ℕ, ◌+◌, ◌<◌, ◌≤◌, ◌⊎◌, inl, inr, Bool, true, false, cond, not, ◌&&◌, List, length, take, Option, Some, None, slice_index_or, refl, sym, ap, subst, ◌∙◌, arith, eq-eqb, option_map, slice_get, nat_eq, is_some, count_by, IsTrue, ◌↔◌, BTreeSet, IsEquivalence, Ordering, cases_Bool, count_by_more_yes, count_by_more_no, slice_get-get_or, slice_get_within, get_or_from_slice_get, Addr4, Metric, Tc, Base, find, SetsOnly, addr_eq, if_not_dropped, Becomes, BecomesSet, Given, Left, AreKeys, find_same, SaysSame, GivenBy, GivenBefore, PutsGiven, PutsRows, Put, Stood}
 
 -- ---- rows that are put one after the other
 
@@ -11,19 +10,11 @@ module _ {R K V : Type 0} (given : R → Option (K × V)) (rows : List R) where
 
   -- the row at the last place, or one before
   before_last : (i : ℕ) (row : R) (key : K) (value : V) → slice_get rows i ≡ Some row → GivenBefore given rows (i + 1) key value → (given row ≡ Some (key, value)) ⊎ GivenBefore given rows i key value
-  before_last i row key value here (k, r, lt, at, is) = elim (cases_lt k i) [
-    | inl less ↦ inr (k, r, less, at, is)
-    | inr more ↦
-        let same : k ≡ i = omega arith in
-        let both : Some r ≡ Some row = sym at ∙ ap (λ (j : ℕ). slice_get rows j) same ∙ here in
-        let row_is : r ≡ row = cc in
-        inl (ap given (sym row_is) ∙ is)
-  ]
+  before_last i row key value here h5 = grind (arith, common_steps)
 
 -- what is put at one key
 at_key : {V : Type 0} (b : Bool) (value : V) (until : ℕ) (old new : Option (V × ℕ)) → new ≡ cond b (Some (value, until)) old → ((b ≡ true) × (new ≡ Some (value, until))) ⊎ ((b ≡ false) × (new ≡ old))
-at_key true value until old new e = inl (refl, e)
-at_key false value until old new e = inr (refl, e)
+at_key b value until old new e = grind (arith, common_steps)
 
 module _ {R K V : Type 0} {eq : K → K → Bool} (laws : IsEquivalence eq) (exact : (a b : K) → eq a b ≡ true → a ≡ b) (given : R → Option (K × V)) (until : ℕ) (rows : List R) where
   -- a row that gives nothing for the key leaves what stood
@@ -90,44 +81,17 @@ module _ {K V : Type 0} (eq : K → K → Bool) (says : V → Option ℕ × Metr
   pub same_equal : (old new : Base K V) → new ≡ old → SaysSame eq says old new
   same_equal old new is q = ap (λ (b : Base K V). option_map (λ e. says e.0) (find eq b q)) is
 
-  -- a tuple in place of one that says the same
-  pub same_put : (exact : (a b : K) → eq a b ≡ true → a ≡ b) (key : K) (value : V) (until : ℕ) (old new : Base K V) → option_map (λ e. says e.0) (find eq old key) ≡ Some (says value) → SetsOnly eq old new key (Some (value, until)) → SaysSame eq says old new
-  same_put exact key value until old new stood sets q = ap (option_map (λ e. says e.0)) (sets q) ∙ by_key (eq key q) refl where
-    by_key : (b : Bool) → eq key q ≡ b → option_map (λ e. says e.0) (cond b (Some (value, until)) (find eq old q)) ≡ option_map (λ e. says e.0) (find eq old q)
-    by_key false is = refl
-    by_key true is = sym (subst (λ (k : K). option_map (λ e. says e.0) (find eq old k) ≡ Some (says value)) (exact key q is) stood)
-
   -- at the key stands what is put there
   says_put : (laws : IsEquivalence eq) (key : K) (value : V) (until : ℕ) (old new : Base K V) → SetsOnly eq old new key (Some (value, until)) → option_map (λ e. says e.0) (find eq new key) ≡ Some (says value)
-  says_put laws key value until old new sets =
-      ap (option_map (λ e. says e.0)) (sets key) ∙ ap (λ b. option_map (λ e. says e.0) (cond b (Some (value, until)) (find eq old key))) (laws.refl key)
+  says_put laws key value until old new sets = grind (arith, common_steps)
 
   says_of : (o : Option (V × ℕ)) → option_map (λ e. says e.0) o ≡ option_map says (option_map (λ e. e.0) o)
-  says_of None = refl
-  says_of (Some e) = refl
+  says_of o = grind (arith, common_steps)
 
   -- all say the same where the tuple that is put says what the one before said
   pub put_same : (laws : IsEquivalence eq) (exact : (a b : K) → eq a b ≡ true → a ≡ b) (key : K) (before value : V) (until : ℕ) (old new : Base K V) (same : Bool)
       → Some before ≡ option_map (λ e. e.0) (find eq old key) → (IsTrue same ↔ (says before ≡ says value)) → SetsOnly eq old new key (Some (value, until)) → (not same ≡ false) ↔ SaysSame eq says old new
-  put_same laws exact key before value until old new same stood is sets = by_case same is where
-    said : option_map (λ e. says e.0) (find eq old key) ≡ Some (says before)
-    said = says_of (find eq old key) ∙ ap (option_map says) (sym stood)
-
-    by_case : (b : Bool) → (IsTrue b ↔ (says before ≡ says value)) → (not b ≡ false) ↔ SaysSame eq says old new
-    by_case true is = (λ _. same_put exact key value until old new (said ∙ ap Some (is.0 refl)) sets, λ _. refl)
-    by_case false is = (
-      λ apart. absurd cc,
-      λ says_same. let both : Some (says before) ≡ Some (says value) = sym said ∙ sym (says_same key) ∙ says_put laws key value until old new sets in
-          let one : says before ≡ says value = cc in
-          absurd (false≢true (is.1 one)),
-    )
-
-  -- a tuple that is put where none stood says something new
-  pub put_new : (laws : IsEquivalence eq) (key : K) (value : V) (until : ℕ) (old new : Base K V) → None ≡ option_map (λ e. e.0) (find eq old key) → SetsOnly eq old new key (Some (value, until)) → (true ≡ false) ↔ SaysSame eq says old new
-  put_new laws key value until old new none sets = (
-    λ apart. absurd cc,
-    λ says_same. absurd (none_is_some (ap (option_map says) none ∙ sym (says_of (find eq old key)) ∙ sym (says_same key) ∙ says_put laws key value until old new sets)),
-  )
+  put_same laws exact key before value until old new same stood is sets = grind (arith, common_steps, says_of, says_put)
 
 -- ---- the set of the keys
 

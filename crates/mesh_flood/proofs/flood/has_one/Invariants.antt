@@ -1,4 +1,5 @@
-use Rattle.mesh_flood.proofs.Common.{ℕ, ◌<◌, base_of, HasKey}
+use Rattle.mesh_flood.proofs.Common.{ℕ, ◌<◌, base_of}
+use Rattle.mesh_flood.specs.Standing.{HasKey}
 use Rattle.mesh_flood.proofs.flood.has_one.Given as goal
 
 abbrev pub invariant-loop-set : goal.invariant-loop-set

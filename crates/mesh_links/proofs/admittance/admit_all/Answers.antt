@@ -1,12 +1,7 @@
-use Rattle.mesh_links.proofs.Common.{arith, refl}
+use Rattle.mesh_links.proofs.Common.{arith}
 use Rattle.mesh_links.proofs.Admitted.{admits_links, one_more_admitted}
 use Rattle.mesh_links.proofs.Tied.{fewer_same, fewer_twice}
 use Rattle.mesh_links.proofs.admittance.admit_all.Goals as goal
-
-pub loop-place-init : goal.loop-place-init
-loop-place-init g c =
-    let before = g.T.Table.content c.args.table.now in
-    record { content = refl; distinct = c.len-place-end.ensures.distinct; room = c.requires.room; fewer = fewer_same before before refl }
 
 pub loop-place-preserved : goal.loop-place-preserved
 loop-place-preserved g c =

@@ -1,4 +1,4 @@
-use Rattle.mesh_links.proofs.Common.{ap, sym, ◌∙◌, Link, link_eq, link_equiv, changed_at-agrees, changed_at-absent, found_none, found_some, ruled}
+use Rattle.mesh_links.proofs.Common.{arith, common_steps, ap, ◌∙◌, Link, link_equiv, changed_at-agrees, changed_at-absent, found_none, found_some, ruled}
 use Rattle.mesh_links.proofs.admittance.write_ruling.Goals as goal
 
 pub returns-in-Some : goal.returns-in-Some
@@ -7,6 +7,4 @@ returns-in-Some g c =
     ∙ changed_at-agrees link_equiv c.args.key.now _ (λ e. ((ruled c.args.ruling e.0).0, e.1)) (g.T.Table.content c.args.table.now) c.value_mut.ensures.distinct (λ entry found. ap (λ (l : Link). ((ruled c.args.ruling l).0, entry.1)) (found_some _ _ _ _ c.in-Some.ensures.value found))
 
 pub returns-in_default : goal.returns-in_default
-returns-in_default g c =
-    c.value_mut.follows.holds-at-none
-    ∙ sym (changed_at-absent link_eq c.args.key.now (λ e. ((ruled c.args.ruling e.0).0, e.1)) (g.T.Table.content c.args.table.now) (found_none _ _ c.in_default.ensures.value))
+returns-in_default g c = grind (arith, common_steps, changed_at-absent, found_none, c.in_default.ensures.value)

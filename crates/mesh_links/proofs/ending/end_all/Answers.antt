@@ -1,6 +1,6 @@
 use Rattle.mesh_links.proofs.Common.{◌≡◌, ℕ, arith, Some, Contains, AllWithin-more, All-contains, AllWithin-upto, All-from_all_within, Link, LinkKey, Addr4, find, link_eq, Spares}
 use Rattle.mesh_links.proofs.Left.{left_twice, left_kept}
-use Rattle.mesh_links.proofs.Tied.{at_any, back_left, by_meeting, fewer_left, owned_fewer}
+use Rattle.mesh_links.proofs.Tied.{at_any, back_left, by_meeting}
 use Rattle.mesh_links.proofs.ending.end_all.Goals as goal
 
 pub loop-addr-preserved : goal.loop-addr-preserved
@@ -27,9 +27,3 @@ returns-clause-kept g c key =
     let all = All-from_all_within done c.args.addrs.now (AllWithin-upto done c.args.addrs.now 0 c.loop-addr.addr-index _ c.loop-addr-test.false c.loop-addr.invariant.done) in
     left_kept (λ e. Spares c.args.which e.0) (find link_eq old key) (find link_eq new key) (c.loop-addr.invariant.left key)
     (λ e found. by_meeting e.0.addrs c.args.addrs.now (Spares c.args.which e.0) (λ a there has. All-contains done c.args.addrs.now a all there key e found has) (c.requires.others e.0))
-
-pub returns-clause-owned : goal.returns-clause-owned
-returns-clause-owned g c =
-    let old = g.T.Table.content c.args.table.now in
-    let new = g.T.Table.content c.loop-addr.table in
-    owned_fewer c.args.owners.now.entries old new c.requires.owned (fewer_left (λ e. Spares c.args.which e.0 → ⊥) old new c.loop-addr.invariant.left)

@@ -1,10 +1,9 @@
-use Rattle.mesh_links.proofs.Common.{◌≡◌, ℕ, ap, refl, ◌∙◌, Option, Some, None, map, option_map, lookup-map_values, LinkKey, Link, Base, Expires, find, link_eq, trim, trimmed, ExpiresLinks}
+use Rattle.mesh_links.proofs.Common.{arith, common_steps, ◌≡◌, ℕ, ap, ◌∙◌, Option, map, option_map, lookup-map_values, LinkKey, Link, Base, Expires, find, link_eq, trim, trimmed, ExpiresLinks}
 use Rattle.mesh_links.proofs.Room.{room_expired}
 use Rattle.mesh_links.proofs.expiry.expire_all.Goals as goal
 
 trim_is : (now : ℕ) (o : Option (Link × ℕ)) → option_map (trimmed now) o ≡ trim now o
-trim_is now None = refl
-trim_is now (Some e) = refl
+trim_is now o = grind (arith, common_steps)
 
 expires_links : (now : ℕ) (old mid new : Base LinkKey Link) → Expires link_eq now old mid → new ≡ map (λ e. (e.0, trimmed now e.1)) mid → ExpiresLinks now old new
 expires_links now old mid new expired trimmed_all key =

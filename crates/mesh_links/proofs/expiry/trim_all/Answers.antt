@@ -1,8 +1,5 @@
-use Rattle.mesh_links.proofs.Common.{sym, arith, refl, link_eq, trimmed, link_equiv, walk_changed, distinct-changed_at}
+use Rattle.mesh_links.proofs.Common.{sym, arith, link_eq, trimmed, link_equiv, walk_changed, distinct-changed_at}
 use Rattle.mesh_links.proofs.expiry.trim_all.Goals as goal
-
-pub loop-place-init : goal.loop-place-init
-loop-place-init g c = record { content = refl; distinct = c.len-place-end.ensures.distinct }
 
 pub loop-place-preserved : goal.loop-place-preserved
 loop-place-preserved g c = record {

@@ -1,4 +1,4 @@
-use Rattle.mesh_links.proofs.Common.{◌≡◌, sym, ap, subst, ◌∙◌, Some, inr, on_ok_weaker, Addr4, LinkKey, find, link_eq, IsApart, HearsOn}
+use Rattle.mesh_links.proofs.Common.{◌≡◌, sym, ap, subst, ◌∙◌, Some, on_ok_weaker, Addr4, LinkKey, find, link_eq, IsApart, HearsOn}
 use Rattle.mesh_links.proofs.Tied.{hears_after, owned_more, kept_from}
 use Rattle.mesh_links.proofs.hearing.hear_on.Goals as goal
 
@@ -34,30 +34,3 @@ returns-in_ok-own_all-in-Some-clause-ok g c =
     let same : key ≡ least = ap (λ (a : Addr4). let k : LinkKey = record { addr = a } in k) addr in
     subst (λ (k : LinkKey). HearsOn c.args.rule.now c.args.shown.now k c.args.hold c.args.now old new) same
     (hears_after c.args.rule.now c.args.shown.now key c.args.hold c.args.now old mid new start (rw c.as_slice-sending.ensures at c.end_all.ensures.kept) begins sets))) c.renew_at.ensures.ok
-
-pub returns-in_ok-own_all-in-Some-clause-room : goal.returns-in_ok-own_all-in-Some-clause-room
-returns-in_ok-own_all-in-Some-clause-room g c = c.renew_at.ensures.room
-
-pub returns-in_ok-own_all-in-Some-clause-distinct : goal.returns-in_ok-own_all-in-Some-clause-distinct
-returns-in_ok-own_all-in-Some-clause-distinct g c = c.renew_at.ensures.distinct
-
-pub returns-in_ok-own_all-in-Some-clause-owned : goal.returns-in_ok-own_all-in-Some-clause-owned
-returns-in_ok-own_all-in-Some-clause-owned g c = c.renew_at.ensures.owned
-
-pub end_all-requires-clause-owned : goal.end_all-requires-clause-owned
-end_all-requires-clause-owned g c = c.requires.owned
-
-pub end_all-requires-clause-others : goal.end_all-requires-clause-others
-end_all-requires-clause-others g c = λ link none. inr none
-
-pub renew_at-requires-clause-now : goal.renew_at-requires-clause-now
-renew_at-requires-clause-now g c = c.requires.now
-
-pub renew_at-requires-clause-hold : goal.renew_at-requires-clause-hold
-renew_at-requires-clause-hold g c = c.requires.hold
-
-pub renew_at-requires-clause-validity : goal.renew_at-requires-clause-validity
-renew_at-requires-clause-validity g c = c.requires.validity
-
-pub renew_at-requires-clause-distinct : goal.renew_at-requires-clause-distinct
-renew_at-requires-clause-distinct g c = c.end_all.ensures.distinct

@@ -9,9 +9,6 @@ pub returns-in_default-get-clause-none : goal.returns-in_default-get-clause-none
 returns-in_default-get-clause-none g c key e with =
     unlinked c.args.owners.now.entries (g.T.Table.content c.args.table.now) key e c.args.addr c.in-Some.key.now c.requires with.0 with.1 (sym c.in-Some.ensures.value) c.in_default-get.ensures
 
-pub returns-then-contains-clause-some : goal.returns-then-contains-clause-some
-returns-then-contains-clause-some g c = (sym c.in-Some-get.ensures, rw c.as_slice.ensures at (c.contains.ensures.0 c.if-contains.true))
-
 pub returns-then-contains-clause-only : goal.returns-then-contains-clause-only
 returns-then-contains-clause-only g c key other with =
     (sole c.args.owners.now.entries (g.T.Table.content c.args.table.now) key other c.args.addr c.in-Some.key.now c.requires with.0 with.1 (sym c.in-Some.ensures.value)).0

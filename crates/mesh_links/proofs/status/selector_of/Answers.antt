@@ -1,4 +1,5 @@
-use Rattle.mesh_links.proofs.Common.{ℕ, ◌∙◌, sym, ap, Link, is_symmetric, Linked, Unlinked, true_false}
+use Rattle.mesh_links.proofs.Common.{ℕ, ◌∙◌, sym, ap, Link, Linked, Unlinked, true_false}
+use Rattle.mesh_atoms.specs.State.{is_symmetric}
 use Rattle.mesh_links.proofs.Tied.{one_at}
 use Rattle.mesh_links.proofs.status.selector_of.Goals as goal
 

@@ -1,5 +1,5 @@
 use Rattle.mesh_nbrs.proofs.Common.{◌≡◌, true, ap, is_some, arith, addr_eq, same_addr, HasSummaryAt}
-use Rattle.mesh_nbrs.proofs.Ended.{ended_more, all_ended}
+use Rattle.mesh_nbrs.proofs.Ended.{ended_more}
 use Rattle.mesh_nbrs.proofs.ends.end_all.Goals as goal
 
 pub loop-next-preserved : goal.loop-next-preserved
@@ -12,9 +12,3 @@ loop-next-preserved g c =
       within = omega (arith, c.loop-next.invariant.within, rw found at c.remove.ensures.count);
       distinct = c.remove.ensures.distinct;
     }
-
-pub returns-clause-kept : goal.returns-clause-kept
-returns-clause-kept g c = all_ended addr_eq (λ o n. HasSummaryAt c.args.parts.now.entries n.addrs → ⊥) (g.T.Table.content c.args.table.now) (g.T.Table.content c.loop-next.table) c.loop-next.invariant.kept c.in_default.ensures.none
-
-pub returns-clause-none : goal.returns-clause-none
-returns-clause-none g c none = c.loop-next.invariant.none (omega (arith, none, c.loop-next.invariant.within, c.len-before.ensures.value, c.len.ensures.value))

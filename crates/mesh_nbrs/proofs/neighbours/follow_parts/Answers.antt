@@ -23,9 +23,6 @@ returns-then-not-has_part-clause-one g c notes are =
     (λ has. false≢true (sym c.if-not-has_part.true ∙ c.has_part.ensures.1 (rw c.as_slice-addrs.ensures has)))
     (set_there old new c.args.originator None c.remove_owned.ensures.removed addr_equiv)
 
-pub returns-then-not-has_part-clause-others : goal.returns-then-not-has_part-clause-others
-returns-then-not-has_part-clause-others g c = set_elsewhere (g.T.Table.content c.args.table.now) (g.T.Table.content c.remove_owned.new.table) c.args.originator None c.remove_owned.ensures.removed same_addr
-
 pub returns-clause-one : goal.returns-clause-one
 returns-clause-one g c =
     let old = g.T.Table.content c.args.table.now in

@@ -1,4 +1,5 @@
-use Rattle.mesh_nbrs.proofs.Common.{◌≡◌, ℕ, ◌≤◌, length, List, Option, Some, None, inl, inr, sym, ◌∙◌, refl, arith, slice_get_cases, addr_equiv, same_addr, Addr4, Neighbour, Base, find, addr_eq, LinkNote, Summary, by_summary, HasSummary, AreSummariesOf}
+use Rattle.mesh_nbrs.proofs.Common.{common_steps, ◌≡◌, ℕ, ◌≤◌, length, List, Option, Some, None, sym, refl, arith, addr_equiv, same_addr, Addr4, Neighbour, Base, find, addr_eq, LinkNote, Summary, by_summary, HasSummary, AreSummariesOf}
+use Rattle.std.proofs.lemmas.Option.{slice_get_cases}
 use Rattle.mesh_nbrs.proofs.Owning.{keeps_twice}
 use Rattle.mesh_nbrs.proofs.Walks.{IsWalked, walk_begins, walk_on, walk_ends}
 use Rattle.mesh_nbrs.proofs.neighbours.renew_all.Goals as goal
@@ -32,13 +33,7 @@ loop-place-preserved g c =
     }
 
 pub returns-in-None-clause-ok : goal.returns-in-None-clause-ok
-returns-in-None-clause-ok g c = elim ((slice_get_cases (g.T.Table.content c.loop-place.table) c.loop-place.place).1) [
-  | inl there ↦ absurd (let clash : None ≡ Some (there.0) = c.in-None.ensures ∙ there.2 in cc)
-  | inr past ↦ all_walked _ _ _ c.loop-place.place past.0 c.loop-place.invariant.walked
-]
+returns-in-None-clause-ok g c = grind (arith, common_steps, slice_get_cases, all_walked, c.in-None.ensures, c.loop-place.invariant.walked)
 
 pub returns-clause-ok : goal.returns-clause-ok
 returns-clause-ok g c = all_walked _ _ _ c.loop-place.place (omega (arith, c.loop-place.invariant.walked.len, c.len-place-end.ensures.value)) c.loop-place.invariant.walked
-
-pub returns-in_err-renew-clause-addrs : goal.returns-in_err-renew-clause-addrs
-returns-in_err-renew-clause-addrs g c = keeps_twice (g.T.Table.content c.args.table.now) (g.T.Table.content c.loop-place.table) (g.T.Table.content c.renew.new.table) c.loop-place.invariant.addrs c.renew.ensures.addrs

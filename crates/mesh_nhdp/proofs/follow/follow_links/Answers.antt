@@ -1,5 +1,4 @@
-use Rattle.mesh_nhdp.proofs.Common.{on_ok_weaker, ◌↔◌, List, Contains, subst, refl, Addr4, Link, LinkKey, Neighbour, Base, find, addr_eq, LinkNote, SettlesAll, RestoresBy, TellsLinks, IsWantedAddress}
-use Rattle.mesh_nhdp.specs.declared.near_addresses.WantedNeighbours.TheVariants.{Symmetric}
+use Rattle.mesh_nhdp.proofs.Common.{on_ok_weaker, ◌↔◌, List, Contains, subst, refl, Addr4, Link, LinkKey, Neighbour, Base, find, addr_eq, LinkNote, SettlesAll, RestoresBy, TellsLinks, IsWantedAddress, Symmetric}
 use Rattle.mesh_nhdp.proofs.follow.follow_links.Goals as goal
 
 pub returns : goal.returns

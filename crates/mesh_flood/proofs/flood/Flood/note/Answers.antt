@@ -4,45 +4,6 @@ use Rattle.mesh_flood.proofs.Soundness.{sound_by_times, within_of}
 use Rattle.mesh_flood.proofs.Room.{has_room_processed, has_room_received, has_room_forwarded, each_set, noted_at, base_there, on_ok_if, on_ok_both}
 use Rattle.mesh_flood.proofs.flood.Flood.note.Goals as goal
 
-pub invariant_of-self : goal.invariant_of-self
-invariant_of-self g c = record {
-  received = c.self.invariant.received;
-  processed = c.note.ensures.distinct c.self.invariant.processed;
-  forwarded = c.self.invariant.forwarded;
-}
-
-pub invariant_of-self-in_err-note-2 : goal.invariant_of-self-in_err-note-2
-invariant_of-self-in_err-note-2 g c =
-    let sets = c.self.inside.received.items in
-    let found = c.index_mut.result.now in
-    let here = subst (λ (h : HeldSets). c.args.iface < length h.noted.received) (sym c.self.view_is) c.requires.iface in
-    let there = base_there sets c.args.iface found here c.index_mut.ensures.value in
-    record {
-      received = each_set (λ b. HasDistinctKeys flood_eq b) sets c.args.iface c.note-2.new.self here c.self.invariant.received
-          (c.note-2.ensures.distinct (subst (λ (b : Base FloodKey Noted). HasDistinctKeys flood_eq b) there (c.self.invariant.received c.args.iface)));
-      processed = c.note.ensures.distinct c.self.invariant.processed;
-      forwarded = c.self.invariant.forwarded;
-    }
-
-pub invariant_of-self-2 : goal.invariant_of-self-2
-invariant_of-self-2 g c =
-    let sets = c.self.inside.received.items in
-    let found = c.index_mut.result.now in
-    let here = subst (λ (h : HeldSets). c.args.iface < length h.noted.received) (sym c.self.view_is) c.requires.iface in
-    let there = base_there sets c.args.iface found here c.index_mut.ensures.value in
-    record {
-      received = each_set (λ b. HasDistinctKeys flood_eq b) sets c.args.iface c.note-2.new.self here c.self.invariant.received
-          (c.note-2.ensures.distinct (subst (λ (b : Base FloodKey Noted). HasDistinctKeys flood_eq b) there (c.self.invariant.received c.args.iface)));
-      processed = c.note.ensures.distinct c.self.invariant.processed;
-      forwarded = c.note-3.ensures.distinct c.self.invariant.forwarded;
-    }
-
-pub returns-in_err-note-clause-times : goal.returns-in_err-note-clause-times
-returns-in_err-note-clause-times g c = rw (← c.self.view_is) (refl {a = c.self.inside.times})
-
-pub returns-in_err-note-2-clause-times : goal.returns-in_err-note-2-clause-times
-returns-in_err-note-2-clause-times g c = rw (← c.self.view_is) (refl {a = c.self.inside.times})
-
 pub returns : goal.returns
 returns g c =
     let heading = c.args.heading.now in
