@@ -1,5 +1,5 @@
 -- What interfaces admit, by tests of arcs; and that admitted arcs each way join two interfaces from both sides.
-use Rattle.mesh_paths.proofs.Common.{arith, common_steps, ◌≡◌, ℕ, ◌≤◌, refl, Option, Some, None, true, false, slice_get, leb-true, le-leb, Metric, Interface, RadioArc, RouterSettings, Scenario, quality_at, IsAdmitted, Joins, face_in, face_of, can_accept, is_admitted}
+use Rattle.mesh_paths.proofs.Common.{arith, ◌≡◌, ℕ, ◌≤◌, refl, Option, Some, None, true, false, slice_get, leb-true, common_steps, le-leb, Metric, Interface, RadioArc, RouterSettings, Scenario, quality_at, IsAdmitted, Joins, face_in, face_of, can_accept, is_admitted}
 
 -- interfaces that are joined are so from both sides
 pub joins_back : {s : Scenario} {x i y j : ℕ} {there back : Metric} → Joins s x i y j there back → Joins s y j x i back there

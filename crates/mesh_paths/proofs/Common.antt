@@ -46,7 +46,7 @@ pub use Rattle.mesh_paths.specs.SettledRoutes.{Arrives, At_gateway, Attaches_it,
 pub use Rattle.mesh_paths.specs.Tree.{IsArcMet, IsAsGood, IsClosed, IsGrounded, IsOffered, IsReached, IsStart, IsStep, IsTree, MeetsBy, MeetsRow, OffersBy, OffersTo}
 pub use Rattle.mesh_paths.specs.declared.frontier.ArcRun.{ArcRun}
 pub use Rattle.mesh_paths.specs.declared.frontier.SearchStep.{SearchStep}
-pub use Rattle.std.proofs.Common.{Bool, Contains, Decides, IsTrue, List, None, Option, Some, [], ap, arith, cond, drop, false, filter, get_or-set_other, get_or-set_same, inl, inr, leb, leb-true, length, length-append, length-take, ltb, map, nat_eq, nat_lt, not, refl, rules, slice_get, slice_index, slice_index_or, slice_set, subst, suc, sym, take, true, zero, ℕ, ◌*◌, ◌++◌, ◌+◌, ◌-◌, ◌<◌, ◌↔◌, ◌∙◌, ◌∷◌, ◌≡◌, ◌≢◌, ◌≤◌, ◌⊎◌}
+pub use Rattle.std.proofs.Common.{Bool, Contains, Decides, IsTrue, List, None, Option, Some, [], ap, arith, cond, drop, false, filter, inl, inr, leb, leb-true, length, length-append, length-take, ltb, map, nat_eq, nat_lt, not, refl, rules, slice_get, slice_index, slice_index_or, slice_set, subst, suc, sym, take, true, zero, ℕ, ◌*◌, ◌++◌, ◌+◌, ◌-◌, ◌<◌, ◌↔◌, ◌∙◌, ◌∷◌, ◌≡◌, ◌≢◌, ◌≤◌, ◌⊎◌}
 pub use Rattle.std.proofs.lemmas.Bool.{and_parts, cases_Bool, cases_eq, cases_lt, cond_both, eq-eqb, le-leb, leb-false, ltb-false, ltb-true, or_left, or_right}
 pub use Rattle.std.proofs.lemmas.Cmp.{eq_by_cmp_equiv, nat_cmp_total, on_total, then_total, tied_itself}
 pub use Rattle.std.proofs.lemmas.Grind.{common_steps}

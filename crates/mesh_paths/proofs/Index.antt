@@ -1,5 +1,5 @@
 -- Arcs as runs, in the order of the nodes that they leave.
-use Rattle.mesh_paths.proofs.Common.{common_steps, ◌≡◌, ℕ, ◌+◌, ◌-◌, ◌<◌, ◌≤◌, ◌++◌, inl, inr, refl, sym, ◌∙◌, ap, subst, arith, true, false, List, [], ◌∷◌, length, Contains, slice_index_or, take, drop, leb, ltb, leb-true, slice_range, IsPermutation, IsPartitionPoint, cases_lt, ltb-true, ltb-false, leb-false, get_or_default, get_or-take, get_or-drop, length-take, length-drop, Contains-push_cases, Contains-append_left, Contains-append_right, Contains-permutation, IsPermutation-sym, NetAddr, Arc4, same_net, ArcRun, number_of, number_from, IsRun, IsIndex, IsPart}
+use Rattle.mesh_paths.proofs.Common.{common_steps, ◌≡◌, ℕ, ◌+◌, ◌-◌, ◌<◌, ◌≤◌, ◌++◌, inl, inr, refl, sym, ◌∙◌, ap, subst, arith, true, false, List, [], ◌∷◌, length, Contains, slice_index_or, take, drop, leb, ltb, leb-true, length-take, slice_range, IsPermutation, IsPartitionPoint, cases_lt, ltb-true, ltb-false, leb-false, get_or_default, get_or-take, get_or-drop, length-drop, Contains-push_cases, Contains-append_left, Contains-append_right, Contains-permutation, IsPermutation-sym, NetAddr, Arc4, same_net, ArcRun, number_of, number_from, IsRun, IsIndex, IsPart}
 
 pub at_place : {X : Type 0} (xs : List X) (i : ℕ) (d : X) → i < length xs → slice_index_or xs i d ≡ slice_index_or xs i (slice_index_or xs i d)
 at_place xs i d l = get_or_default xs i d (slice_index_or xs i d) l

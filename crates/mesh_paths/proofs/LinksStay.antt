@@ -1,5 +1,5 @@
 -- At the moment of the last event neither the quality rule nor expiry changes a link, so that links stay as they are.
-use Rattle.mesh_paths.proofs.Common.{arith, common_steps, ◌≡◌, ℕ, refl, ◌∙◌, ap, Option, Some, None, Bool, true, cond, nat_lt, LinkKey, Link, RouterSettings, if_live, admit_on, SoundNeighbourhood, IsSoundLink, Neighbourhood, link_at}
+use Rattle.mesh_paths.proofs.Common.{arith, ◌≡◌, ℕ, refl, ◌∙◌, ap, Option, Some, None, Bool, true, cond, nat_lt, common_steps, LinkKey, Link, RouterSettings, if_live, admit_on, SoundNeighbourhood, IsSoundLink, Neighbourhood, link_at}
 use Rattle.mesh_atoms.specs.Live.{trim, trimmed}
 
 abbrev entry : Link → ℕ → Link × ℕ
@@ -23,5 +23,4 @@ live_link settings now near sound i key = by_entry (link_at near i key) refl
 -- the quality rule and expiry leave each link of a sound neighbourhood
 pub link_stays : (settings : RouterSettings) (now : ℕ) (near : Neighbourhood) → SoundNeighbourhood settings now near → (i : ℕ) (key : LinkKey) →
     trim now (if_live now (admit_on settings i now (link_at near i key))) ≡ link_at near i key
-link_stays settings now near sound i key =
-    ap (λ (o : Option (Link × ℕ)). trim now (if_live now o)) (sound.by_quality i key) ∙ live_link settings now near sound i key
+link_stays settings now near sound i key = grind (arith, common_steps, live_link)

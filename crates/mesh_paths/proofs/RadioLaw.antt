@@ -1,5 +1,5 @@
 -- Joined routers, and the pairs and parts that make a radio graph.
-use Rattle.mesh_paths.proofs.Common.{◌≡◌, ℕ, zero, suc, ◌+◌, ◌<◌, ◌≤◌, ◌⊎◌, inl, inr, refl, sym, ◌∙◌, ap, subst, arith, Bool, true, false, cond, Decides, List, [], ◌∷◌, map, filter, length, Contains, slice_get, slice_index, slice_index_or, slice_set, get_or-set_same, get_or-set_other, Some, not, AllWithin, list_any, range_with_len, sum, cases_eq, and_parts, length-set, AllWithin-more, at_read, get_or-range_with_len, length-range_with_len, sum_by-set, slice_get_within, get_or_from_slice_get, Pair, Metric, RadioArc, RouterSettings, Scenario, Joins, Adjacent, Joined, IsRadioGraph, are_distinct, ends_eq, Decides-and, Decides-eqb, Decides-some, pair_of, is_admitted, is_arc_back, is_admitted_back, is_met, is_joined, Chain, IsInside, IsLevel, IsParts, Lowers, Goes, contains_filter as picked, contains_cases, contains_map, contains_at, contains_none as none_of, not_both, none_is_some}
+use Rattle.mesh_paths.proofs.Common.{common_steps, ◌≡◌, ℕ, suc, ◌+◌, ◌<◌, ◌≤◌, ◌⊎◌, inl, inr, refl, sym, ◌∙◌, ap, subst, arith, Bool, true, false, cond, Decides, List, [], ◌∷◌, map, filter, length, Contains, slice_get, slice_index, slice_index_or, slice_set, Some, not, list_any, range_with_len, sum, cases_eq, and_parts, length-set, AllWithin-more, at_read, get_or-range_with_len, length-range_with_len, sum_by-set, slice_get_within, get_or_from_slice_get, Pair, Metric, RadioArc, RouterSettings, Scenario, Joins, Adjacent, Joined, IsRadioGraph, are_distinct, ends_eq, Decides-and, Decides-eqb, Decides-some, pair_of, is_admitted, is_arc_back, is_admitted_back, is_met, is_joined, Chain, IsInside, IsLevel, IsParts, Lowers, Goes, contains_filter as picked, contains_cases, contains_map, contains_at, contains_none as none_of, not_both, none_is_some}
 use Rattle.mesh_atoms.specs.Radio.Joined.{Itself, By}
 use Rattle.mesh_paths.proofs.Admitted.{joins_back, admitted_arc, admits_arc}
 use Rattle.mesh_paths.specs.Parts.Chain.{Start, On}
@@ -33,8 +33,7 @@ joined_inside s x y l (By {v = v} chain (i, j, there, back, joins)) =
 -- Lists of what passes a test
 
 picked_by : {A B : Type 0} (f : A → B) (b : Bool) (x : A) (rest : List A) (y : B) → Contains (map f (cond b (x ∷ rest) rest)) y → ((b ≡ true) × (f x ≡ y)) ⊎ Contains (map f rest) y
-picked_by f true x rest y c = elim (contains_cases (f x) (map f rest) y c) [ inl e ↦ inl (refl, e) | inr more ↦ inr more ]
-picked_by f false x rest y c = inr c
+picked_by f b x rest y c = grind (arith, common_steps, contains_cases)
 
 picked_from : {A B : Type 0} (f : A → B) (q : A → Bool) (xs : List A) (y : B) → Contains (map f (filter q xs)) y → (x : A) × Contains xs x × (q x ≡ true) × (f x ≡ y)
 picked_from f q [] y c = absurd (none_of y c)
@@ -48,10 +47,7 @@ abbrev Once : {A : Type 0} → List A → Type 0
 Once {A} xs = (k l : ℕ) (a : A) → slice_get xs k ≡ Some a → slice_get xs l ≡ Some a → k ≡ l
 
 once_more : {A : Type 0} (x : A) (xs : List A) → (Contains xs x → ⊥) → Once xs → Once (x ∷ xs)
-once_more x xs new rest zero zero a at to = refl
-once_more x xs new rest zero (suc l) a at to = let e : a ≡ x = cc in absurd (new (subst (λ b. Contains xs b) e (contains_at xs l a to)))
-once_more x xs new rest (suc k) zero a at to = let e : a ≡ x = cc in absurd (new (subst (λ b. Contains xs b) e (contains_at xs k a at)))
-once_more x xs new rest (suc k) (suc l) a at to = let same : k ≡ l = rest k l a at to in ap (λ (n : ℕ). suc n) same
+once_more x xs new rest h4 h5 a at to = grind (arith, common_steps, contains_at)
 
 -- Pairs
 
@@ -86,9 +82,7 @@ pairs_in s = map pair_of (filter (is_joint s) s.arcs)
 -- the same of the routers and arcs that a scenario has
 pub pairs_from : (s : Scenario) (routers : List RouterSettings) (arcs : List RadioArc) → routers ≡ s.routers → arcs ≡ s.arcs →
     map pair_of (filter (is_joined routers s.end arcs) arcs) ≡ pairs_in s
-pairs_from s routers arcs of_routers of_arcs =
-    ap (λ (rs : List RouterSettings). map pair_of (filter (is_joined rs s.end arcs) arcs)) of_routers
-    ∙ ap (λ (xs : List RadioArc). map pair_of (filter (is_joined s.routers s.end xs) xs)) of_arcs
+pairs_from s routers arcs of_routers of_arcs = grind (arith, common_steps)
 
 -- the two interfaces that the pair has are joined, and that is its metric
 abbrev pub IsPairOf : Scenario → Pair → Type 0
@@ -122,8 +116,7 @@ joins_pair s p (_, joins) =
     (contains_map pair_of (filter (is_joint s) s.arcs) arc (picked (is_joint s) s.arcs arc there joint))
 
 pairs_once_by : (b : Bool) (arc : RadioArc) (rest : List RadioArc) → (Contains (map pair_of rest) (pair_of arc) → ⊥) → Once (map pair_of rest) → Once (map pair_of (cond b (arc ∷ rest) rest))
-pairs_once_by true arc rest new once = once_more (pair_of arc) (map pair_of rest) new once
-pairs_once_by false arc rest new once = once
+pairs_once_by b arc rest new once = grind (arith, common_steps, once_more)
 
 pairs_once : (q : RadioArc → Bool) (arcs : List RadioArc) → are_distinct ends_eq (map ends_of arcs) ≡ true → Once (map pair_of (filter q arcs))
 pairs_once q [] h = λ k l a at to. none_is_some at
@@ -165,10 +158,7 @@ module _ (pairs : List Pair) (old : List ℕ) (p : Pair) (inside : IsInside (len
   lowered = slice_set old p.to (slice_index old p.from)
 
   at : (x : ℕ) → ((x ≡ p.to) × (slice_index lowered x ≡ slice_index old p.from)) ⊎ (slice_index lowered x ≡ slice_index old x)
-  at x = elim (cases_eq x p.to) [
-    | inl e ↦ inl (e, subst (λ (n : ℕ). slice_index lowered n ≡ slice_index old p.from) (sym e) (get_or-set_same old p.to (slice_index old p.from) 0 inside.second))
-    | inr off ↦ inr (get_or-set_other old p.to x (slice_index old p.from) 0 off)
-  ]
+  at x = grind (arith, common_steps, cases_eq)
 
   lowered_parts : Contains pairs p → IsParts pairs old → IsParts pairs lowered
   lowered_parts there parts = record {
@@ -185,13 +175,11 @@ module _ (pairs : List Pair) (old : List ℕ) (p : Pair) (inside : IsInside (len
 -- A round
 
 goes_lower : (changed : Bool) (old before new : List ℕ) (pairs : List Pair) (i : ℕ) → sum new < sum before → Goes changed old pairs i before → Goes true old pairs (i + 1) new
-goes_lower true old before new pairs i less gone = omega arith
-goes_lower false old before new pairs i less (same, _) = subst (λ (xs : List ℕ). sum new < sum xs) same less
+goes_lower changed old before new pairs i less gone = grind (arith, common_steps, sum)
 
 goes_level : (changed : Bool) (old before new : List ℕ) (pairs : List Pair) (i : ℕ) (p : Pair) → p ≡ slice_index_or pairs i p → i < length pairs → new ≡ before → IsLevel new p → Goes changed old pairs i before → Goes changed old pairs (i + 1) new
 goes_level true old before new pairs i p is l same level gone = subst (λ (xs : List ℕ). sum xs < sum old) (sym same) gone
-goes_level false old before new pairs i p is l same level (e, all) =
-    (same ∙ e, AllWithin-more (IsLevel new) pairs 0 i (subst (λ (xs : List ℕ). AllWithin (IsLevel xs) pairs 0 i) (sym same) all) (at_read pairs (IsLevel new) i p l is level))
+goes_level false old before new pairs i p is l same level (e, all) = grind (arith, common_steps, AllWithin-more, at_read)
 
 -- a pair of the round is tried
 pub goes_on : (changed after lower : Bool) (old before new : List ℕ) (pairs : List Pair) (i : ℕ) (p : Pair) → p ≡ slice_index_or pairs i p → i < length pairs → IsInside (length before) p →
@@ -203,10 +191,7 @@ goes_on changed after true old before new pairs i p is l inside parts gone (e, l
     )
 goes_on changed after true old before new pairs i p is l inside parts gone lowers (inr (e, _)) = absurd (cc)
 goes_on changed after false old before new pairs i p is l inside parts gone lowers (inl (e, _)) = absurd (cc)
-goes_on changed after false old before new pairs i p is l inside parts gone (same, level) (inr (_, then)) = (
-  subst (λ (xs : List ℕ). IsParts pairs xs) (sym same) parts,
-  subst (λ (b : Bool). Goes b old pairs (i + 1) new) (sym then) (goes_level changed old before new pairs i p is l same level gone),
-)
+goes_on changed after false old before new pairs i p is l inside parts gone (same, level) (inr (_, then)) = grind (arith, common_steps, goes_level)
 
 -- The radio graph
 

@@ -37,8 +37,7 @@ module _ (old new : RowMap) (arc : Arc4) (row : PathRow) (betters : Betters old 
   ]
 
   lighter : (before : Option PathRow) → tree.get net_cmp old row.node ≡ before → weight_of (Some row) < weight_of before
-  lighter None e = omega (arith, row.parent.within)
-  lighter (Some b) e = grind (arith, common_steps)
+  lighter before e = grind (arith, common_steps)
 
   lighter_at : (node : NetAddr) → node ≡ row.node → tree.get net_cmp new node ≡ Some row → weight_of (tree.get net_cmp new node) < weight_of (tree.get net_cmp old node)
   lighter_at node same is = grind (arith, common_steps, lighter)

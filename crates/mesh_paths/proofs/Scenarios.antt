@@ -23,8 +23,7 @@ part_distinct eq f (x ∷ xs) zero u h at = let e : x ≡ u = cc in subst (λ b.
 part_distinct eq f (x ∷ xs) (suc k) u h at = part_distinct eq f xs k u (back_distinct eq (f x) (flat_map f xs) h) at
 
 mapped_length : {A B : Type 0} (f : A → B) (xs : List A) → 1 ≤ length (map f xs) → 1 ≤ length xs
-mapped_length f [] h = h
-mapped_length f (x ∷ xs) h = omega arith
+mapped_length f xs h = grind (arith, common_steps)
 
 -- a number that counts says that there is one
 counted : {A : Type 0} (count : A → ℕ) (xs : List A) (k n : ℕ) → nat_lt n (slice_index (map count xs) k) ≡ true → (x : A) × (slice_get xs k ≡ Some x) × (n < count x)

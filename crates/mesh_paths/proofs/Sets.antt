@@ -52,8 +52,7 @@ puts_of s n step at more = record {
 
 -- a change of the length
 pub one_more : (b : Bool) (n m : ℕ) → n ≡ m + cond b 1 0 → n ≤ m + 1
-one_more true n m e = omega arith
-one_more false n m e = omega arith
+one_more b n m e = grind (arith, common_steps)
 
 -- Rows
 

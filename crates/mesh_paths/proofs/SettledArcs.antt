@@ -1,5 +1,5 @@
 -- The arcs of a router's own graph in a settled network, in the terms of the radio graph.
-use Rattle.mesh_paths.proofs.Common.{◌≡◌, ℕ, ◌≤◌, ◌⊎◌, inl, inr, refl, sym, ◌∙◌, ap, subst, arith, List, Contains, Addr4, NetAddr, Metric, RouterSettings, Scenario, Willing as Wills, Advertises, AdvertisesNetwork, host, metric_value, HopCosts, Joined, Itself, By, Router, IsWillingRouter, AddressOf, OriginatorOf, Attaches, RouteArc, To_neighbour, To_two_hop, By_router, By_address, By_network, At, IsPeer, IsStray, State, IsOriginator, IsSettledNetwork, metric_above_zero, same_host, same_some}
+use Rattle.mesh_paths.proofs.Common.{common_steps, ◌≡◌, ℕ, ◌≤◌, ◌⊎◌, inl, inr, refl, sym, ◌∙◌, ap, subst, arith, List, Contains, Addr4, NetAddr, Metric, RouterSettings, Scenario, Willing as Wills, Advertises, AdvertisesNetwork, host, metric_value, HopCosts, Joined, Itself, By, Router, IsWillingRouter, AddressOf, OriginatorOf, Attaches, RouteArc, To_neighbour, To_two_hop, By_router, By_address, By_network, At, IsPeer, IsStray, State, IsOriginator, IsSettledNetwork, metric_above_zero, same_host, same_some}
 use Rattle.mesh_atoms.specs.declared.tuples.NetworkTuple.{NetworkTuple}
 use Rattle.mesh_paths.proofs.SettledDecisions.{attaches}
 use Rattle.mesh_paths.proofs.SettledWalks.{View}
@@ -46,14 +46,7 @@ module _ (s : Scenario) (states : List State) (now : ℕ) (S : IsSettledNetwork 
       (q, record { other = other; joined = joined; at = at })
 
   pub arc_at : (p : State) (m n : NetAddr) (a b : Addr4) (c d : ℕ) → m ≡ host a → n ≡ host b → c ≡ d → RouteArc p (host a) (host b) c → RouteArc p m n d
-  arc_at p m n a b c d e f g arc =
-      let P : NetAddr → Type 0 = λ i. RouteArc p i n d in
-      let Q : NetAddr → Type 0 = λ i. RouteArc p (host a) i d in
-      let R : ℕ → Type 0 = λ i. RouteArc p (host a) (host b) i in
-      subst P (sym e) (subst Q (sym f) (subst R g arc))
-
-  pub self_of : (x : ℕ) (p : State) → At states x p → NetAddr
-  self_of x p at = host (held s states now S x p at).self
+  arc_at p m n a b c d e f g arc = grind (arith, common_steps)
 
   pub own_arc : (x : ℕ) (p : State) (at : At states x p) (y m : ℕ) (a : NetAddr) → HopCosts s x y m → NodeOf y a → RouteArc p (host (held s states now S x p at).self) a m
   own_arc x p at y m a hop node =

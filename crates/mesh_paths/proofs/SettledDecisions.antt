@@ -1,7 +1,7 @@
 -- What can be looked up is there or isn't.
-use Rattle.mesh_paths.proofs.Common.{◌≡◌, ℕ, zero, suc, ◌<◌, ◌⊎◌, inl, inr, refl, sym, subst, arith, List, [], ◌∷◌, length, Contains, slice_get, slice_index_or, Some, None, slice_get_cases, Addr4, NetAddr, Link, LinkKey, Attached4, Base, metric_value, SaysLink, Attaches, State, state_of, Scenario, RouterSettings, contains_tail, same_address}
+use Rattle.mesh_paths.proofs.Common.{common_steps, ◌≡◌, ℕ, zero, suc, ◌<◌, ◌⊎◌, inl, inr, refl, sym, subst, arith, List, [], ◌∷◌, length, Contains, slice_get, slice_index_or, Some, None, slice_get_cases, Addr4, NetAddr, Link, LinkKey, Attached4, Base, metric_value, SaysLink, Attaches, State, state_of, Scenario, RouterSettings, contains_tail, same_address}
 use Rattle.mesh_atoms.specs.declared.tuples.LinkState.{LinkState}
-use Rattle.mesh_atoms.specs.declared.tuples.LinkState.TheVariants.{Pending as Is_pending, Lost as Is_lost, Symmetric as Is_symmetric, Heard as Is_heard}
+use Rattle.mesh_atoms.specs.declared.tuples.LinkState.TheVariants.{Symmetric as Is_symmetric}
 use Rattle.mesh_paths.proofs.Order.{same_node}
 
 -- some element has the property, or none has
@@ -22,10 +22,7 @@ any_or_none {A} P test (x ∷ xs) = elim (test x) [
     rest x xs not_x none t (suc k) l e p = none t (k, omega arith, e) p
 
 is_symmetric : (x : LinkState) → (x ≡ Is_symmetric) ⊎ (x ≡ Is_symmetric → ⊥)
-is_symmetric Is_pending = inr (λ e. (cc))
-is_symmetric Is_lost = inr (λ e. (cc))
-is_symmetric Is_symmetric = inl refl
-is_symmetric Is_heard = inr (λ e. (cc))
+is_symmetric x = grind (arith, common_steps)
 
 -- the link has the address and is symmetric
 Fit : Addr4 → ℕ → LinkKey × (Link × ℕ) → Type 0

@@ -1,5 +1,5 @@
 -- The first hop of a least walk of a router's own graph leads on along a least radio walk.
-use Rattle.mesh_paths.proofs.Common.{◌≡◌, ℕ, ◌+◌, ◌≤◌, ◌⊎◌, inl, inr, refl, sym, subst, arith, cases_eq, Walk, Stay, Onward, Least, Fits, FirstNode, AtSelf, Through, Here, Direct, Further, LeastToNet}
+use Rattle.mesh_paths.proofs.Common.{common_steps, ◌≡◌, ℕ, ◌+◌, ◌≤◌, ◌⊎◌, inl, inr, refl, sym, subst, arith, cases_eq, Walk, Stay, Onward, Least, Fits, FirstNode, AtSelf, Through, Here, Direct, Further, LeastToNet}
 use Rattle.mesh_paths.proofs.SettledWalks.{View, Radio, by_own, shadow_joined, sound, sound_net}
 use Rattle.mesh_paths.proofs.SettledLeast.{LeastRadio, walk_of, net_walk, row_least}
 
@@ -88,24 +88,7 @@ module _ (Node : Type 0) (V : View Node) where
   -- what is left of the row's metric is RadioLeast from the next hop
   pub onward : (n z : ℕ) (a first : Node) (r near rest : ℕ) → AddressOf z a → (z ≡ x → ⊥) → Least Arc self a r → Hop x n near → AddressOf n first →
       Walk Arc first a rest → near + rest ≡ r → (z ≡ n → ⊥) → LeastRadio Node V n z rest
-  onward n z a first r near rest is ne row h here walk total off =
-      let j : Joined n = V.joined_on x n near V.joined_self h in
-      let other : n ≡ x → ⊥ = λ e. (let P : ℕ → Type 0 = λ b. Hop x b near in V.apart x near (subst P e h)) in
-      let t : Willing n = elim (goes_on n z walk j other here is) [ inl e ↦ absurd (off (sym e)) | inr t ↦ t ] in
-      let pos : 1 ≤ near = V.above_zero x n near h in
-      let under : (d : ℕ) → Radio Node V n z d → rest ≤ d = λ d w.
-      let (i, there, below) = walk_of Node V z is ne (prepend h t w) in
-      omega (arith, row.least i there) in
-      let s = sound Node V n z walk j here is ne in
-      elim s.walk [
-        | inl w ↦
-            let same : s.cost ≡ rest = omega (arith, s.low, under s.cost w) in
-            let P : ℕ → Type 0 = λ c. Radio Node V n z c in
-            record { reached = subst P same w; least = under }
-        | inr w ↦
-            let (i, there, below) = walk_of Node V z is ne w in
-            absurd (omega (arith, s.low, row.least i there))
-      ]
+  onward n z a first r near rest is ne row h here walk total off = grind (arith, common_steps, goes_on, walk_of, prepend, sound)
 
   pub next_hop : (z : ℕ) (a first : Node) (r : ℕ) → AddressOf z a → (z ≡ x → ⊥) → Least Arc self a r → FirstNode (Fits Arc self) self a first →
       (n near : ℕ) × AddressOf n first × LeadsTo n z r near

@@ -1,25 +1,21 @@
 -- Short lists, and bases of one tuple and of none.
-use Rattle.mesh_paths.proofs.Common.{common_steps, ◌≡◌, ℕ, zero, suc, ◌<◌, ◌⊎◌, inl, inr, refl, sym, arith, List, [], ◌∷◌, Contains, slice_get, slice_index_or, length, Some, None, Bool, true, false, cond, nat_eq, eq-eqb, Addr4, base_of, HasDistinctKeys, addr_eq, IsWithin, contains_head as here, none_is_some}
+use Rattle.mesh_paths.proofs.Common.{common_steps, ◌≡◌, ℕ, zero, suc, ◌<◌, ◌⊎◌, refl, arith, List, [], ◌∷◌, Contains, slice_get, slice_index_or, length, Some, None, Bool, true, false, cond, nat_eq, eq-eqb, Addr4, base_of, HasDistinctKeys, addr_eq, IsWithin, contains_head as here, none_is_some}
 use Rattle.std.specs.List.{IsDistinct}
 
 pub only_at : {A : Type 0} (a t : A) (k : ℕ) → k < length (a ∷ []) → slice_index_or (a ∷ []) k t ≡ t → t ≡ a
-only_at a t zero l e = sym e
-only_at a t (suc k) l e = absurd (omega arith)
+only_at a t k l e = grind (arith, common_steps)
 
 pub only : {A : Type 0} (a t : A) → Contains (a ∷ []) t → t ≡ a
 only a t c = only_at a t c.0 c.1 c.2
 
 pub two_at : {A : Type 0} (a b t : A) (k : ℕ) → k < length (a ∷ b ∷ []) → slice_index_or (a ∷ b ∷ []) k t ≡ t → (t ≡ a) ⊎ (t ≡ b)
-two_at a b t zero l e = inl (sym e)
-two_at a b t (suc zero) l e = inr (sym e)
-two_at a b t (suc (suc k)) l e = absurd (omega arith)
+two_at a b t k l e = grind (arith, common_steps)
 
 pub two : {A : Type 0} (a b t : A) → Contains (a ∷ b ∷ []) t → (t ≡ a) ⊎ (t ≡ b)
 two a b t c = two_at a b t c.0 c.1 c.2
 
 pub first_of : {A : Type 0} (a t : A) (k : ℕ) → slice_get (a ∷ []) k ≡ Some t → (k ≡ 0) × (t ≡ a)
-first_of a t zero e = (refl, (cc))
-first_of a t (suc k) e = absurd (let f : None ≡ Some t = e in cc)
+first_of a t k e = grind (arith, common_steps)
 
 -- Bases of one tuple and of none
 

@@ -1,5 +1,5 @@
 -- The ways that are kept are the cheapest ones.
-use Rattle.mesh_relay.proofs.Common.{◌≡◌, ℕ, ◌+◌, ◌≤◌, ◌<◌, ◌⊎◌, Bool, true, false, cond, nat_eq, nat_lt, List, [], ◌∷◌, Some, None, length, get_or, suc, refl, sym, ◌∙◌, ap, subst, inl, inr, arith, All, Ordering, Less, Equal, Greater, common_steps, Contains, filter_map, IsPermutation, dedup, dedup_from, IsSorted, false≢true, true≢false, and_parts, and_from, or_cases, or_left, ltb-true, lt-ltb, eqb-true, cases_lt, Contains-get_or, Contains-permutation, IsPermutation-sym, Addr4, Near, Far, NeighbourGraph, Offers, IsWilling, addr_eq, Way, is_direct_within, AreWilling, IsAt, IsDirect, IsCheapest, HasWay, RisesFrom, AreWays, way_at, way_from, is_no_better, Decides-addr, some_equal, none_is_some, contains_none, contains_head, contains_cases, contains_tail}
+use Rattle.mesh_relay.proofs.Common.{◌≡◌, ℕ, ◌+◌, ◌≤◌, ◌<◌, ◌⊎◌, Bool, true, false, cond, nat_eq, nat_lt, List, [], ◌∷◌, Some, None, length, get_or, suc, refl, sym, ◌∙◌, ap, subst, inl, inr, arith, All, Ordering, Contains, filter_map, IsPermutation, common_steps, dedup, dedup_from, IsSorted, false≢true, true≢false, and_parts, and_from, or_cases, or_left, lt-ltb, cases_lt, Contains-get_or, Contains-permutation, IsPermutation-sym, Addr4, Near, Far, NeighbourGraph, Offers, IsWilling, addr_eq, Way, is_direct_within, AreWilling, IsAt, IsDirect, IsCheapest, HasWay, RisesFrom, AreWays, way_at, way_from, is_no_better, Decides-addr, some_equal, none_is_some, contains_none, contains_head, contains_cases, contains_tail}
 use Rattle.std.specs.Ordering.{MatchOrdering, nat_cmp, ordering_then, is_lt}
 use Rattle.std.proofs.lemmas.Cmp.{ranked}
 use Rattle.mesh_relay.proofs.Decide.{Decides-direct}
@@ -46,8 +46,7 @@ cost_le a b p e = grind (arith, common_steps)
 -- What is kept stays in order
 
 rises_cond : (b : Bool) (low : ℕ) (a c : List Way) → RisesFrom low a → RisesFrom low c → RisesFrom low (cond b a c)
-rises_cond true low a c h h' = h
-rises_cond false low a c h h' = h'
+rises_cond b low a c h h' = grind (arith, common_steps)
 
 kept_rises : (low : ℕ) (k : Way) (xs : List Way) → low ≤ k.addr.0 → Rises k xs → RisesFrom low (dedup_from is_no_better k xs)
 kept_rises low k [] le up = (le, tt)
@@ -57,8 +56,7 @@ kept_rises low k (x ∷ xs) le up =
     (le, kept_rises k.addr.0 x xs (addr_le k x up.0) up.1)
 
 dedup_rises : (sorted : List Way) → IsInOrder sorted → RisesFrom 0 (dedup is_no_better sorted)
-dedup_rises [] up = tt
-dedup_rises (k ∷ xs) up = kept_rises 0 k xs (omega arith) up
+dedup_rises sorted up = grind (arith, common_steps, kept_rises)
 
 -- What is kept is cheapest
 
@@ -144,15 +142,7 @@ NoneFound g start ns f = ((n : Near) → Contains ns n → n.id ≡ f.via → �
 
 found_cons : (g : NeighbourGraph) (start : ℕ) (n : Near) (ns : List Near) (f : Far) (b : Bool) → addr_eq n.id f.via ≡ b →
     NoneFound g (start + 1) ns f ⊎ Found g (start + 1) ns f → NoneFound g start (n ∷ ns) f ⊎ Found g start (n ∷ ns) f
-found_cons g start n ns f true e h = inr (record {
-  near = n;
-  index = 0;
-  at = (omega arith, refl);
-  via = (Decides-addr n.id f.via).0 e;
-  place = start;
-  is = omega arith;
-  gives = ap (λ (t : Bool). cond t (way_at g start n f) (way_from g (start + 1) ns f)) e;
-})
+found_cons g start n ns f true e h = grind (arith, common_steps, Decides-addr, way_from)
 found_cons g start n ns f false e h =
     let on : way_from g start (n ∷ ns) f ≡ way_from g (start + 1) ns f = ap (λ (t : Bool). cond t (way_at g start n f) (way_from g (start + 1) ns f)) e in
     elim h [
@@ -183,12 +173,10 @@ IsWayBy g place n f w = (w ≡ record { addr = f.addr; cost = n.cost + f.cost; p
 
 way_at_cases : (g : NeighbourGraph) (place : ℕ) (n : Near) (f : Far) (b : Bool) → is_direct_within g f.addr (n.cost + f.cost) ≡ b →
     IsDirect g f.addr (n.cost + f.cost) ⊎ ((w : Way) × (way_at g place n f ≡ Some w) × IsWayBy g place n f w)
-way_at_cases g place n f true e = inl ((Decides-direct g f.addr (n.cost + f.cost)).0 e)
-way_at_cases g place n f false e = grind (arith, common_steps, place, cond, false≢true)
+way_at_cases g place n f b e = grind (arith, common_steps, Decides-direct)
 
 direct_gives_none : (g : NeighbourGraph) (place : ℕ) (n : Near) (f : Far) → IsDirect g f.addr (n.cost + f.cost) → way_at g place n f ≡ None
-direct_gives_none g place n f d =
-    ap (λ (t : Bool). cond t None (Some (record { addr = f.addr; cost = n.cost + f.cost; place = place }))) ((Decides-direct g f.addr (n.cost + f.cost)).1 d)
+direct_gives_none g place n f d = grind (arith, common_steps, Decides-direct)
 
 way_at_is : (g : NeighbourGraph) (place : ℕ) (n : Near) (f : Far) (w : Way) → way_at g place n f ≡ Some w → IsWayBy g place n f w
 way_at_is g place n f w e = grind (arith, common_steps, way_at_cases, place, none_is_some, direct_gives_none, some_equal)
@@ -297,18 +285,7 @@ cheapest_from g willing w h least' =
 -- a way that another makes up for
 way_or_cheaper : (willing : List Near) (ways : List Way) (n : Near) (f : Far) (v w : Way) → Contains ways w → (w ≡ v) ⊎ (is_no_better v w ≡ true) →
     v.addr ≡ f.addr → v.cost ≡ n.cost + f.cost → IsAt willing v.place n → HasWay willing ways n f
-way_or_cheaper willing ways n f v w within same' addr cost at = elim same' [
-  | inl e ↦ (w, within, ap (λ (x : Way). x.addr) e ∙ addr, inr (subst (λ (x : Way). IsAt willing x.place n) (sym e) at))
-  | inr e ↦ (
-    w,
-    within,
-    sym (same_addr v w e) ∙ addr,
-    elim (or_cases (nat_lt w.cost v.cost) (nat_eq v.place w.place) (and_parts _ _ e).1) [
-      | inl lt ↦ inl (subst (λ (c : ℕ). w.cost < c) cost (ltb-true w.cost v.cost lt))
-      | inr eq ↦ inr (subst (λ (k : ℕ). IsAt willing k n) (eqb-true v.place w.place eq) at)
-    ],
-  )
-]
+way_or_cheaper willing ways n f v w within same' addr cost at = grind (arith, common_steps, same_addr, or_cases)
 
 pub are_ways : (g : NeighbourGraph) (willing : List Near) (offers sorted ways : List Way) → AreWilling g willing →
     offers ≡ filter_map (λ f. way_from g 0 willing f) g.far → IsPermutation offers sorted → IsInOrder sorted → ways ≡ dedup is_no_better sorted → AreWays g willing ways
@@ -339,19 +316,13 @@ places_within g willing ways n are e k d lt =
 
 in_order_cases : (a b : Way) (o p q : Ordering) → MatchOrdering o (b.addr.0 < a.addr.0) (b.addr.0 ≡ a.addr.0) (a.addr.0 < b.addr.0) →
     MatchOrdering p (b.cost < a.cost) (b.cost ≡ a.cost) (a.cost < b.cost) → is_lt (ordering_then o (ordering_then p q)) ≡ false → InOrder a b
-in_order_cases a b Less p q m n e = absurd (true≢false e)
-in_order_cases a b Equal Less q m n e = absurd (true≢false e)
-in_order_cases a b Equal Equal q m n e = inr (sym m, omega arith)
-in_order_cases a b Equal Greater q m n e = inr (sym m, omega arith)
-in_order_cases a b Greater p q m n e = inl m
+in_order_cases a b o p q m n e = grind (arith, common_steps)
 
 abbrev pub way_cmp : Way → Way → Ordering
 way_cmp a b = ordering_then (nat_cmp a.addr.0 b.addr.0) (ordering_then (nat_cmp a.cost b.cost) (nat_cmp a.place b.place))
 
 in_order_of : (a b : Way) → is_lt (way_cmp b a) ≡ false → InOrder a b
-in_order_of a b e =
-    in_order_cases a b (nat_cmp b.addr.0 a.addr.0) (nat_cmp b.cost a.cost) (nat_cmp b.place a.place)
-    (ranked b.addr.0 a.addr.0 _ refl) (ranked b.cost a.cost _ refl) e
+in_order_of a b e = grind (arith, common_steps, in_order_cases, ranked)
 
 rises_sorted : (k : Way) (xs : List Way) → IsSorted way_cmp (k ∷ xs) → Rises k xs
 rises_sorted k [] up = tt

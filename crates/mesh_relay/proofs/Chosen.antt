@@ -1,5 +1,5 @@
 -- What the notes say of the set that is taken.
-use Rattle.mesh_relay.proofs.Common.{◌≡◌, ℕ, ◌≤◌, ◌<◌, Bool, true, false, ◌&&◌, not, nat_eq, nat_le, List, [], ◌∷◌, length, get_or, set, zero, suc, refl, sym, ◌∙◌, ap, subst, inl, inr, arith, common_steps, ◌↔◌, Contains, IsTrue, MatchBool, false≢true, cases_Bool, cases_lt, or_cases, or_right, or_left, eqb-true, eq-eqb, leb-true, le-leb, get_or_past, Addr4, Near, NeighbourGraph, IsWilling, IsRelay, IsOtherRelay, IsAsCheap, Covers, Needed, HasDistinctIds, Way, AreWilling, IsAt, AreWays, ids_of, IsTaken, reaches, is_fit, AreFit}
+use Rattle.mesh_relay.proofs.Common.{◌≡◌, ℕ, ◌≤◌, ◌<◌, Bool, true, false, ◌&&◌, not, List, [], ◌∷◌, length, get_or, set, zero, suc, refl, sym, ◌∙◌, ap, subst, inl, inr, arith, ◌↔◌, Contains, IsTrue, MatchBool, common_steps, false≢true, cases_Bool, or_cases, or_right, or_left, get_or_past, Addr4, Near, NeighbourGraph, IsWilling, IsRelay, IsOtherRelay, IsAsCheap, Covers, Needed, HasDistinctIds, Way, AreWilling, IsAt, AreWays, ids_of, IsTaken, reaches, is_fit, AreFit}
 use Rattle.mesh_relay.proofs.Taken.{taken_of, id_taken, taken_at, covers_taken, keeps_costs, dearer_somewhere}
 use Rattle.mesh_relay.proofs.Pruned.{offers_more, not_taken, left_before, always_taken, dearer_without}
 use Rattle.mesh_relay.proofs.Willing.{one_place}
@@ -14,8 +14,7 @@ abbrev pub IsNotedFor : List Way → List Bool → List Bool → Bool → Type 0
 IsNotedFor ways ts soles reached = (k : ℕ) → (reached && not (get_or soles k false)) ≡ reaches ways (set ts k false)
 
 and_not_false : (a x : Bool) → x ≡ false → a ≡ (a && not x)
-and_not_false true x e = sym (ap (λ z. not z) e)
-and_not_false false x e = refl
+and_not_false a x e = grind (arith, common_steps)
 
 reached_is : (ways : List Way) (ts soles : List Bool) (reached : Bool) → length soles ≡ length ts → IsNotedFor ways ts soles reached → reached ≡ reaches ways ts
 reached_is ways ts soles reached len h =
@@ -25,12 +24,10 @@ reached_is ways ts soles reached len h =
 -- Where each neighbour is fit
 
 fit_always : (n : Near) (t s : Bool) → is_fit n t s ≡ true → n.will ≡ 15 → t ≡ true
-fit_always n true s e will = refl
-fit_always n false s e will = absurd (false≢true (sym (ap (λ x. not x) (eq-eqb n.will 15 will)) ∙ e))
+fit_always n t s e will = grind (arith, common_steps)
 
 fit_sole : (n : Near) (t s : Bool) → is_fit n t s ≡ true → t ≡ true → n.will < 15 → s ≡ true
-fit_sole n true s e taken below = grind (arith, common_steps, or_cases, nat_le, leb-true)
-fit_sole n false s e taken below = absurd (false≢true taken)
+fit_sole n t s e taken below = grind (arith, common_steps, or_cases)
 
 abbrev pub IsChosen : NeighbourGraph → List Addr4 → Type 0
 IsChosen g ids = Covers g ids × Needed g ids
@@ -99,20 +96,11 @@ not_missed g willing ways ts k n distinct are are-ways len chosen at taken all b
 
 fit_cases : (g : NeighbourGraph) (willing : List Near) (ways : List Way) (ts soles : List Bool) (k : ℕ) (n : Near) (t s : Bool) → HasDistinctIds g → AreWilling g willing → AreWays g willing ways →
     length ts ≡ length willing → IsNotedFor ways ts soles true → IsChosen g (ids_of willing ts) → IsAt willing k n → get_or ts k false ≡ t → get_or soles k false ≡ s → is_fit n t s ≡ true
-fit_cases g willing ways ts soles k n true true distinct are are-ways len h chosen at t s = or_right (nat_le 15 n.will) true refl
-fit_cases g willing ways ts soles k n true false distinct are are-ways len h chosen at t s = or_left (nat_le 15 n.will) false (elim (cases_lt n.will 15) [
-  | inl below ↦ absurd (not_missed g willing ways ts k n distinct are are-ways len chosen at t (sym (h k) ∙ ap (λ x. not x) s) below)
-  | inr ge ↦ le-leb 15 n.will ge
-])
-fit_cases g willing ways ts soles k n false s distinct are are-ways len h chosen at t is = elim (cases_Bool (nat_eq n.will 15)) [
-  | inl e ↦ absurd (false≢true (sym t ∙ always_taken g willing ts are chosen.0 k n at (eqb-true n.will 15 e)))
-  | inr e ↦ ap (λ x. not x) e
-]
+fit_cases g willing ways ts soles k n t s distinct are are-ways len h chosen at t16 s17 = grind (arith, common_steps, or_right, or_left, not_missed, cases_Bool, always_taken)
 
 pub fit_if : (g : NeighbourGraph) (willing : List Near) (ways : List Way) (ts soles : List Bool) → HasDistinctIds g → AreWilling g willing → AreWays g willing ways →
     length ts ≡ length willing → IsNotedFor ways ts soles true → IsChosen g (ids_of willing ts) → AreFit willing ts soles
-fit_if g willing ways ts soles distinct are are-ways len h chosen k n at =
-    fit_cases g willing ways ts soles k n (get_or ts k false) (get_or soles k false) distinct are are-ways len h chosen at refl refl
+fit_if g willing ways ts soles distinct are are-ways len h chosen k n at = grind (arith, common_steps, fit_cases)
 
 pub chosen_by : (g : NeighbourGraph) (willing : List Near) (ways : List Way) (ts soles : List Bool) (reached b : Bool) → HasDistinctIds g → AreWilling g willing → AreWays g willing ways →
     length ts ≡ length willing → length soles ≡ length willing → IsNotedFor ways ts soles reached → reached ≡ true → MatchBool b (AreFit willing ts soles) (AreFit willing ts soles → ⊥) →

@@ -16,11 +16,11 @@ pub use Rattle.mesh_relay.specs.Tests.{are_all_distinct, are_costs_kept, are_dis
 pub use Rattle.mesh_relay.specs.Ways.{AreWays, AreWilling, HasWay, IsAt, IsCheapest, IsDirect, IsSought, RisesFrom, are_all_reached, are_all_reached_on, is_first_within, is_no_better, is_offer, near_from, way_at, way_from}
 pub use Rattle.mesh_relay.specs.declared.sets.Among.TheVariants.{Others, Relays, Willing}
 pub use Rattle.mesh_relay.specs.declared.ways.Way.{Way}
-pub use Rattle.std.proofs.Common.{All, AllPairs, Bool, Contains, Decides, Equal, Greater, IsPermutation, IsTrue, Less, List, MatchBool, None, Option, Ordering, Some, [], ap, arith, cond, drop, false, filter, filter_map, get_or, inl, inr, length, nat_eq, nat_le, nat_lt, not, refl, replicate, rules, set, subst, suc, sym, true, zero, ℕ, ◌&&◌, ◌++◌, ◌+◌, ◌<◌, ◌||◌, ◌↔◌, ◌∙◌, ◌∷◌, ◌≡◌, ◌≢◌, ◌≤◌, ◌⊎◌}
-pub use Rattle.std.proofs.lemmas.Bool.{and_cases, and_from, and_parts, cases_Bool, cases_lt, eq-eqb, eqb-true, false≢true, le-leb, leb-true, lt-ltb, ltb-true, or_cases, or_left, or_parts, or_right, true≢false}
+pub use Rattle.std.proofs.Common.{All, AllPairs, Bool, Contains, Decides, IsPermutation, IsTrue, List, MatchBool, None, Option, Ordering, Some, [], ap, arith, cond, drop, false, filter, filter_map, get_or, inl, inr, length, nat_eq, nat_le, nat_lt, not, refl, replicate, rules, set, subst, suc, sym, true, zero, ℕ, ◌&&◌, ◌++◌, ◌+◌, ◌<◌, ◌||◌, ◌↔◌, ◌∙◌, ◌∷◌, ◌≡◌, ◌≢◌, ◌≤◌, ◌⊎◌}
+pub use Rattle.std.proofs.lemmas.Bool.{and_cases, and_from, and_parts, cases_Bool, cases_lt, eq-eqb, eqb-true, false≢true, lt-ltb, ltb-true, or_cases, or_left, or_parts, or_right, true≢false}
 pub use Rattle.std.proofs.lemmas.Fn.{dedup_same}
 pub use Rattle.std.proofs.lemmas.Grind.{common_steps}
-pub use Rattle.std.proofs.lemmas.List.{append_assoc, at_drop_all, at_drop_more, drop_more, get_or-drop, get_or-replicate, get_or-set_other, get_or-set_same, get_or_default, get_or_past, length-drop, length-replicate, length-set, set-get_or, set-set, take_rest}
+pub use Rattle.std.proofs.lemmas.List.{append_assoc, at_drop_more, drop_more, get_or-drop, get_or-replicate, get_or-set_other, get_or-set_same, get_or_default, get_or_past, length-drop, length-replicate, length-set, set-get_or, set-set, take_rest}
 pub use Rattle.std.proofs.lemmas.List.Elements.{Contains-get_or}
 pub use Rattle.std.proofs.lemmas.List.Sorted.{Contains-permutation, IsNonDecreasingBy-from_sort_by_key, IsPartitionPoint-from_clause, IsPartitionedBy-ltb, IsPermutation-sym, list_any-IsPermutation}
 pub use Rattle.std.proofs.lemmas.Result.{IfOk-weaker}

@@ -1,5 +1,5 @@
 -- The tests decide what they are named for.
-use Rattle.mesh_relay.proofs.Common.{◌≡◌, ℕ, ◌+◌, ◌≤◌, ◌<◌, ◌||◌, not, nat_eq, List, refl, sym, subst, inl, inr, arith, Decides, common_steps, Contains, Addr4, Near, Far, NeighbourGraph, Decides-eqb, Decides-ltb, Decides-leb, Decides-addr, Decides-and, Decides-or, Decides-not, Decides-if, Decides-if_both, Decides-some, Decides-each, Offers, IsWilling, IsRelay, IsOtherRelay, IsAsCheap, HasSameDistance, Covers, IsMissed, Needed, HasDistinctIds, addr_eq, Willing, Relays, Others, IsDirect, contains, is_in_set, has_way_within, is_direct_within, is_led_to_within, is_offered_within, is_matched, is_as_cheap, are_costs_kept, has_always, are_willing, is_missed, irredundant, covers, are_distinct, are_all_distinct}
+use Rattle.mesh_relay.proofs.Common.{◌≡◌, ℕ, ◌+◌, ◌≤◌, ◌<◌, ◌||◌, not, List, refl, sym, subst, inl, inr, arith, Decides, Contains, common_steps, Addr4, Near, Far, NeighbourGraph, Decides-eqb, Decides-ltb, Decides-leb, Decides-addr, Decides-and, Decides-or, Decides-not, Decides-if, Decides-if_both, Decides-some, Decides-each, Offers, IsWilling, IsRelay, IsOtherRelay, IsAsCheap, HasSameDistance, Covers, IsMissed, Needed, HasDistinctIds, addr_eq, Willing, Relays, Others, IsDirect, contains, is_in_set, has_way_within, is_direct_within, is_led_to_within, is_offered_within, is_matched, is_as_cheap, are_costs_kept, has_always, are_willing, is_missed, irredundant, covers, are_distinct, are_all_distinct}
 use Rattle.std.specs.Borrow.{Bor}
 use Rattle.mesh_relay.specs.declared.sets.Among.{Among}
 
@@ -20,10 +20,7 @@ Decides-contains ids id =
     (λ e. let w = d.0 e in subst (Contains ids) w.2 w.1, λ w. d.1 (id, w, refl))
 
 pub Decides-is_in_set : (among : Among) (n : Near) → Decides (is_in_set among n) (IsIn among n)
-Decides-is_in_set Willing n = Decides-not (nat_eq n.will 0) (Decides-eqb n.will 0)
-Decides-is_in_set (Relays relays) n = Decides-contains relays.now n.id
-Decides-is_in_set (Others relays id) n =
-    Decides-and (contains relays.now n.id) (not (addr_eq n.id id)) (Decides-contains relays.now n.id) (Decides-not (addr_eq n.id id) (Decides-addr n.id id))
+Decides-is_in_set among n = grind (arith, common_steps, Decides-not, Decides-contains, Decides-and, Decides-addr)
 
 abbrev pub Leads : NeighbourGraph → (Near → Type 0) → Far → ℕ → Type 0
 Leads g A f most = (n : Near) × Contains g.near n × (((n.id ≡ f.via) × A n) × (n.cost + f.cost ≤ most))

@@ -1,5 +1,5 @@
 -- Direct entries in ascending order of address.
-use Rattle.mesh_relay.proofs.Common.{◌≡◌, ℕ, ◌+◌, ◌≤◌, ◌<◌, Bool, true, false, ◌&&◌, ◌||◌, cond, nat_lt, nat_le, List, [], ◌∷◌, length, drop, get_or, zero, suc, refl, sym, ◌∙◌, ap, inl, inr, arith, list_any, IsNonDecreasingBy, IsPartitionPoint, false≢true, cases_lt, ltb-true, lt-ltb, get_or-drop, length-drop, Addr4, Direct, addr_eq, Decides-addr, is_offer, is_first_within}
+use Rattle.mesh_relay.proofs.Common.{common_steps, ◌≡◌, ℕ, ◌+◌, ◌≤◌, ◌<◌, Bool, true, false, ◌&&◌, ◌||◌, cond, nat_lt, nat_le, List, [], ◌∷◌, length, drop, get_or, zero, suc, refl, sym, ◌∙◌, ap, inl, inr, arith, list_any, IsNonDecreasingBy, IsPartitionPoint, false≢true, cases_lt, ltb-true, lt-ltb, get_or-drop, length-drop, Addr4, Direct, addr_eq, Decides-addr, is_offer, is_first_within}
 
 -- each address is that one or a later one
 abbrev AreFrom : Addr4 → List Direct → Type 0
@@ -10,8 +10,7 @@ abbrev AreAfter : Addr4 → List Direct → Type 0
 AreAfter y ds = (k : ℕ) (e : Direct) → k < length ds → y.0 < (get_or ds k e).addr.0
 
 other_addr : (y : Addr4) (d : Direct) (b : Bool) → addr_eq d.addr y ≡ b → ((d.addr.0 ≡ y.0) → ⊥) → b ≡ false
-other_addr y d true e other = absurd (other (ap (λ (a : Addr4). a.0) ((Decides-addr d.addr y).0 e)))
-other_addr y d false e other = refl
+other_addr y d b e other = grind (arith, common_steps, Decides-addr)
 
 no_offer : (y : Addr4) (most : ℕ) (d : Direct) → ((d.addr.0 ≡ y.0) → ⊥) → is_offer y most d ≡ false
 no_offer y most d other = ap (λ (x : Bool). x && nat_le d.cost most) (other_addr y d (addr_eq d.addr y) refl other)
@@ -36,9 +35,7 @@ first_cases y most d ds false e from up h =
 
 pub first_same : (y : Addr4) (most : ℕ) (ds : List Direct) → AreFrom y ds → IsNonDecreasingBy (λ (x : Direct). x.addr.0) ds → is_first_within y most ds ≡ list_any (is_offer y most) ds
 first_same y most [] from up = refl
-first_same y most (d ∷ ds) from up =
-    first_cases y most d ds (addr_eq d.addr y) refl from up
-    (first_same y most ds (λ k e lt. from (suc k) e (omega arith)) (λ i j e le lt. up (suc i) (suc j) e (omega arith) (omega arith)))
+first_same y most (d ∷ ds) from up = grind (arith, common_steps, first_cases, (first_same y most ds (λ k e lt. from (suc k) e (omega arith)) (λ i j e le lt. up (suc i) (suc j) e (omega arith) (omega arith))))
 
 -- those before play no part
 before_none : (y : Addr4) (most : ℕ) (ds : List Direct) (n : ℕ) → ((k : ℕ) (e : Direct) → k < n → (get_or ds k e).addr.0 < y.0) → n ≤ length ds →

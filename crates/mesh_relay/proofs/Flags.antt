@@ -1,5 +1,5 @@
 -- Flags of the neighbours with given ids.
-use Rattle.mesh_relay.proofs.Common.{◌≡◌, ℕ, ◌+◌, ◌≤◌, ◌<◌, ◌≢◌, ◌⊎◌, Bool, true, false, nat_eq, nat_lt, List, length, get_or, set, sym, ◌∙◌, ap, subst, inl, inr, arith, common_steps, ◌↔◌, AllPairs, Contains, IsTrue, replicate, IsNonDecreasingBy, IsPartitionPoint, false≢true, cases_Bool, cases_lt, ltb-true, eqb-true, eq-eqb, get_or-set_same, get_or-set_other, get_or_default, get_or-replicate, length-set, length-replicate, Contains-get_or, Addr4, Near, NeighbourGraph, IsWilling, IsRelay, IsOtherRelay, IsAsCheap, Covers, Needed, ids_of, IsTaken, AreWilling, IsAt}
+use Rattle.mesh_relay.proofs.Common.{◌≡◌, ℕ, ◌+◌, ◌≤◌, ◌<◌, ◌≢◌, ◌⊎◌, Bool, true, false, nat_eq, nat_lt, List, length, get_or, set, sym, ◌∙◌, ap, subst, inl, inr, arith, ◌↔◌, AllPairs, Contains, IsTrue, replicate, common_steps, IsNonDecreasingBy, IsPartitionPoint, false≢true, cases_Bool, cases_lt, ltb-true, eqb-true, eq-eqb, get_or-set_same, get_or-set_other, get_or_default, get_or-replicate, length-set, length-replicate, Contains-get_or, Addr4, Near, NeighbourGraph, IsWilling, IsRelay, IsOtherRelay, IsAsCheap, Covers, Needed, ids_of, IsTaken, AreWilling, IsAt}
 use Rattle.mesh_relay.specs.Asked.{HasPlace, AreFlagsOf, AreWillingIds}
 use Rattle.mesh_relay.proofs.Pruned.{offers_more, same_near}
 use Rattle.mesh_relay.proofs.Taken.{taken_of, id_taken}

@@ -1,5 +1,5 @@
 -- One pass over the ways in order finds an address that is not reached.
-use Rattle.mesh_relay.proofs.Common.{◌≡◌, ℕ, ◌≤◌, ◌≢◌, ◌⊎◌, Bool, true, false, ◌&&◌, ◌||◌, cond, List, [], ◌∷◌, refl, sym, ◌∙◌, ap, subst, inl, inr, arith, Decides, common_steps, Contains, false≢true, true≢false, and_cases, and_parts, or_cases, or_parts, Addr4, addr_eq, Way, RisesFrom, are_all_reached_on, are_all_reached, Decides-addr, contains_head, contains_none, contains_cases, contains_tail}
+use Rattle.mesh_relay.proofs.Common.{◌≡◌, ℕ, ◌≤◌, ◌≢◌, ◌⊎◌, Bool, true, false, ◌&&◌, ◌||◌, cond, List, [], ◌∷◌, refl, sym, ◌∙◌, ap, subst, inl, inr, arith, Decides, Contains, common_steps, false≢true, true≢false, and_cases, and_parts, or_cases, or_parts, Addr4, addr_eq, Way, RisesFrom, are_all_reached_on, are_all_reached, Decides-addr, contains_head, contains_none, contains_cases, contains_tail}
 
 -- some way to y passes the test
 abbrev pub Hit : (Way → Bool) → Addr4 → List Way → Type 0
@@ -124,9 +124,7 @@ misses_cons test y reached w ws false d up e goes_on begins =
 misses_false : (test : Way → Bool) (y : Addr4) (reached : Bool) (ws : List Way) → RisesFrom y.0 ws → are_all_reached_on test y reached ws ≡ false → Misses test y reached ws
 unfolding Misses
 misses_false test y reached [] up e = inl (e, λ v within. absurd (contains_none v within))
-misses_false test y reached (w ∷ ws) up e =
-    misses_cons test y reached w ws (addr_eq w.addr y) (Decides-addr w.addr y) up e
-    (misses_false test y (reached || test w) ws) (misses_false test w.addr (test w) ws)
+misses_false test y reached (w ∷ ws) up e = grind (arith, common_steps, misses_cons, Decides-addr, (misses_false test y (reached || test w) ws), (misses_false test w.addr (test w) ws))
 
 pub one_missed : (test : Way → Bool) (ways : List Way) → RisesFrom 0 ways → are_all_reached test ways ≡ false →
     (w : Way) × Contains ways w × Missed test w.addr ways

@@ -1,5 +1,5 @@
 -- Elements of lists.
-use Rattle.mesh_relay.proofs.Common.{◌≡◌, ◌⊎◌, Bool, true, false, cond, List, [], ◌∷◌, Option, Some, None, refl, sym, subst, inl, inr, Contains, filter_map, dedup, dedup_from, cons_option, contains_head, contains_none, contains_cases, contains_tail, option_cases}
+use Rattle.mesh_relay.proofs.Common.{arith, common_steps, ◌≡◌, ◌⊎◌, Bool, true, false, cond, List, [], ◌∷◌, Option, Some, None, refl, sym, subst, inl, inr, Contains, filter_map, dedup, dedup_from, cons_option, contains_head, contains_none, contains_cases, contains_tail, option_cases}
 
 -- Elements that pass a test
 
@@ -38,8 +38,7 @@ dedup_first same k (x ∷ xs) = dedup_first_cons (same x k) k (dedup_from same k
 
 pub dedup_cases : {X : Type 0} (b : Bool) (k w : X) (a c : List X) → Contains (cond b a (k ∷ c)) w →
     ((b ≡ true) × Contains a w) ⊎ ((b ≡ false) × ((k ≡ w) ⊎ Contains c w))
-dedup_cases true k w a c h = inl (refl, h)
-dedup_cases false k w a c h = inr (refl, contains_cases k c w h)
+dedup_cases b k w a c h = grind (arith, common_steps, contains_cases)
 
 -- what is kept was there
 pub dedup_within : {X : Type 0} (same : X → X → Bool) (k : X) (xs : List X) (w : X) → Contains (dedup_from same k xs) w → Contains (k ∷ xs) w

@@ -1,5 +1,5 @@
 -- A pass over a list that ends at the first element that settles the answer.
-use Rattle.mesh_relay.proofs.Common.{◌≡◌, ℕ, ◌+◌, ◌<◌, ◌≤◌, Bool, true, false, ◌&&◌, ◌||◌, List, length, drop, get_or, sym, ap, subst, ◌∙◌, list_any, list_all, at_drop_more, at_drop_all}
+use Rattle.mesh_relay.proofs.Common.{◌≡◌, ℕ, ◌+◌, ◌<◌, Bool, true, false, ◌&&◌, ◌||◌, List, length, drop, get_or, sym, ap, subst, ◌∙◌, list_any, list_all, at_drop_more}
 use Rattle.std.proofs.lemmas.List.Folds.{list_any_at, list_all_at}
 
 module _ {X : Type 0} (p : X → Bool) (items xs : List X) (same : items ≡ xs) (i : ℕ) where
@@ -21,9 +21,3 @@ module _ {X : Type 0} (p : X → Bool) (items xs : List X) (same : items ≡ xs)
 
     pub all_next : p (get_or items i d) ≡ true → list_all p (drop i xs) ≡ list_all p xs → list_all p (drop (i + 1) xs) ≡ list_all p xs
     all_next h rest = ap (λ (b : Bool). b && list_all p (drop (i + 1) xs)) (sym (at true h)) ∙ sym (at_drop_more (list_all p) xs i d within) ∙ rest
-
-  pub any_end : length items ≤ i → list_any p (drop i xs) ≡ list_any p xs → false ≡ list_any p xs
-  any_end past rest = sym (at_drop_all (list_any p) xs i (subst (λ (l : List X). length l ≤ i) same past)) ∙ rest
-
-  pub all_end : length items ≤ i → list_all p (drop i xs) ≡ list_all p xs → true ≡ list_all p xs
-  all_end past rest = sym (at_drop_all (list_all p) xs i (subst (λ (l : List X). length l ≤ i) same past)) ∙ rest

@@ -1,5 +1,5 @@
 -- Neighbours that are left out one by one.
-use Rattle.mesh_relay.proofs.Common.{◌≡◌, ℕ, ◌+◌, ◌≤◌, ◌<◌, ◌≢◌, ◌⊎◌, Bool, true, false, List, length, get_or, set, sym, ◌∙◌, ap, subst, inl, inr, arith, common_steps, Contains, false≢true, cases_lt, get_or-set_same, get_or-set_other, length-set, get_or_default, Addr4, Near, Far, NeighbourGraph, Offers, IsWilling, IsRelay, IsOtherRelay, IsAsCheap, Covers, Needed, HasDistinctIds, Way, AreWilling, IsAt, AreWays, ids_of, IsTaken, reaches, IsDearer, IsPruned}
+use Rattle.mesh_relay.proofs.Common.{◌≡◌, ℕ, ◌+◌, ◌≤◌, ◌<◌, ◌≢◌, ◌⊎◌, Bool, true, false, List, length, get_or, set, sym, ◌∙◌, ap, subst, inl, inr, arith, Contains, common_steps, false≢true, cases_lt, get_or-set_same, get_or-set_other, length-set, get_or_default, Addr4, Near, Far, NeighbourGraph, Offers, IsWilling, IsRelay, IsOtherRelay, IsAsCheap, Covers, Needed, HasDistinctIds, Way, AreWilling, IsAt, AreWays, ids_of, IsTaken, reaches, IsDearer, IsPruned}
 use Rattle.mesh_relay.proofs.Taken.{taken_of, id_taken, taken_at, HasAlways, covers_taken, dearer_somewhere}
 
 -- Smaller sets

@@ -1,5 +1,5 @@
 -- What is found for a far entry.
-use Rattle.mesh_relay.proofs.Common.{◌≡◌, ℕ, ◌+◌, Bool, true, false, cond, List, [], ◌∷◌, Some, None, Option, refl, sym, ◌∙◌, ap, arith, common_steps, IsPermutation, list_any, list_any-IsPermutation, Addr4, Near, Direct, Far, NeighbourGraph, Way, is_direct_within, way_at, way_from, near_from, is_offer}
+use Rattle.mesh_relay.proofs.Common.{◌≡◌, ℕ, ◌+◌, Bool, true, false, cond, List, [], ◌∷◌, Some, None, Option, refl, sym, ◌∙◌, ap, arith, IsPermutation, common_steps, list_any, list_any-IsPermutation, Addr4, Near, Direct, Far, NeighbourGraph, Way, is_direct_within, way_at, way_from, near_from, is_offer}
 
 -- the way that the entry gives by what was found
 abbrev way_of : NeighbourGraph → Option (ℕ × Near) → Far → Option Way
@@ -8,8 +8,7 @@ way_of g (Some p) f = way_at g p.0 p.1 f
 
 of_cond : (g : NeighbourGraph) (b : Bool) (place : ℕ) (n : Near) (rest : Option (ℕ × Near)) (f : Far) →
     way_of g (cond b (Some (place, n)) rest) f ≡ cond b (way_at g place n f) (way_of g rest f)
-of_cond g true place n rest f = refl
-of_cond g false place n rest f = refl
+of_cond g b place n rest f = grind (arith, common_steps)
 
 way_from_found : (g : NeighbourGraph) (start : ℕ) (ns : List Near) (f : Far) → way_of g (near_from start ns f.via) f ≡ way_from g start ns f
 way_from_found g start [] f = refl

@@ -1,5 +1,5 @@
 -- Flags and the ids that they stand for.
-use Rattle.mesh_relay.proofs.Common.{◌≡◌, ℕ, ◌+◌, ◌≤◌, ◌<◌, ◌⊎◌, Bool, true, false, cond, List, [], ◌∷◌, ◌++◌, length, drop, get_or, zero, suc, refl, sym, ◌∙◌, ap, subst, inl, inr, arith, common_steps, Contains, AllPairs, replicate, false≢true, cases_Bool, drop_more, append_assoc, get_or-replicate, Addr4, Near, Far, NeighbourGraph, Offers, IsWilling, IsRelay, IsAsCheap, Covers, HasDistinctIds, IsAscending, Way, AreWilling, IsAt, IsCheapest, AreWays, ids_of, IsTaken, reaches, contains_none, contains_head, contains_cases, contains_cond, all_pairs_cons}
+use Rattle.mesh_relay.proofs.Common.{◌≡◌, ℕ, ◌+◌, ◌≤◌, ◌<◌, ◌⊎◌, Bool, true, false, cond, List, [], ◌∷◌, ◌++◌, length, drop, get_or, zero, suc, refl, sym, ◌∙◌, ap, subst, inl, inr, arith, Contains, AllPairs, replicate, common_steps, false≢true, cases_Bool, drop_more, append_assoc, get_or-replicate, Addr4, Near, Far, NeighbourGraph, Offers, IsWilling, IsRelay, IsAsCheap, Covers, HasDistinctIds, IsAscending, Way, AreWilling, IsAt, IsCheapest, AreWays, ids_of, IsTaken, reaches, contains_none, contains_head, contains_cases, contains_cond, all_pairs_cons}
 use Rattle.mesh_relay.proofs.Decide.{OffersWithin}
 use Rattle.mesh_relay.proofs.Hits.{all_hit, one_missed}
 use Rattle.mesh_relay.proofs.Willing.{one_place, later_order}
@@ -7,12 +7,10 @@ use Rattle.mesh_relay.proofs.Willing.{one_place, later_order}
 -- Ids
 
 ids_cond : (t : Bool) (id x : Addr4) (rest : List Addr4) → Contains (cond t (x ∷ rest) rest) id → ((x ≡ id) × (t ≡ true)) ⊎ Contains rest id
-ids_cond true id x rest w = elim (contains_cases x rest id w) [ inl e ↦ inl (e, refl) | inr v ↦ inr v ]
-ids_cond false id x rest w = inr w
+ids_cond t id x rest w = grind (arith, common_steps, contains_cases)
 
 ids_first : (t : Bool) (x : Addr4) (rest : List Addr4) → t ≡ true → Contains (cond t (x ∷ rest) rest) x
-ids_first true x rest e = contains_head x rest
-ids_first false x rest e = absurd (false≢true e)
+ids_first t x rest e = grind (arith, common_steps, contains_head)
 
 -- the neighbour of that id that is taken
 pub record TakenOf (ns : List Near) (ts : List Bool) (id : Addr4) : Type 0 where
@@ -34,16 +32,13 @@ taken_of (n ∷ ns) (t ∷ ts) id w = elim (ids_cond t id n.id (ids_of ns ts) w)
 ]
 
 nothing_taken : (k : ℕ) → get_or {A = Bool} [] k false ≡ true → ⊥
-nothing_taken zero e = false≢true e
-nothing_taken (suc k) e = false≢true e
+nothing_taken k e = grind (arith, common_steps)
 
 pub id_taken : (ns : List Near) (ts : List Bool) (k : ℕ) (n : Near) → IsAt ns k n → IsTaken ts k → Contains (ids_of ns ts) n.id
 id_taken [] ts k n at taken = absurd (omega (arith, at.0))
 id_taken (m ∷ ns) [] k n at taken = absurd (nothing_taken k taken)
-id_taken (m ∷ ns) (t ∷ ts) zero n at taken =
-    subst (λ (x : Near). Contains (ids_of (m ∷ ns) (t ∷ ts)) x.id) at.1 (ids_first t m.id (ids_of ns ts) taken)
-id_taken (m ∷ ns) (t ∷ ts) (suc k) n at taken =
-    contains_cond t m.id n.id (ids_of ns ts) (id_taken ns ts k n (omega (arith, at.0), at.1) taken)
+id_taken (m ∷ ns) (t ∷ ts) zero n at taken = grind (arith, common_steps, ids_first)
+id_taken (m ∷ ns) (t ∷ ts) (suc k) n at taken = grind (arith, common_steps, contains_cond, (id_taken ns ts k n (omega (arith, at.0), at.1) taken))
 
 pub taken_at : (g : NeighbourGraph) (willing : List Near) (ts : List Bool) (k : ℕ) (n : Near) → AreWilling g willing → IsAt willing k n → Contains (ids_of willing ts) n.id → IsTaken ts k
 taken_at g willing ts k n are at w =

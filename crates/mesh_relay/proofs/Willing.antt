@@ -1,5 +1,5 @@
 -- The willing neighbours in order.
-use Rattle.mesh_relay.proofs.Common.{◌≡◌, ℕ, ◌≤◌, ◌<◌, Bool, true, false, cond, not, nat_eq, List, [], ◌∷◌, get_or, zero, suc, refl, sym, ◌∙◌, ap, subst, inl, inr, arith, common_steps, Contains, AllPairs, filter, IsPermutation, dedup, dedup_from, IsNonDecreasingBy, false≢true, eqb-true, eq-eqb, get_or_default, Contains-get_or, Contains-permutation, IsPermutation-sym, Addr4, Near, NeighbourGraph, IsWilling, HasDistinctIds, AreWilling, IsAt, Decides-not, Decides-eqb, contains_none, contains_filter_cases as passes, contains_filter as stays, contains_cases}
+use Rattle.mesh_relay.proofs.Common.{◌≡◌, ℕ, ◌≤◌, ◌<◌, Bool, true, false, cond, not, nat_eq, List, [], ◌∷◌, get_or, zero, suc, refl, sym, ◌∙◌, ap, subst, inl, inr, arith, Contains, AllPairs, filter, IsPermutation, common_steps, dedup, dedup_from, IsNonDecreasingBy, eqb-true, get_or_default, Contains-get_or, Contains-permutation, IsPermutation-sym, Addr4, Near, NeighbourGraph, IsWilling, HasDistinctIds, AreWilling, IsAt, Decides-not, Decides-eqb, contains_none, contains_filter_cases as passes, contains_filter as stays, contains_cases}
 use Rattle.mesh_relay.proofs.Lists.{dedup_cases, kept_within, joined}
 
 abbrev pub has_same_id : Near → Near → Bool
@@ -22,8 +22,7 @@ rises_from_sorted k [] up = tt
 rises_from_sorted k (x ∷ xs) up = (up 0 1 k (omega arith) (omega arith), rises_from_sorted x xs (λ i j d le lt. up (suc i) (suc j) d (omega arith) (omega arith)))
 
 unequal_ids : (x k : Near) → has_same_id x k ≡ false → k.id.0 ≤ x.id.0 → k.id.0 < x.id.0
-unequal_ids x k e le =
-    let other : x.id.0 ≡ k.id.0 → ⊥ = λ f. false≢true (sym e ∙ eq-eqb _ _ f) in omega arith
+unequal_ids x k e le = grind (arith, common_steps)
 
 above_first : (k : Near) (xs : List Near) (m : Near) → Rises k xs → Contains (dedup_from has_same_id k xs) m → k.id.0 ≤ m.id.0
 above_first k [] m up w = grind (arith, common_steps, contains_cases, contains_none)

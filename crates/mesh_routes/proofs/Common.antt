@@ -8,7 +8,7 @@ pub use Rattle.mesh_atoms.proofs.Values.{before_trans, contains_or_not, not_befo
 pub use Rattle.mesh_atoms.specs.Base.{Base, Has, HasDistinctKeys, addr_eq, base_of, find, host}
 pub use Rattle.mesh_atoms.specs.Codes.Codes.{metric_value}
 pub use Rattle.mesh_atoms.specs.Live.{HasSymmetricOf, HasTables}
-pub use Rattle.mesh_atoms.specs.NextHop.{HasAddressIn, HasNoRouteTo, Holds, IsLongest}
+pub use Rattle.mesh_atoms.specs.NextHop.{HasAddressIn, Holds}
 pub use Rattle.mesh_atoms.specs.Nodes.{IsBefore, net_cmp}
 pub use Rattle.mesh_atoms.specs.RelayGraphs.{IsFloodingGraph, IsMetricOver, IsRoutingGraph}
 pub use Rattle.mesh_atoms.specs.Routes.{AreRoutes, By_address, By_network, By_router, IsNextHop, IsOutside, IsParent, IsWayTo, RouteArc, To_neighbour, To_two_hop}
@@ -62,8 +62,8 @@ pub use Rattle.mesh_routes.specs.Ways.{IsWayOfAll}
 pub use Rattle.mesh_routes.specs.declared.firsts.Turn.{Turn}
 pub use Rattle.mesh_routes.specs.declared.hops.owners.SymmetricNeighbour.{SymmetricNeighbour}
 pub use Rattle.mesh_routes.specs.declared.hops.ways.NeighbourLink.{NeighbourLink}
-pub use Rattle.std.proofs.Common.{Bool, Bor, Contains, Err, IfErr, IfNone, IfOk, IfSome, IsSome, IsTrue, List, None, Ok, Option, Result, Some, [], ap, arith, cond, eq-eqb, false, get_or, inl, inr, is_some, length, length-append, map, nat_eq, not, option_map, refl, rules, slice_get, slice_index_or, subst, suc, sym, true, zero, ℕ, ◌*◌, ◌++◌, ◌+◌, ◌-◌, ◌/◌, ◌<◌, ◌^◌, ◌↔◌, ◌∙◌, ◌∷◌, ◌≡◌, ◌≢◌, ◌≤◌, ◌⊎◌}
-pub use Rattle.std.proofs.lemmas.Bool.{cases_Bool, cases_eq, cases_lt, eqb-true, false≢true}
+pub use Rattle.std.proofs.Common.{Bool, Contains, Err, IfErr, IfOk, IfSome, IsSome, IsTrue, List, None, Ok, Option, Result, Some, [], ap, arith, cond, eq-eqb, false, get_or, inl, inr, is_some, length, length-append, map, nat_eq, not, option_map, refl, rules, slice_get, slice_index_or, subst, suc, sym, true, zero, ℕ, ◌*◌, ◌++◌, ◌+◌, ◌-◌, ◌/◌, ◌<◌, ◌^◌, ◌↔◌, ◌∙◌, ◌∷◌, ◌≡◌, ◌≢◌, ◌≤◌, ◌⊎◌}
+pub use Rattle.std.proofs.lemmas.Bool.{cases_Bool, cases_eq, cases_lt, false≢true}
 pub use Rattle.std.proofs.lemmas.Cmp.{nat_cmp_total, on_total, ranked, then_total, tied_itself}
 pub use Rattle.std.proofs.lemmas.Grind.{common_steps}
 pub use Rattle.std.proofs.lemmas.List.{append-nil, get_or_past, length-map}

@@ -1,5 +1,5 @@
 -- Lists of all that has a property.
-use Rattle.mesh_routes.proofs.Common.{◌≡◌, ◌↔◌, ℕ, zero, suc, ◌<◌, ◌⊎◌, inl, inr, refl, sym, subst, arith, Option, Some, None, List, [], ◌∷◌, ◌++◌, Contains, cases_lt, Contains-append_left, Contains-append_right, Contains-append_cases, contains_cases, contains_tail as in_tail, contains_none as none_of, contains_head as here}
+use Rattle.mesh_routes.proofs.Common.{common_steps, ◌≡◌, ◌↔◌, ℕ, zero, suc, ◌<◌, ◌⊎◌, inl, inr, refl, sym, subst, arith, Option, Some, None, List, [], ◌∷◌, ◌++◌, Contains, cases_lt, Contains-append_left, Contains-append_right, Contains-append_cases, contains_cases, contains_tail as in_tail, contains_none as none_of, contains_head as here}
 
 -- the list has exactly what has the property
 abbrev pub IsListed : {X : Type 0} → (X → Type 0) → Type 0
@@ -24,8 +24,7 @@ listed_by both (xs, are) = (xs, λ x. (λ has. (both x).0 ((are x).0 has), λ q.
 
 -- where a statement holds
 pub listed_where : {X : Type 0} {P : X → Type 0} {D : Type 0} → D ⊎ (D → ⊥) → IsListed P → IsListed (λ x. D × P x)
-listed_where (inl d) (xs, are) = (xs, λ x. (λ has. (d, (are x).0 has), λ p. (are x).1 p.1))
-listed_where (inr not) listed = listed_none (λ x p. not p.0)
+listed_where h0 h1 = grind (arith, common_steps, listed_none)
 
 -- of a value that is known
 pub listed_known : {A X : Type 0} {F : A → X → Type 0} (o : Option A) → ((a : A) → IsListed (F a)) →

@@ -1,5 +1,5 @@
 -- The ways to a neighbour as a list, and their order.
-use Rattle.mesh_routes.proofs.Common.{◌≡◌, ℕ, ◌<◌, ◌≤◌, ◌⊎◌, inl, inr, refl, ◌∙◌, subst, arith, length, Some, true, Contains, common_steps, cases_lt, slice_get_within, Addr4, Metric, LinkKey, Link, base_of, metric_value, IsWayTo, State, is_symmetric, tests_symmetric, NeighbourLink, IsNoWorse, same_address}
+use Rattle.mesh_routes.proofs.Common.{◌≡◌, ℕ, ◌<◌, ◌≤◌, ◌⊎◌, refl, subst, arith, length, Some, true, Contains, common_steps, cases_lt, slice_get_within, Addr4, Metric, LinkKey, Link, base_of, metric_value, IsWayTo, State, is_symmetric, tests_symmetric, NeighbourLink, IsNoWorse, same_address}
 use Rattle.mesh_routes.proofs.FirstNodes.{Entry}
 use Rattle.mesh_routes.proofs.InOrder.{least_of_list}
 use Rattle.mesh_routes.proofs.Listed.{IsListed, listed_one, listed_where, listed_known, listed_each, listed_below}
@@ -24,13 +24,7 @@ either_no_worse : (w v : NeighbourLink) → IsNoWorse w v ⊎ IsNoWorse v w
 either_no_worse w v = grind (arith, common_steps, cases_lt, either_earlier)
 
 no_worse_further : (a b c : NeighbourLink) → IsNoWorse a b → IsNoWorse b c → IsNoWorse a c
-no_worse_further a b c (inl l) (inl m) = inl (omega arith)
-no_worse_further a b c (inl l) (inr (f, _)) = inl (omega arith)
-no_worse_further a b c (inr (e, _)) (inl m) = inl (omega arith)
-no_worse_further a b c (inr (e, inl l)) (inr (f, inl m)) = inr (e ∙ f, inl (omega arith))
-no_worse_further a b c (inr (e, inl l)) (inr (f, inr (g, _))) = inr (e ∙ f, inl (omega arith))
-no_worse_further a b c (inr (e, inr (h, _))) (inr (f, inl m)) = inr (e ∙ f, inl (omega arith))
-no_worse_further a b c (inr (e, inr (h, n))) (inr (f, inr (g, m))) = inr (e ∙ f, inr (h ∙ g, omega arith))
+no_worse_further a b c h3 h4 = grind (arith, common_steps)
 
 -- The ways to a neighbour
 

@@ -1,13 +1,12 @@
 -- The arcs of a router's own graph, as a list.
-use Rattle.mesh_routes.proofs.Common.{◌≡◌, ◌≢◌, ◌⊎◌, inl, inr, ℕ, refl, ap, subst, Some, true, Bool, false, IsTrue, Contains, cases_eq, false≢true, Addr4, NetAddr, Metric, Arc4, Graph, TwoHopKey, TwoHop, RouterKey, RouterTuple, AddressKey, AddressTuple, NetworkKey, NetworkTuple, Base, host, RouteArc, To_neighbour, To_two_hop, By_router, By_address, By_network, State, IsOriginator, router_arc, address_arc, network_arc, IsGraphOf, arc_at, same_address, one_originator, contains_at as at_place, place_in as place_of}
+use Rattle.mesh_routes.proofs.Common.{arith, common_steps, ◌≡◌, ◌≢◌, ◌⊎◌, inl, inr, ℕ, refl, ap, subst, Some, true, Bool, IsTrue, Contains, cases_eq, Addr4, NetAddr, Metric, Arc4, Graph, TwoHopKey, TwoHop, RouterKey, RouterTuple, AddressKey, AddressTuple, NetworkKey, NetworkTuple, Base, host, RouteArc, To_neighbour, To_two_hop, By_router, By_address, By_network, State, IsOriginator, router_arc, address_arc, network_arc, IsGraphOf, arc_at, same_address, one_originator, contains_at as at_place, place_in as place_of}
 use Rattle.mesh_routes.proofs.FirstNodes.{Entry}
 use Rattle.mesh_routes.proofs.Listed.{IsListed, listed_one, listed_where, listed_known, listed_either, listed_each}
 use Rattle.mesh_routes.proofs.OwnGraph.{graph_by}
 
 -- a test holds, or it doesn't
 pub is_or_not : (b : Bool) → (b ≡ true) ⊎ (b ≡ true → ⊥)
-is_or_not true = inl refl
-is_or_not false = inr (λ e. false≢true e)
+is_or_not b = grind (arith, common_steps)
 
 some_or_zero : (n : ℕ) → (n ≢ 0) ⊎ ((n ≢ 0) → ⊥)
 some_or_zero n = elim (cases_eq n 0) [ inl zero ↦ inr (λ some. some zero) | inr some ↦ inl some ]

@@ -1,13 +1,10 @@
 -- The search for the route to a node, and for the longest prefix.
-use Rattle.mesh_routes.proofs.Common.{◌≡◌, ◌≢◌, ℕ, ◌+◌, ◌-◌, ◌*◌, ◌/◌, ◌^◌, ◌<◌, ◌≤◌, inl, inr, refl, sym, ◌∙◌, ap, subst, arith, List, [], ◌∷◌, length, Result, Ok, Err, Option, Some, None, Bor, slice_get, slice_index_or, true, false, Contains, common_steps, IfOk, IfErr, IfSome, IfNone, AllPairs, HoldsAt, is_lt, Ordering, Less, Equal, Greater, cases_Bool, cases_lt, tied_itself, searchable_from_sorted, slice_get_within, slice_get-get_or, get_or_from_slice_get, Addr4, NetAddr, Route, IsBefore, net_cmp, net_total, net_exact, net_less, same_net, Holds, IsLongest, HasNoRouteTo, before_trans, not_before_itself}
-use Rattle.std.specs.Option.{option_copied}
+use Rattle.mesh_routes.proofs.Common.{◌≡◌, ◌≢◌, ℕ, ◌+◌, ◌-◌, ◌*◌, ◌/◌, ◌^◌, ◌<◌, ◌≤◌, inl, inr, sym, ◌∙◌, ap, subst, arith, List, [], ◌∷◌, length, Result, Ok, Err, slice_index_or, true, false, Contains, IfOk, IfErr, common_steps, AllPairs, HoldsAt, is_lt, Ordering, Less, Equal, Greater, cases_Bool, cases_lt, tied_itself, searchable_from_sorted, slice_get_within, slice_get-get_or, get_or_from_slice_get, Addr4, NetAddr, Route, IsBefore, net_cmp, net_total, net_exact, net_less, same_net, Holds, before_trans, not_before_itself}
 use Rattle.std.specs.List.Sorted.{IsSortedBy, IsSearchInRange, IsBinarySearchResult}
 use Rattle.mesh_routes.specs.Hops.NextHop.{IsPlaceOf, IsLongestAt}
 
 pub is_less : (o : Ordering) → is_lt o ≡ true → o ≡ Less
-is_less Less e = refl
-is_less Equal e = absurd (cc)
-is_less Greater e = absurd (cc)
+is_less o e = grind (arith, common_steps)
 
 -- what stands before is not less
 pub not_less : (a b : NetAddr) → IsBefore a b → is_lt (net_cmp b a) ≡ false
@@ -79,9 +76,3 @@ longest_at routes a less of k low prefix cleared (r, at, is) before =
     let number : r.dest.addr.0 ≡ a.0 / 2 ^ (32 - (32 - less)) * 2 ^ (32 - (32 - less)) = ap (λ (n : NetAddr). n.addr.0) is ∙ cleared in
     let holds : Holds r.dest a = subst (λ (n : ℕ). a.0 / 2 ^ (32 - n) * 2 ^ (32 - n) ≡ r.dest.addr.0) (sym mine) (sym number) in
     (r, at, record { stands = (k, slice_get_within routes k r at, get_or_from_slice_get routes k r r at); holds = holds; longest = λ t has holds_t. omega (arith, before t has holds_t) })
-
--- what is got at the place
-pub got : (o : Option (Bor Route)) (of inside routes : List Route) (a : Addr4) (k : ℕ) → option_copied o ≡ slice_get inside k → of ≡ routes → inside ≡ routes → IsLongestAt of a k →
-    IfSome o (λ r. IsLongest routes a r.now) × IfNone o (HasNoRouteTo routes a)
-got None of inside routes a k at same is_inside (r, there, longest) = grind (arith, common_steps, slice_get)
-got (Some x) of inside routes a k at same is_inside (r, there, longest) = grind (arith, common_steps, slice_get)

@@ -1,5 +1,5 @@
 -- The order of ways, and what a range of ways begins with.
-use Rattle.mesh_routes.proofs.Common.{◌≡◌, ◌≢◌, ℕ, ◌<◌, ◌≤◌, ◌⊎◌, inl, inr, refl, sym, ◌∙◌, ap, subst, arith, true, false, List, [], ◌∷◌, Contains, common_steps, nat_cmp, ordering_then, is_gt, Ordering, Less, Equal, Greater, IsTotalOrder, BTreeSet, then_total, on_total, nat_cmp_total, ranked, CmpEqualImpliesEq, exact_unsigned, btree_set_contains_iff, Addr4, then_equal, NeighbourLink, way_cmp, IsNoWorse, IsBestLink, IsCutOff, same_addr}
+use Rattle.mesh_routes.proofs.Common.{◌≡◌, ◌≢◌, ℕ, ◌<◌, ◌≤◌, ◌⊎◌, inl, inr, sym, ◌∙◌, ap, subst, arith, true, false, List, [], ◌∷◌, Contains, common_steps, nat_cmp, ordering_then, is_gt, Ordering, Less, Equal, IsTotalOrder, BTreeSet, then_total, on_total, nat_cmp_total, ranked, CmpEqualImpliesEq, exact_unsigned, btree_set_contains_iff, Addr4, then_equal, NeighbourLink, way_cmp, IsNoWorse, IsBestLink, IsCutOff, same_addr}
 use Rattle.std.specs.declared.ops.Bound.TheVariants.{Included, Unbounded}
 use Rattle.std.specs.BTreeSet as sorted
 
@@ -11,18 +11,14 @@ pub way_exact : CmpEqualImpliesEq way_cmp
 way_exact a b e = grind (arith, common_steps, then_equal, same_addr, exact_unsigned)
 
 then_upto : (o p : Ordering) → is_gt (ordering_then o p) ≡ false → (o ≡ Less) ⊎ ((o ≡ Equal) × (is_gt p ≡ false))
-then_upto Less p e = inl refl
-then_upto Equal p e = inr (refl, e)
-then_upto Greater p e = absurd (cc)
+then_upto o p e = grind (arith, common_steps)
 
 -- of two numbers that are compared first, the one is less, or they are the same and what is compared next decides
 number_upto : (a b : ℕ) (p : Ordering) → is_gt (ordering_then (nat_cmp a b) p) ≡ false → (a < b) ⊎ ((a ≡ b) × (is_gt p ≡ false))
 number_upto a b p e = grind (arith, common_steps, then_upto, ranked)
 
 last_upto : (a b : ℕ) (o : Ordering) → o ≡ nat_cmp a b → is_gt o ≡ false → a ≤ b
-last_upto a b Less e f = let l : a < b = ranked a b Less e in omega arith
-last_upto a b Equal e f = let l : a ≡ b = ranked a b Equal e in omega arith
-last_upto a b Greater e f = absurd (cc)
+last_upto a b o e f = grind (arith, common_steps, ranked)
 
 -- which of two ways in order is the better
 upto_originator : (a b : NeighbourLink) → is_gt (way_cmp a b) ≡ false → a.originator.0 ≤ b.originator.0
@@ -32,14 +28,10 @@ upto_no_worse : (a b : NeighbourLink) → a.originator ≡ b.originator → is_g
 upto_no_worse a b same e = grind (arith, common_steps, number_upto, last_upto)
 
 number_then : (a b : ℕ) (o p : Ordering) → o ≡ nat_cmp a b → a ≤ b → is_gt p ≡ false → is_gt (ordering_then o p) ≡ false
-number_then a b Less p e l f = refl
-number_then a b Equal p e l f = f
-number_then a b Greater p e l f = let m : b < a = ranked a b Greater e in absurd (omega arith)
+number_then a b o p e l f = grind (arith, common_steps, ranked)
 
 last_then : (a b : ℕ) (o : Ordering) → o ≡ nat_cmp a b → a ≤ b → is_gt o ≡ false
-last_then a b Less e l = refl
-last_then a b Equal e l = refl
-last_then a b Greater e l = let m : b < a = ranked a b Greater e in absurd (omega arith)
+last_then a b o e l = grind (arith, common_steps, ranked)
 
 -- the way to a neighbour whose numbers are 0 is no greater than another to it
 least_upto : (a b : NeighbourLink) → a.originator ≡ b.originator → a.metric ≡ 0 → a.iface ≡ 0 → a.next.0 ≡ 0 → is_gt (way_cmp a b) ≡ false
