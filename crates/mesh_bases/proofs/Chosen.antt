@@ -1,6 +1,5 @@
 -- Relays that are chosen from a graph.
-use Rattle.mesh_bases.proofs.Common.{List, Result, Ok, Err, IfOk, Addr4, NeighbourGraph, AreRelaysOf, Covers, Needed, IsAscending}
+use Rattle.mesh_bases.proofs.Common.{arith, common_steps, List, Result, IfOk, Addr4, NeighbourGraph, AreRelaysOf, Covers, Needed, IsAscending}
 
 pub chosen : {E : Type 0} (graph : NeighbourGraph) (r : Result (List Addr4) E) → IfOk r (Covers graph) → IfOk r (Needed graph) → IfOk r IsAscending → IfOk r (AreRelaysOf graph)
-chosen graph (Ok relays) covers needed order = record { covers = covers; needed = needed; ascending = order }
-chosen graph (Err e) covers needed order = tt
+chosen graph r covers needed order = grind (arith, common_steps)

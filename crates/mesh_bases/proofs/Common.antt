@@ -2,11 +2,10 @@
 pub use Rattle.mesh_atoms.proofs.Lists.{all_pairs_tail, contains_cases, contains_filter, contains_filter_cases, contains_flat_map, contains_flat_map_cases, contains_head, contains_none, contains_tail, get_pushed, length_pushed, none_within}
 pub use Rattle.mesh_atoms.proofs.Options.{if_ok_weaker, same_some, some_equal}
 pub use Rattle.mesh_atoms.proofs.Values.{same_addr, same_address}
-pub use Rattle.mesh_atoms.specs.Advertised.{AreParts, AreRowsBy, AreTcRows, GivesAsSelector, IsTcRow, Of_address, Of_network}
-pub use Rattle.mesh_atoms.specs.Base.{Base, HasDistinctKeys, addr_eq, address_eq, base_of, network_eq, router_eq}
+pub use Rattle.mesh_atoms.specs.Advertised.{AreRowsBy, AreTcRows, GivesAsSelector, IsTcRow}
+pub use Rattle.mesh_atoms.specs.Base.{Base, HasDistinctKeys, addr_eq, base_of}
 pub use Rattle.mesh_atoms.specs.Hello.{IsHelloNow, IsRoundedUp}
 pub use Rattle.mesh_atoms.specs.Live.{HasTables, Live}
-pub use Rattle.mesh_atoms.specs.Nodes.{IsBefore}
 pub use Rattle.mesh_atoms.specs.RelayGraphs.{AreRelays, AreRelaysOf, IsFloodingGraph, IsMetricOver, IsRoutingGraph}
 pub use Rattle.mesh_atoms.specs.Relays.{Covers, HasDistinctIds, HasSameDistance, IsAsCheap, IsMissed, IsOtherRelay, IsRelay, IsWilling, Needed, Offers}
 pub use Rattle.mesh_atoms.specs.Sound.{SoundNeighbourhood, SoundTopology}
@@ -27,10 +26,9 @@ pub use Rattle.mesh_atoms.specs.declared.tuples.Link.{Link}
 pub use Rattle.mesh_atoms.specs.declared.tuples.LinkKey.{LinkKey}
 pub use Rattle.mesh_atoms.specs.declared.tuples.Neighbour.{Neighbour}
 pub use Rattle.mesh_atoms.specs.declared.tuples.Relays.{Relays}
-pub use Rattle.mesh_bases.specs.Held.Held.{Held}
 pub use Rattle.mesh_bases.specs.Held.Reading.{Passed_by, ReadsTc, Taken_in}
 pub use Rattle.mesh_bases.specs.Held.Taking.{kept_fates}
-pub use Rattle.mesh_bases.specs.Reading.Content.{AreReadAs, IsContentOf}
+pub use Rattle.mesh_bases.specs.Reading.Content.{AreReadAs}
 pub use Rattle.mesh_bases.specs.Reading.Message.{Hello_breaks, IsReadAs, IsReadAsBroken, Tc_breaks}
 pub use Rattle.mesh_bases.specs.Selecting.{IsSelectorBy, selector_metric}
 pub use Rattle.mesh_bases.specs.Sending.Sent.{HasRowsOf}
@@ -48,8 +46,7 @@ pub use Rattle.mesh_machine.specs.declared.arrival.Arrival.{Arrival}
 pub use Rattle.mesh_machine.specs.declared.fate.Fate.{Fate}
 pub use Rattle.mesh_machine.specs.declared.frame.Frame.{Frame}
 pub use Rattle.mesh_nbrs.specs.Same.{SameNear, way_at}
-pub use Rattle.mesh_nhdp.specs.Staying.{AllIsAsItWas}
-pub use Rattle.mesh_packet.specs.Fields.{MessageFields, fields_of_message, fields_of_packet}
+pub use Rattle.mesh_packet.specs.Fields.{MessageFields, fields_of_message}
 pub use Rattle.mesh_packet.specs.Grammar.{Spells, SpellsMessage}
 pub use Rattle.mesh_packet.specs.declared.packet.Span.{Span}
 pub use Rattle.mesh_routes.proofs.Listed.{IsListed, listed_by, listed_either, listed_one}
@@ -63,10 +60,10 @@ pub use Rattle.mesh_topo.specs.Same.{SameAdvertised}
 pub use Rattle.mesh_topo.specs.declared.advertised.rows.Selector.{Selector}
 pub use Rattle.mesh_topo.specs.declared.advertised.spans.PartSpan.{PartSpan}
 pub use Rattle.mesh_wire.specs.TcRules.{AddressWidth, BreaksTc, ShortPrefix}
-pub use Rattle.std.proofs.Common.{Bool, Contains, Err, IfOk, IsTrue, List, None, Ok, Option, Result, Some, [], ap, arith, cond, drop, false, filter, get_or, inl, inr, length, map, min, nat_eq, not, option_map, refl, replicate, slice_get, slice_index, slice_range, subst, suc, sym, take, true, zero, ℕ, ◌%◌, ◌&&◌, ◌*◌, ◌++◌, ◌+◌, ◌-◌, ◌<◌, ◌↔◌, ◌∙◌, ◌∷◌, ◌≡◌, ◌≢◌, ◌≤◌, ◌⊎◌}
-pub use Rattle.std.proofs.lemmas.Bool.{cases_Bool, cases_eq, cases_lt, false≢true}
-pub use Rattle.std.proofs.lemmas.List.{append-nil, append_assoc, drop_more, get_or-drop, get_or-map, get_or-take, length-drop, length-map, length-take-le, length_push, take-append-drop, take_all}
+pub use Rattle.std.proofs.Common.{Bool, Contains, IfOk, IsTrue, List, None, Option, Result, Some, [], ap, arith, cond, drop, false, filter, get_or, inl, inr, length, map, nat_eq, not, option_map, refl, replicate, slice_get, slice_index, slice_range, subst, suc, sym, take, true, zero, ℕ, ◌%◌, ◌&&◌, ◌++◌, ◌+◌, ◌-◌, ◌<◌, ◌↔◌, ◌∙◌, ◌∷◌, ◌≡◌, ◌≢◌, ◌≤◌, ◌⊎◌}
+pub use Rattle.std.proofs.lemmas.Bool.{cases_Bool, cases_eq, cases_lt}
+pub use Rattle.std.proofs.lemmas.Grind.{common_steps}
+pub use Rattle.std.proofs.lemmas.List.{append-nil, append_assoc, drop_more, get_or-map, length-map, length_push, take_all}
 pub use Rattle.std.proofs.lemmas.List.Elements.{Contains-append_left, Contains-append_right, Contains-get_or}
 pub use Rattle.std.proofs.lemmas.List.Kept.{AllPairs-cons, AllPairs-filter}
 pub use Rattle.std.proofs.lemmas.Option.{none-some, slice_get-get_or, slice_get-map, slice_get_within}
-pub use Rattle.std.specs.List.{AllPairs, flat_map}

@@ -1,14 +1,12 @@
 -- The neighbours that have chosen a router as a routing relay.
-use Rattle.mesh_bases.proofs.Common.{◌≡◌, ◌<◌, ℕ, inl, inr, refl, sym, ap, subst, arith, ◌∙◌, Bool, true, false, cond, List, [], Option, Some, None, ◌&&◌, Addr4, Metric, Neighbour, Base, State, Selector, HasSelector, IsSelectorOf, AreSelectors, Adds, GivenByElement, adds_start, adds_all, selector_metric, IsSelectorBy}
+use Rattle.mesh_bases.proofs.Common.{common_steps, ◌≡◌, ◌<◌, ℕ, inl, inr, refl, sym, ap, subst, arith, ◌∙◌, Bool, true, cond, List, [], Option, Some, None, ◌&&◌, Addr4, Metric, Neighbour, Base, State, Selector, HasSelector, IsSelectorOf, AreSelectors, Adds, GivenByElement, adds_start, adds_all, selector_metric, IsSelectorBy}
 use Rattle.mesh_routes.proofs.Choosing.{adds_same}
 
 abbrev metric_if : Bool → Bool → Option Metric → Option Metric
 metric_if a b o = cond (a && b) o None
 
 says : (a b : Bool) (o : Option Metric) (m : Metric) → metric_if a b o ≡ Some m → (a ≡ true) × (b ≡ true) × (o ≡ Some m)
-says true true o m h = (refl, refl, h)
-says true false o m h = absurd cc
-says false b o m h = absurd cc
+says a b o m h = grind (arith, common_steps)
 
 said : (a b : Bool) (o : Option Metric) (m : Metric) → a ≡ true → b ≡ true → o ≡ Some m → metric_if a b o ≡ Some m
 said a b o m p q r = rw (p, q) r
@@ -36,11 +34,8 @@ are s selectors adds = record {
 
 pub selectors_are : (s : State) (neighbours : Base Addr4 Neighbour) (selectors : List Selector) → s.bases.neighbourhood.neighbours ≡ neighbours →
     Adds (GivenByElement (λ (e : Addr4 × (Neighbour × ℕ)). IsSelectorBy e.0 e.1.0) neighbours) [] selectors → AreSelectors s selectors
-selectors_are s neighbours selectors same adds =
-    are s selectors (subst (λ (ns : Base Addr4 Neighbour). Adds (GivenByElement (λ (e : Addr4 × (Neighbour × ℕ)). IsSelectorBy e.0 e.1.0) ns) [] selectors) (sym same) adds)
+selectors_are s neighbours selectors same adds = grind (arith, common_steps, are)
 
 -- without neighbours there is none
 pub no_selectors : (s : State) → s.bases.neighbourhood.neighbours ≡ [] → AreSelectors s []
-no_selectors s none =
-    selectors_are s [] [] none
-    (adds_all (λ (e : Addr4 × (Neighbour × ℕ)). IsSelectorBy e.0 e.1.0) [] 0 [] [] (omega arith) (adds_start (λ (e : Addr4 × (Neighbour × ℕ)). IsSelectorBy e.0 e.1.0) [] []))
+no_selectors s none = grind (arith, common_steps, selectors_are, adds_all, adds_start)

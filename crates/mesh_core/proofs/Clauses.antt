@@ -1,5 +1,5 @@
 -- What the clauses of an event say of a core to which all is kept, put together.
-use Rattle.mesh_core.proofs.Common.{◌≡◌, ◌<◌, ◌≤◌, ◌++◌, ℕ, List, Result, Ok, Err, Bool, true, sym, subst, ap, ◌∙◌, All, IfOk, OnOk, OnErr, Route, Relays, Sound, State, Arrival, Heard, Frame, sent_since, Hear, Tick, Step, Heard_frame, Ticked, Hears, TicksAt, due, IsSendable, since_same, step_sound, EventWants, Outdated, IsKeptFor, KeepsWanted, HearsAndKeeps, HearsTo, TicksTo, kept_answer, CoreValue}
+use Rattle.mesh_core.proofs.Common.{arith, common_steps, ◌≡◌, ◌<◌, ◌≤◌, ◌++◌, ℕ, List, Result, Ok, Err, Bool, true, subst, All, IfOk, OnOk, OnErr, Sound, State, Arrival, Heard, Frame, sent_since, Hear, Tick, Step, Heard_frame, Ticked, Hears, TicksAt, due, IsSendable, since_same, step_sound, EventWants, Outdated, IsKeptFor, KeepsWanted, HearsAndKeeps, HearsTo, TicksTo, kept_answer, CoreValue}
 use Rattle.mesh_machine.specs.declared.fate.Heard.TheVariants as heard
 
 -- a core has heard a frame, or met an allocation failure
@@ -25,19 +25,14 @@ pub record TickClauses {A E : Type 0} (came : Result A E) (old : State) (now : �
 
 -- where fates are wanted, all of an answer is kept
 all_of_kept : (kept answer : Heard) → kept ≡ kept_answer true answer → kept ≡ answer
-all_of_kept kept (heard.Refused refusal) is = is
-all_of_kept kept (heard.Taken fates) is = is
+all_of_kept kept answer is = grind (arith, common_steps)
 
 pub whole_answer : {E : Type 0} (came : Result Heard E) (P : Heard → Type 0) → IfOk came (λ kept. (answer : Heard) × (kept ≡ kept_answer true answer) × P answer) → IfOk came P
-whole_answer (Ok kept) P (answer, is, holds) = subst P (sym (all_of_kept kept answer is)) holds
-whole_answer (Err e) P holds = tt
+whole_answer came P h2 = grind (arith, common_steps, all_of_kept)
 
 -- where both are wanted, all is kept
 pub all_kept : (wants : EventWants) (whole rest : State) → wants.relays ≡ true → wants.routes ≡ true → IsKeptFor wants whole rest → whole ≡ rest
-all_kept wants whole rest relays routes kept =
-    let with_relays : Relays → State = λ r. record rest { relays = r; routes = whole.routes } in
-    let with_routes : List Route → State = λ r. record rest { routes = r } in
-    kept.same ∙ (ap with_relays (kept.relays relays) ∙ ap with_routes (kept.routes routes))
+all_kept wants whole rest relays routes kept = grind (arith, common_steps)
 
 pub keeps_all : (LeadsTo : State → Type 0) (wants : EventWants) (outdated : Outdated) (new : State) → wants.relays ≡ true → wants.routes ≡ true → KeepsWanted LeadsTo wants outdated new → LeadsTo new
 keeps_all LeadsTo wants outdated new relays routes keeps = subst LeadsTo (all_kept wants keeps.whole new relays routes keeps.rest) keeps.leads
@@ -60,8 +55,7 @@ module _ {E : Type 0} (wants : EventWants) (arrival : Arrival) (bytes : List ℕ
         due = to.due;
         sound = step_sound old (Hear arrival bytes) (sent_since before after) new sound step;
       }
-  hears_here (Err e) relays routes old sound wanting to =
-      record { step = tt; answer = tt; appended = since_same before after wanting; sendable = tt; settings = tt; last = tt; due = tt; sound = tt }
+  hears_here (Err e) relays routes old sound wanting to = grind (arith, common_steps, since_same)
 
   pub hear_clauses : {shown core : CoreValue} (came : Result Heard E) → wants.relays ≡ true → wants.routes ≡ true → shown ≡ core → Sound shown.state → OnErr came (after ≡ before) →
       IfOk came (λ kept. HearsAndKeeps wants shown.state arrival bytes kept before after outdated new) → HearClauses came wants.fates core.state arrival bytes before after new

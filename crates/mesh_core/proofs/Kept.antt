@@ -1,6 +1,6 @@
 -- What is kept of a router, and its steps: a step looks at no relays and routes of the state before it, so that what happens to what is kept of a
 -- router happens to it too.
-use Rattle.mesh_core.proofs.Common.{◌≡◌, ℕ, ◌∙◌, List, refl, sym, ap, subst, arith, State, Bases, Relays, Route, Arrival, Fate, Frame, Event, Step, Heard_frame, Ticked, HearsPacket, TicksAt, due, Renews, IsKeptOf}
+use Rattle.mesh_core.proofs.Common.{common_steps, ◌≡◌, ℕ, List, refl, sym, ap, subst, arith, State, Bases, Relays, Route, Arrival, Fate, Frame, Event, Step, Heard_frame, Ticked, HearsPacket, TicksAt, due, Renews, IsKeptOf}
 use Rattle.mesh_machine.specs.declared.fate.Heard.TheVariants as heard
 use Rattle.mesh_machine.specs.Sending.{SendsHellos, Hellos_early, Hellos_due, SendsTcs, Tcs_early, Tcs_silent, Tcs_due}
 
@@ -10,12 +10,7 @@ kept_whole until s = record { same = refl; from_then = λ late. refl }
 
 -- what is kept of what is kept of a router
 pub kept_through : (until : ℕ) (whole mid rest : State) → IsKeptOf until whole mid → IsKeptOf until mid rest → IsKeptOf until whole rest
-kept_through until whole mid rest first second = record {
-  same = first.same ∙ ap (λ (s : State). record s { relays = whole.relays; routes = whole.routes }) second.same;
-  from_then = λ late.
-      let last : mid.last ≡ rest.last = ap (λ (s : State). s.last) second.same in
-      first.from_then (omega (arith, last, late)) ∙ second.from_then late;
-}
+kept_through until whole mid rest first second = grind (arith, common_steps)
 
 -- the due moment is kept
 pub kept_due : (until : ℕ) (whole rest : State) → IsKeptOf until whole rest → due whole ≡ due rest
@@ -27,34 +22,10 @@ module _ (rest : State) (relays : Relays) (routes : List Route) where
   whole = record rest { relays = relays; routes = routes }
 
   renews_from : (now : ℕ) (bases : Bases) (new : State) → Renews rest now bases new → Renews whole now bases new
-  renews_from now bases new h = record {
-    settings = h.settings;
-    bases_are = h.bases_are;
-    last = h.last;
-    relays = h.relays;
-    rows = h.rows;
-    ansn = h.ansn;
-    emptied = h.emptied;
-    self = h.self;
-    routes = h.routes;
-  }
+  renews_from now bases new h = grind (arith, common_steps)
 
   hears_from : (arrival : Arrival) (bytes : List ℕ) (fates : List Fate) (sent : List Frame) (new : State) → HearsPacket rest arrival bytes fates sent new → HearsPacket whole arrival bytes fates sent new
-  hears_from arrival bytes fates sent new h = record {
-    packet = h.packet;
-    spans = h.spans;
-    spelled = h.spelled;
-    own = h.own;
-    is_own = h.is_own;
-    live = h.live;
-    is_live = h.is_live;
-    bases = h.bases;
-    takes = h.takes;
-    renews = renews_from arrival.now h.bases new h.renews;
-    sequence = h.sequence;
-    next_hello = h.next_hello;
-    next_tc = h.next_tc;
-  }
+  hears_from arrival bytes fates sent new h = grind (arith, common_steps, renews_from)
 
   hellos_from : (new : State) (sent : List Frame) → SendsHellos rest new sent → SendsHellos whole new sent
   hellos_from new sent (Hellos_early early next) = Hellos_early early next
@@ -66,16 +37,7 @@ module _ (rest : State) (relays : Relays) (routes : List Route) where
   tcs_from new sent (Tcs_due late next has parts are validity is sequence sends) = Tcs_due late next has parts are validity is sequence sends
 
   ticks_from : (now : ℕ) (sent : List Frame) (new : State) → TicksAt rest now sent new → TicksAt whole now sent new
-  ticks_from now sent new h = record {
-    live = h.live;
-    is_live = h.is_live;
-    renews = renews_from now h.live new h.renews;
-    hellos = h.hellos;
-    sends_hellos = hellos_from new h.hellos h.sends_hellos;
-    tcs = h.tcs;
-    sends_tcs = tcs_from new h.tcs h.sends_tcs;
-    sends = h.sends;
-  }
+  ticks_from now sent new h = grind (arith, common_steps, renews_from, hellos_from, tcs_from)
 
 -- a step from what is kept of a router is one from the router: what is kept of the state to which the one leads is kept of the other's
 pub step_from : (until : ℕ) (whole rest : State) (event : Event) (sent : List Frame) (mid new : State) → IsKeptOf until whole rest → Step rest event sent mid → IsKeptOf until mid new →

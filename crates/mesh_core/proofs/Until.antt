@@ -1,5 +1,5 @@
 -- What the clauses of an event say of a router that may put off relays and routes, put together.
-use Rattle.mesh_core.proofs.Common.{◌≡◌, ◌<◌, ◌≤◌, ℕ, List, [], Result, Ok, Err, true, subst, arith, All, OnOk, Sound, State, Arrival, Heard, Frame, Hear, Tick, Step, Heard_frame, Ticked, due, IsSendable, step_sound, EventWants, Outdated, IsKeptOf, IsSoundButForDerived, IsCurrent, IsKeptFor, HearsTo, TicksTo, CoreValue}
+use Rattle.mesh_core.proofs.Common.{common_steps, ◌≡◌, ◌<◌, ◌≤◌, ℕ, List, [], Result, Ok, Err, true, subst, arith, All, OnOk, Sound, State, Arrival, Heard, Frame, Hear, Tick, Step, Heard_frame, Ticked, due, IsSendable, step_sound, EventWants, Outdated, IsKeptOf, IsSoundButForDerived, IsCurrent, IsKeptFor, HearsTo, TicksTo, CoreValue}
 use Rattle.mesh_core.proofs.Clauses.{all_kept}
 
 -- a router has heard a frame, or met an allocation failure
@@ -14,11 +14,7 @@ pub record HearUntil {A E : Type 0} (came : Result A E) (until : ℕ) (old : Sta
 
 -- a router that puts nothing off stays sound
 pub sound_whole : {A E : Type 0} (old : State) (arrival : Arrival) (bytes : List ℕ) (sent : List Frame) (outdated : Outdated) (new : State) (came : Result A E) → Sound old → HearUntil came 0 old arrival bytes sent outdated new → OnOk came (Sound new)
-sound_whole old arrival bytes sent outdated new (Ok kept) sound heard =
-    let (whole, step, kept) = heard.step in
-    let then : 0 ≤ new.last = omega arith in
-    step_sound old (Hear arrival bytes) sent new sound (subst (λ (s : State). Step old (Hear arrival bytes) sent s) (kept.from_then then) step)
-sound_whole old arrival bytes sent outdated new (Err e) sound heard = tt
+sound_whole old arrival bytes sent outdated new came sound heard = grind (arith, common_steps, step_sound)
 
 -- its clock has ticked, or it met an allocation failure
 pub record TickUntil {A E : Type 0} (came : Result A E) (until : ℕ) (old : State) (now : ℕ) (sent : List Frame) (outdated : Outdated) (new : State) : Type 0 where
@@ -31,10 +27,7 @@ pub record TickUntil {A E : Type 0} (came : Result A E) (until : ℕ) (old : Sta
 
 module _ (wants : EventWants) (until now : ℕ) (relays : until ≤ now → wants.relays ≡ true) (routes : until ≤ now → wants.routes ≡ true) where
   kept_until : (whole new : State) → new.last ≤ now → IsKeptFor wants whole new → IsKeptOf until whole new
-  kept_until whole new before kept = record {
-    same = kept.same;
-    from_then = λ late. let then : until ≤ now = omega (arith, late, before) in all_kept wants whole new (relays then) (routes then) kept;
-  }
+  kept_until whole new before kept = grind (arith, common_steps, all_kept)
 
 module _ {A E : Type 0} (wants : EventWants) (until : ℕ) (arrival : Arrival) (bytes : List ℕ) (outdated : Outdated) (new : State)
     (relays : until ≤ arrival.now → wants.relays ≡ true) (routes : until ≤ arrival.now → wants.routes ≡ true) where

@@ -1,5 +1,5 @@
 -- How many tuples a TC's rows give at most.
-use Rattle.mesh_machine.proofs.Common.{◌≡◌, ℕ, ◌+◌, ◌≤◌, arith, Bool, true, false, cond, List, [], ◌∷◌, ◌++◌, length, Option, Some, None, refl, sym, ap, ◌&&◌, ◌⊎◌, inl, inr, slice_get, zero, suc, common_steps, is_some, count_by, IsEquivalence, ltb-false, and_from as both, none-some, length-append, Addr4, Tc, TcRow, Metric, Advertisers, Routers, Addresses, Networks, Becomes, Given, Left, BecomesSet, AfterTc, is_overfull, first_overfull, GivesRouter, GivesAddress, GivesNetwork, Base, find, addr_eq, router_eq, address_eq, network_eq, TopologyBase, addr_equiv, net_equiv, router_equiv, address_equiv, network_equiv, AreFew, no_more, found_left, found_right, net_eq, NetAddr, place_of}
+use Rattle.mesh_machine.proofs.Common.{◌≡◌, ℕ, ◌+◌, ◌≤◌, arith, Bool, true, false, cond, List, [], ◌∷◌, ◌++◌, length, Option, Some, None, refl, sym, ap, ◌&&◌, ◌⊎◌, inl, inr, slice_get, zero, suc, is_some, count_by, common_steps, IsEquivalence, ltb-false, and_from as both, none-some, length-append, Addr4, Tc, TcRow, Metric, Advertisers, Routers, Addresses, Networks, Becomes, BecomesSet, AfterTc, is_overfull, first_overfull, GivesRouter, GivesAddress, GivesNetwork, Base, find, addr_eq, router_eq, address_eq, network_eq, net_eq, TopologyBase, addr_equiv, net_equiv, router_equiv, address_equiv, network_equiv, AreFew, no_more, found_left, found_right, NetAddr, place_of}
 use Rattle.std.proofs.lemmas.List.Sums.{sum_by-cons}
 use Rattle.mesh_machine.proofs.Tables.{one_more}
 use Rattle.mesh_atoms.specs.declared.tuples.RouterKey.{RouterKey}
@@ -37,8 +37,7 @@ entry_found {K} {V} eq laws test key value (first ∷ rows) (suc k) row q at pas
 -- a tuple after a TC is given by a row, or stood
 becomes_was : {K V : Type 0} (tc : Tc) (until : ℕ) (from : K → Addr4) (number : V → ℕ) (G : K → V → Type 0) (key : K) (old new : Option (V × ℕ)) (e : V × ℕ) →
     Becomes tc until from number G key old new → new ≡ Some e → ((value : V) × G key value) ⊎ (old ≡ Some e)
-becomes_was tc until from number G key old new e (Given value given is) at = inl (value, given)
-becomes_was {K} {V} tc until from number G key old new e (Left none is) at = grind (arith, common_steps)
+becomes_was tc until from number G key old new e h9 at = grind (arith, common_steps)
 
 -- the rows that pass the test give all that is given, so the set grows by their number at most
 set_within : {K V : Type 0} (eq : K → K → Bool) → IsEquivalence eq → (tc : Tc) (until : ℕ) (from : K → Addr4) (number : V → ℕ) (G : K → V → Type 0) (test : TcRow → Bool) (key : TcRow → K) (old new : Base K V) →

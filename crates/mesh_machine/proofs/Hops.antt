@@ -1,5 +1,5 @@
 -- A message that is forwarded has a hop left.
-use Rattle.mesh_machine.proofs.Common.{◌≡◌, ◌≢◌, ◌<◌, ℕ, List, [], ◌∷◌, ◌++◌, length, Option, Some, None, Bool, true, false, cond, not, refl, subst, sym, ap, ◌∙◌, arith, append_assoc, slice_index, leb-false, eqb-false, or_parts as neither, get_or-append_seam, Addr4, FloodKey, Noted, Received, Forwarded, Base, addr_eq, find, flood_eq, MessageFields, SpellsMessage, SpellsOctet, HasHop, Heading, Forward, key_of, if_noted, if_linked, is_full, is_last, is_far, has_no_hops, forward_by, IsHeading}
+use Rattle.mesh_machine.proofs.Common.{common_steps, ◌≡◌, ◌≢◌, ◌<◌, ℕ, List, [], ◌∷◌, ◌++◌, length, Option, Some, None, Bool, false, cond, not, refl, sym, ap, ◌∙◌, arith, append_assoc, slice_index, leb-false, or_parts as neither, get_or-append_seam, Addr4, FloodKey, Noted, Received, Forwarded, Base, MessageFields, SpellsMessage, SpellsOctet, HasHop, Heading, Forward, key_of, if_noted, if_linked, is_last, is_far, has_no_hops, forward_by, IsHeading}
 use Rattle.mesh_atoms.specs.Reading.{has}
 use Rattle.mesh_flood.specs.declared.verdict.Forward.TheVariants as forward
 
@@ -11,20 +11,14 @@ forward_when own link far seen full_received stands full_forwarded =
 
 does : (own : Bool) (link : Option Bool) (far : Bool) (seen : Option (Noted × ℕ)) (full : Bool) (stands : Option (Noted × ℕ)) (full' : Bool)
     → forward_when own link far seen full stands full' ≡ forward.Do → far ≡ false
-does true link far seen full stands full' h = absurd cc
-does false None far seen full stands full' h = absurd cc
-does false (Some s) true seen full stands full' h = absurd cc
-does false (Some s) false seen full stands full' h = refl
+does own link far seen full stands full' h = grind (arith, common_steps)
 
 above_one : (o : Option ℕ) → is_last o ≡ false → (limit : ℕ) × (o ≡ Some limit) × (1 < limit)
 above_one None h = absurd cc
 above_one (Some limit) h = (limit, refl, let l = leb-false limit 1 h in omega (arith, l))
 
 octet_text : (set : Bool) (x : Option ℕ) (text : List ℕ) (n : ℕ) → SpellsOctet set x text → x ≡ Some n → text ≡ n ∷ []
-octet_text true (Some m) text n h is = let same : m ≡ n = cc in h ∙ ap (λ (k : ℕ). k ∷ []) same
-octet_text true None text n h is = absurd h
-octet_text false None text n h is = absurd cc
-octet_text false (Some m) text n h is = absurd h
+octet_text set x text n h is = grind (arith, common_steps)
 
 glued : (kind flags c : ℕ) (size originator limit sequence rest : List ℕ)
     → kind ∷ (flags ∷ (size ++ ((originator ++ (limit ++ ((c ∷ []) ++ sequence))) ++ rest))) ≡ (kind ∷ (flags ∷ (size ++ (originator ++ limit)))) ++ (c ∷ (sequence ++ rest))
@@ -47,13 +41,11 @@ count_octet message s h bytes count is =
     omega (arith, here, below)
 
 not_far : (o : Option ℕ) (n : ℕ) → is_far o ≡ false → o ≡ Some n → n ≢ 255
-not_far None n far is = absurd cc
-not_far (Some m) n far is = let same : m ≡ n = cc in subst (λ (k : ℕ). k ≢ 255) same (eqb-false m 255 far)
+not_far o n far is = grind (arith, common_steps)
 
 -- what is forwarded has hops left
 hops_left : (own : Addr4) (heading : Heading) (link : Option Bool) (received forwarded : Base FloodKey Noted) → forward_by own heading link received forwarded ≡ forward.Do → has_no_hops heading ≡ false
-hops_left own heading link received forwarded forwards =
-    does (addr_eq heading.originator own) link (has_no_hops heading) (find flood_eq received (key_of heading)) (is_full received) (find flood_eq forwarded (key_of heading)) (is_full forwarded) forwards
+hops_left own heading link received forwarded forwards = grind (arith, common_steps, does, key_of)
 
 -- so it has a hop limit above 1
 pub limit_left : (own : Addr4) (heading : Heading) (link : Option Bool) (received forwarded : Base FloodKey Noted) → forward_by own heading link received forwarded ≡ forward.Do → (limit : ℕ) × (heading.limit ≡ Some limit) × (1 < limit)

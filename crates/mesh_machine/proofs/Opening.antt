@@ -1,9 +1,9 @@
 -- The opening state of a router is sound.
-use Rattle.mesh_machine.proofs.Common.{◌≡◌, ℕ, zero, suc, refl, sym, ◌∙◌, ap, subst, arith, List, [], ◌∷◌, length, replicate, Contains, Some, Bool, common_steps, slice_get, length-replicate, none-some, Addr4, NetAddr, RouterSettings, Neighbour, Base, Has, base_of, host, Sound, SoundNeighbourhood, SoundTopology, SoundNoted, IsWithin, State, Bases, Frame, no_bases, no_relays, IsOpening, Event, Steps, No_events, First_event, Run, contains_at}
+use Rattle.mesh_machine.proofs.Common.{◌≡◌, ℕ, zero, suc, refl, sym, ◌∙◌, ap, subst, arith, List, [], ◌∷◌, length, replicate, Contains, Some, Bool, slice_get, common_steps, length-replicate, none-some, Addr4, NetAddr, RouterSettings, Neighbour, Base, Has, base_of, host, Sound, SoundNeighbourhood, SoundTopology, SoundNoted, IsWithin, State, Bases, Frame, no_bases, no_relays, IsOpening, Event, Steps, No_events, First_event, Run, contains_at}
 use Rattle.std.specs.List.{IsDistinct}
 use Rattle.mesh_atoms.specs.RelayGraphs.{AreRelays, AreRelaysOf, IsFloodingGraph, IsRoutingGraph}
-use Rattle.mesh_atoms.specs.Routes.{AreRoutes, RouteArc, To_neighbour, To_two_hop, By_router, By_address, By_network}
-use Rattle.mesh_atoms.specs.Walk.{Walk, Stay, Onward}
+use Rattle.mesh_atoms.specs.Routes.{AreRoutes, RouteArc}
+use Rattle.mesh_atoms.specs.Walk.{Walk}
 use Rattle.mesh_nhdp.specs.NhdpState.{empty_near}
 use Rattle.mesh_nhdp.proofs.Empty.{empty_parts, empty_base}
 use Rattle.mesh_machine.proofs.Originators.{some_originator}
@@ -39,15 +39,10 @@ module _ (s : State) (n : ℕ) (bases : s.bases ≡ no_bases n) where
   no_neighbour o m has = none_has s.bases.neighbourhood.neighbours o m (ap (λ (b : Bases). b.neighbourhood.neighbours) bases) has
 
   no_arc : (a b : NetAddr) (c : ℕ) → RouteArc s a b c → ⊥
-  no_arc a b c (To_neighbour o m is has out) = no_neighbour o m has.0.0
-  no_arc a b c (To_two_hop i link t m stands with will out) = no_neighbour _ m with.0.0
-  no_arc a b c (By_router t has) = none_has s.bases.topology.routers _ t (ap (λ (b : Bases). b.topology.routers) bases) has
-  no_arc a b c (By_address t has) = none_has s.bases.topology.addresses _ t (ap (λ (b : Bases). b.topology.addresses) bases) has
-  no_arc a b c (By_network t has) = none_has s.bases.topology.networks _ t (ap (λ (b : Bases). b.topology.networks) bases) has
+  no_arc a b c h3 = grind (arith, common_steps, no_neighbour, none_has)
 
   stays : (a b : NetAddr) (c : ℕ) → Walk (RouteArc s) a b c → b ≡ a
-  stays a b c Stay = refl
-  stays a b c (Onward walk arc) = absurd (no_arc _ _ _ arc)
+  stays a b c h3 = grind (arith, common_steps, no_arc)
 
   no_routes : (now : ℕ) → s.routes ≡ [] → (self : Addr4) × AreRoutes s now self
   no_routes now none =

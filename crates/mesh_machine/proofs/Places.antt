@@ -1,14 +1,11 @@
 -- Places of a list that grows at its end, of which one item is replaced, or whose items are turned.
-use Rattle.mesh_machine.proofs.Common.{◌≡◌, ℕ, ◌≤◌, ◌⊎◌, inl, inr, List, [], ◌∷◌, ◌++◌, refl, ap, zero, suc, length, arith, Some, None, All, map, common_steps, slice_get, slice_set, ◌≢◌, All-nil, All-cons, All-head, All-tail, slice_get_cases, get_pushed as push_at}
+use Rattle.mesh_machine.proofs.Common.{◌≡◌, ℕ, ◌≤◌, ◌⊎◌, inl, inr, List, [], ◌∷◌, ◌++◌, refl, ap, zero, suc, length, arith, Some, None, All, map, slice_get, slice_set, ◌≢◌, common_steps, All-nil, All-cons, All-head, All-tail, slice_get_cases, get_pushed as push_at}
 pub use Rattle.mesh_atoms.proofs.Lists.{set_here}
 pub use Rattle.mesh_wire.proofs.Standing.{same_at}
 
 -- what holds at each place holds with one more item
 pub each_more : {A : Type 0} (P : ℕ → A → Type 0) (xs : List A) (x : A) → ((i : ℕ) (y : A) → slice_get xs i ≡ Some y → P i y) → P (length xs) x → (i : ℕ) (y : A) → slice_get (xs ++ x ∷ []) i ≡ Some y → P i y
-each_more P xs x h p i y at = elim (push_at xs x i y at) [
-  | inl e ↦ h i y e
-  | inr (a, b) ↦ rw (a, ← b) p
-]
+each_more P xs x h p i y at = grind (arith, common_steps, push_at)
 
 -- nothing stands from the length on
 pub none_past : {A : Type 0} (xs : List A) (i : ℕ) → slice_get xs i ≡ None → length xs ≤ i

@@ -1,5 +1,5 @@
 -- What the HELLO of an interface says of an address follows from the link and the neighbour that have it.
-use Rattle.mesh_machine.proofs.Common.{◌≡◌, ℕ, ◌⊎◌, inl, inr, refl, sym, ◌∙◌, ap, subst, Bool, true, false, cond, ◌||◌, ◌&&◌, arith, common_steps, ◌↔◌, Contains, List, Option, Some, None, IsTrue, is_some, not, nat_lt, none-some, Addr4, Metric, RouterSettings, Neighbour, base_of, SoundNeighbourhood, State, state_of, is_symmetric, is_heard, HasSymmetricWith, link_at, neighbour_at, has_found, link_equiv, same_link, looks_up_links, looks_up_neighbours, IsSaidOf, IsFloodingRelay, is_link_symmetric, link_metric_in, link_metric_out, near_metric_in, near_metric_out, or_else, IsRelayOf, IsNeighbourWith, IsLinkWith}
+use Rattle.mesh_machine.proofs.Common.{◌≡◌, ℕ, ◌⊎◌, inl, inr, refl, sym, ◌∙◌, ap, subst, Bool, true, false, cond, ◌||◌, ◌&&◌, arith, ◌↔◌, Contains, List, Option, Some, None, IsTrue, is_some, not, nat_lt, common_steps, none-some, Addr4, Metric, RouterSettings, Neighbour, base_of, SoundNeighbourhood, State, state_of, is_symmetric, is_heard, HasSymmetricWith, link_at, neighbour_at, has_found, link_equiv, same_link, looks_up_links, looks_up_neighbours, IsSaidOf, IsFloodingRelay, is_link_symmetric, link_metric_in, link_metric_out, near_metric_in, near_metric_out, or_else, IsRelayOf, IsNeighbourWith, IsLinkWith}
 use Rattle.mesh_atoms.specs.declared.tuples.Link.{Link}
 use Rattle.mesh_atoms.specs.declared.tuples.LinkKey.{LinkKey}
 use Rattle.mesh_atoms.specs.Hello.{Says, SaysLink, HasLinkTo, IsSaid, Near_in, Near_out, Link_in, Link_out, Flooding, Routing}
@@ -15,31 +15,16 @@ abbrev state_by : Bool → Bool → Bool → Bool → LinkState
 state_by p l s h = cond p Is_pending (cond l Is_lost (cond s Is_symmetric (cond h Is_heard Is_lost)))
 
 symmetric_to : (p l s h : Bool) → cond p false (cond l false s) ≡ true → state_by p l s h ≡ Is_symmetric
-symmetric_to true l s h is = absurd cc
-symmetric_to false true s h is = absurd cc
-symmetric_to false false true h is = refl
-symmetric_to false false false h is = absurd cc
+symmetric_to p l s h is = grind (arith, common_steps)
 
 symmetric_from : (p l s h : Bool) → state_by p l s h ≡ Is_symmetric → cond p false (cond l false s) ≡ true
-symmetric_from true l s h is = absurd cc
-symmetric_from false true s h is = absurd cc
-symmetric_from false false true h is = refl
-symmetric_from false false false true is = absurd cc
-symmetric_from false false false false is = absurd cc
+symmetric_from p l s h is = grind (arith, common_steps)
 
 heard_to : (p l s h : Bool) → (not p && (not l && (not s && h))) ≡ true → state_by p l s h ≡ Is_heard
-heard_to true l s h is = absurd cc
-heard_to false true s h is = absurd cc
-heard_to false false true h is = absurd cc
-heard_to false false false true is = refl
-heard_to false false false false is = absurd cc
+heard_to p l s h is = grind (arith, common_steps)
 
 heard_from : (p l s h : Bool) → state_by p l s h ≡ Is_heard → (not p && (not l && (not s && h))) ≡ true
-heard_from true l s h is = absurd cc
-heard_from false true s h is = absurd cc
-heard_from false false true h is = absurd cc
-heard_from false false false true is = refl
-heard_from false false false false is = absurd cc
+heard_from p l s h is = grind (arith, common_steps)
 
 is_symmetric_to : (l : Link) (now : ℕ) → is_symmetric l now ≡ true → state_of l now ≡ Is_symmetric
 is_symmetric_to l now is = symmetric_to l.pending l.lost (nat_lt now l.sym) (nat_lt now l.heard) is
@@ -55,19 +40,12 @@ is_heard_from l now is = heard_from l.pending l.lost (nat_lt now l.sym) (nat_lt 
 
 -- SYMMETRIC by the link, or by the neighbour where not by the link
 either_shows : {L N : Type 0} (b c : Bool) → (IsTrue b ↔ L) → (IsTrue c ↔ N) → IsTrue (b || c) ↔ (L ⊎ (N × (L → ⊥)))
-either_shows true c p q = (λ h. inl (p.0 refl), λ w. refl)
-either_shows false true p q = (λ h. inr (q.0 refl, λ l. let no = p.1 l in absurd cc), λ w. refl)
-either_shows false false p q = (λ h. absurd cc, λ w. elim w [ inl l ↦ p.1 l | inr n ↦ q.1 n.0 ])
+either_shows b c p q = grind (arith, common_steps)
 
 -- of two metrics, each of which has one value at most, the one that is taken
 said_is : (near link : Metric → Type 0) → ((m n : Metric) → near m → near n → m ≡ n) → ((m n : Metric) → link m → link n → m ≡ n) → (a b : Option Metric) →
     IsValue near a → IsValue link b → (m : Option Metric) → IsSaid near link m ↔ (m ≡ or_else a b)
-said_is near link one_near one_link (Some n) b v w None = (λ h. absurd (h.0 n v), λ e. absurd (none-some n e))
-said_is near link one_near one_link (Some n) b v w (Some m) = grind (arith, common_steps, same_some)
-said_is near link one_near one_link None None v w None = (λ h. refl, λ e. (v, w))
-said_is near link one_near one_link None None v w (Some m) = (λ h. elim h [ inl x ↦ absurd (v m x) | inr x ↦ absurd (w m x.1) ], λ e. absurd (none-some m (sym e)))
-said_is near link one_near one_link None (Some n) v w None = (λ h. absurd (h.1 n w), λ e. absurd (none-some n e))
-said_is near link one_near one_link None (Some n) v w (Some m) = grind (arith, common_steps, same_some)
+said_is near link one_near one_link a b v w m = grind (arith, common_steps, none-some, same_some)
 
 module _ (s : State) (settings : RouterSettings) (i now : ℕ) (a : Addr4) (sound : SoundNeighbourhood settings now s.bases.neighbourhood) where
   -- The link of the interface that has the address
@@ -182,8 +160,7 @@ module _ (s : State) (settings : RouterSettings) (i now : ℕ) (a : Addr4) (soun
   -- Relays
 
   near_at : (near : Option (Addr4 × (Neighbour × ℕ))) (e : Addr4 × (Neighbour × ℕ)) → IsValue (IsNeighbourWith s.bases.neighbourhood.neighbours a) near → near ≡ Some e → HasSymmetricWith s a e.0 e.1.0
-  near_at None e none is = absurd (none-some e is)
-  near_at (Some f) e with' is = subst (λ (x : Addr4 × (Neighbour × ℕ)). HasSymmetricWith s a x.0 x.1.0) (same_some refl is) (near_to f with')
+  near_at near e none is = grind (arith, common_steps, none-some, same_some, near_to)
 
   relay_at : (relays : List Addr4) (near : Option (Addr4 × (Neighbour × ℕ))) (o : Addr4) (n : Neighbour) → IsValue (IsNeighbourWith s.bases.neighbourhood.neighbours a) near →
       HasSymmetricWith s a o n → Contains relays o → IsRelayOf relays near

@@ -66,8 +66,7 @@ sent_later s now x sent old new sends h =
 spread_lost : (s : Scenario) (now n : ℕ) (frame : List ℕ) (arcs : List (ℕ × RadioArc)) (lost : List ℕ) (old new : Traffic) → All (λ a. a.0 < n) arcs → Spreads s now frame arcs lost old new → All (λ k. k < n) lost
 spread_lost s now n frame [] [] old new below No_arcs = All-nil (λ k. k < n)
 spread_lost s now n frame [] (k ∷ lost) old new below spreads = elim spreads [ ]
-spread_lost s now n frame (a ∷ arcs) (k ∷ lost) old new below (Loses loses rest) =
-    All-cons (λ k. k < n) a.0 lost (All-head (λ (a : ℕ × RadioArc). a.0 < n) a arcs below) (spread_lost s now n frame arcs lost (with_loss old) new (All-tail (λ (a : ℕ × RadioArc). a.0 < n) a arcs below) rest)
+spread_lost s now n frame (a ∷ arcs) (k ∷ lost) old new below (Loses loses rest) = grind (arith, common_steps, All-cons, All-head, All-tail, (spread_lost s now n frame arcs lost (with_loss old) new (All-tail (λ (a : ℕ × RadioArc). a.0 < n) a arcs below) rest))
 spread_lost s now n frame (a ∷ arcs) lost old new below (Carries carries rest) =
     spread_lost s now n frame arcs lost (with_delivery old (flies_by now frame a)) new (All-tail (λ (a : ℕ × RadioArc). a.0 < n) a arcs below) rest
 

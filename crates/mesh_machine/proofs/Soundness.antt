@@ -1,5 +1,5 @@
 -- What a step of a router keeps: expiry and each message leave sound bases sound.
-use Rattle.mesh_machine.proofs.Common.{◌≡◌, ℕ, ◌≤◌, ◌<◌, arith, Bool, true, false, List, length, Option, Some, None, refl, sym, ap, subst, ◌∙◌, common_steps, nat_eq, Ok, eqb-true, eqb-false, Addr4, Tc, RouterSettings, TcAnswer, TakesTc, Is_old, Overfull as Overfull_tc, Takes as Takes_tc, base_of, addr_eq, router_eq, address_eq, network_eq, flood_eq, Sound, SoundNeighbourhood, SoundTopology, SoundNoted, Neighbourhood, TopologyBase, NotedMessages, Bases, State, IsOriginator, addr_equiv, router_equiv, address_equiv, network_equiv, AreFew, Heading, Forward, AfterNote, AreWithin, key_of, process_of, is_received, is_forwarded, is_full, Span, MessageFields, Arrival, Fate, Frame, octets_at, Event, HearsPacket, Step, Heard_frame, Ticked, ConsidersForwarding, ProcessesTc, Tc_taken, Tc_passed, TakesMessage, Hello_read, Hello_broken, Tc_read, Tc_broken, Other_passed, Other_left, TakesMessages, No_messages, First_message, is_processed, SoundBases}
+use Rattle.mesh_machine.proofs.Common.{◌≡◌, ℕ, ◌≤◌, ◌<◌, arith, Bool, true, false, List, length, Option, Some, refl, sym, subst, nat_eq, Ok, common_steps, eqb-true, eqb-false, Addr4, Tc, RouterSettings, TcAnswer, TakesTc, Is_old, Overfull as Overfull_tc, Takes as Takes_tc, base_of, addr_eq, router_eq, address_eq, network_eq, flood_eq, Sound, SoundNeighbourhood, SoundTopology, SoundNoted, Neighbourhood, TopologyBase, NotedMessages, Bases, State, IsOriginator, addr_equiv, router_equiv, address_equiv, network_equiv, AreFew, Heading, Forward, AfterNote, AreWithin, key_of, process_of, is_received, is_forwarded, is_full, Span, MessageFields, Arrival, Fate, Frame, octets_at, Event, HearsPacket, Step, Heard_frame, Ticked, ConsidersForwarding, ProcessesTc, Tc_taken, Tc_passed, TakesMessage, Hello_read, Hello_broken, Tc_read, Tc_broken, Other_passed, Other_left, TakesMessages, No_messages, First_message, is_processed, SoundBases}
 use Rattle.mesh_atoms.specs.declared.hello.Hello.{Hello}
 use Rattle.mesh_atoms.specs.Live.{Live, LiveTopology, LiveNoted}
 use Rattle.mesh_atoms.specs.TakesHello.{HelloAnswer, TakesHello, Breaks, Overfull, Overfull_two_hops, Takes}
@@ -116,19 +116,13 @@ processes_sound settings own arrival old tc heading octets new sent fate mine la
 
 -- the originator that a message reads as
 pub same_originator : (o : Option RawAddr) (a b : Addr4) → OriginatorIs o (Some a) → OriginatorIs o (Some b) → a ≡ b
-same_originator (Some x) a b p q = let n : a.0 ≡ b.0 = p ∙ sym q in ap (λ (k : ℕ). let r : Addr4 = record { 0 = k } in r) n
-same_originator None a b p q = absurd p
+same_originator o a b p q = grind (arith, common_steps)
 
 pub message_sound : (settings : RouterSettings) (own : Addr4) (arrival : Arrival) (old : Bases) (message : MessageFields) (octets : List ℕ) (new : Bases) (sent : List Frame) (fate : Fate) →
     IsOriginator settings own → SoundBases settings arrival.now old → TakesMessage settings own arrival old message octets new sent fate → SoundBases settings arrival.now new
-message_sound settings own arrival old message octets new sent fate mine sound (Hello_read {near} {answer} hello kind keeps reads takes) = record {
-  neighbourhood = takes_hello_sound settings arrival.now arrival.iface arrival.sender hello old.neighbourhood near answer reads.validity.1 sound.neighbourhood takes;
-  topology = sound.topology;
-  noted = sound.noted;
-}
+message_sound settings own arrival old message octets new sent fate mine sound (Hello_read {near} {answer} hello kind keeps reads takes) = grind (arith, common_steps, takes_hello_sound)
 message_sound settings own arrival old message octets new sent fate mine sound (Hello_broken net kind broken) = sound
-message_sound settings own arrival old message octets new sent fate mine sound (Tc_read tc heading kind keeps reads is processes) =
-    processes_sound settings own arrival old tc heading octets new sent fate mine reads.validity.1 (same_originator message.originator tc.originator heading.originator reads.originator is.originator) sound processes
+message_sound settings own arrival old message octets new sent fate mine sound (Tc_read tc heading kind keeps reads is processes) = grind (arith, common_steps, processes_sound, same_originator)
 message_sound settings own arrival old message octets new sent fate mine sound (Tc_broken net kind broken) = sound
 message_sound settings own arrival old message octets new sent fate mine sound (Other_passed {noted} {sent = frames} {onward} heading no_hello no_tc is considered) = record {
   neighbourhood = sound.neighbourhood;

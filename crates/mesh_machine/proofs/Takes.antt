@@ -1,7 +1,5 @@
 -- Messages one after the other, and where they stand.
-use Rattle.mesh_machine.proofs.Common.{◌≡◌, ℕ, ◌+◌, ◌≤◌, ◌<◌, zero, suc, arith, List, [], ◌∷◌, ◌++◌, length, take, Option, Some, refl, sym, ap, subst, ◌∙◌, slice_get, slice_range, none-some, map, get_or, option_map, slice_get-map, slice_get-get_or, slice_get_within, length-map, fields_of_message, Addr4, RouterSettings, Bases, Span, MessageFields, PacketFields, Spells, SpellsMessage, SpellsMessages, Arrival, Fate, Frame, octets_at, TakesMessage, TakesMessages, No_messages, First_message, AreSpelled, append_assoc, append-nil, length-append, middle_range}
-use Rattle.mesh_wire.specs.packet.declared.packet.Message.{Message}
-use Rattle.mesh_hello.proofs.Collect.{taken_more}
+use Rattle.mesh_machine.proofs.Common.{◌≡◌, ℕ, ◌+◌, ◌≤◌, zero, suc, arith, List, [], ◌∷◌, ◌++◌, length, Some, refl, sym, ap, subst, ◌∙◌, slice_get, slice_range, append_assoc, append-nil, none-some, length-append, MessageFields, PacketFields, Addr4, RouterSettings, Bases, Span, Spells, SpellsMessage, SpellsMessages, Arrival, Fate, Frame, octets_at, TakesMessage, TakesMessages, No_messages, First_message, AreSpelled, middle_range}
 
 -- ---- one message more
 

@@ -1,5 +1,5 @@
 -- What each router of a network comes through.
-use Rattle.mesh_machine.proofs.Common.{◌≡◌, ℕ, ◌<◌, ◌≤◌, ◌⊎◌, inl, inr, List, [], ◌∷◌, refl, sym, ◌∙◌, ap, subst, length, get_or, map, All, Bool, true, false, true≢false, Option, Some, arith, length-set, zero, suc, slice_get, slice_set, nat_eq, cond, ◌≢◌, eqb-true, eq-eqb, slice_get_within, get_or_from_slice_get, slice_get-get_or, Addr4, Scenario, Sound, State, Frame, Step, Ticked, Tick, Steps, No_events, First_event, due, NetState, NetStep, By_delivery, By_tick, By_last_tick, Moves, HasOnlyLastTicks, event_of, frames_of, happening, Traffic, Delivery, with_heard, item_at as stands, set_here}
+use Rattle.mesh_machine.proofs.Common.{common_steps, ◌≡◌, ℕ, ◌<◌, List, [], ◌∷◌, refl, sym, ◌∙◌, ap, subst, length, map, All, Bool, true, false, true≢false, Some, arith, length-set, zero, suc, slice_get, slice_set, nat_eq, cond, ◌≢◌, eqb-true, eq-eqb, slice_get_within, get_or_from_slice_get, slice_get-get_or, Scenario, Sound, State, Frame, Step, Ticked, Tick, Steps, No_events, First_event, due, NetState, NetStep, By_delivery, By_tick, By_last_tick, Moves, HasOnlyLastTicks, event_of, frames_of, Traffic, Delivery, with_heard, item_at as stands, set_here}
 use Rattle.mesh_machine.proofs.Effects.{ticks_due}
 use Rattle.mesh_machine.proofs.Opening.{runs_sound}
 use Rattle.mesh_atoms.specs.declared.network.NetEvent.{NetEvent}
@@ -62,12 +62,7 @@ module _ (scenario : Scenario) (old : NetState) (event : NetEvent) (before : Tra
 
   -- before the first of the last ticks
   still_going : IsEnding scenario old → new.last_ticks ≡ 0 → IsEnding scenario new
-  still_going h none = record {
-    scenario_is = moves.scenario ∙ h.scenario_is;
-    count = same_count ∙ h.count;
-    only = λ some. absurd (omega (arith, some, none));
-    ended = λ x s at lt. absurd (omega (arith, lt, none));
-  }
+  still_going h none = grind (arith, common_steps, same_count)
 
 -- what holds of all due moments holds of that of the router there
 due_at : (P : ℕ → Type 0) (routers : List State) (x : ℕ) (s : State) → slice_get routers x ≡ Some s → All (λ t. P (due t)) routers → P (due s)
@@ -96,40 +91,7 @@ ending_more scenario old new event (By_tick t) h = still_going scenario old even
         let is = first.is in
         let soon = t.next.in_time in
         omega (arith, late, is, soon))
-ending_more scenario old new event (By_last_tick t) h = record {
-  scenario_is = m.scenario ∙ h.scenario_is;
-  count = same_count scenario old event old.traffic new m ∙ h.count;
-  only = λ some. record {
-    no_frames = subst (λ (n : ℕ). All (λ (d : Delivery). n < d.moment) new.traffic.air) (t.moment ∙ sym same_end)
-        (sent_later old.scenario event.moment event.router event.sent old.traffic new.traffic m.sends (subst (λ (n : ℕ). All (λ (d : Delivery). n < d.moment) old.traffic.air) (sym t.moment) t.only.no_frames));
-    no_ticks = λ k d lt. each k (get_or new.routers k d) (slice_get-get_or new.routers k d lt);
-  };
-  ended = λ x s at lt. elim (place x s at) [
-    | inl (a, b) ↦ ap (λ (q : State). q.last) b ∙ ticks.0 ∙ t.moment ∙ ap (λ (s : Scenario). s.end) h.scenario_is
-    | inr (a, b) ↦ h.ended x s b (let is = t.last_ticks in let router = t.router in below x a (omega (arith, is, lt)))
-  ];
-}
-  where
-    m : Moves old event old.traffic new
-    m = t.moves
-
-    same_end : new.scenario.end ≡ old.scenario.end
-    same_end = ap (λ (s : Scenario). s.end) m.scenario
-
-    ticks : (m.is.last ≡ event.moment) × (event.moment < due m.is)
-    ticks = after_tick m.was m.is event.moment (frames_of event) (subst (λ (o : Option (ℕ × Addr4 × List ℕ)). Step m.was (happening event.moment o) (frames_of event) m.is) t.heard m.step)
-
-    place : (x : ℕ) (s : State) → slice_get new.routers x ≡ Some s → ((x ≡ event.router) × (s ≡ m.is)) ⊎ ((x ≢ event.router) × (slice_get old.routers x ≡ Some s))
-    place x s at = set_at old.routers event.router m.is x s (subst (λ (l : List State). slice_get l x ≡ Some s) m.routers at)
-
-    below : (x : ℕ) → x ≢ event.router → x ≤ old.last_ticks → x < old.last_ticks
-    below x other le = omega (arith, le, other, t.router)
-
-    each : (k : ℕ) (s : State) → slice_get new.routers k ≡ Some s → new.scenario.end < due s
-    each k s at = elim (place k s at) [
-      | inl (a, b) ↦ let is = ap due b in let late = ticks.1 in let at_end = t.moment in omega (arith, same_end, is, late, at_end)
-      | inr (a, b) ↦ let late = due_at (λ m. old.scenario.end < m) old.routers k s b t.only.no_ticks in omega (arith, same_end, late)
-    ]
+ending_more scenario old new event (By_last_tick t) h = grind (arith, common_steps, same_count, sent_later, slice_get-get_or, after_tick, set_at, due_at)
 
 run_ending : (scenario : Scenario) (events : List NetEvent) (here new : NetState) → NetRun here events new → IsEnding scenario here → IsEnding scenario new
 run_ending scenario [] here new is h = subst (IsEnding scenario) (sym is) h

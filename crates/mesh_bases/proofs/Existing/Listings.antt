@@ -1,5 +1,6 @@
 -- Lists of all that has a property, and statements that hold or don't.
-use Rattle.mesh_bases.proofs.Common.{◌≡◌, ℕ, zero, suc, ◌<◌, ◌≤◌, ◌⊎◌, inl, inr, refl, sym, subst, arith, Bool, true, false, List, [], ◌∷◌, Contains, Option, Some, None, flat_map, cases_lt, false≢true, contains_cases, contains_head, contains_none, contains_tail, contains_flat_map, contains_flat_map_cases, IsListed, listed_by, listed_one}
+use Rattle.mesh_bases.proofs.Common.{common_steps, ◌≡◌, ℕ, zero, suc, ◌<◌, ◌≤◌, ◌⊎◌, inl, inr, refl, sym, subst, arith, Bool, true, List, [], ◌∷◌, Contains, Option, Some, None, cases_lt, contains_cases, contains_head, contains_none, contains_tail, contains_flat_map, contains_flat_map_cases, IsListed, listed_by, listed_one}
+use Rattle.std.specs.List.{flat_map}
 
 -- Statements that hold or don't
 
@@ -7,17 +8,13 @@ abbrev pub HoldsOrNot : Type 0 → Type 0
 HoldsOrNot D = D ⊎ (D → ⊥)
 
 pub opposite_or_not : {D : Type 0} → HoldsOrNot D → HoldsOrNot (D → ⊥)
-opposite_or_not (inl d) = inr (λ fails. fails d)
-opposite_or_not (inr fails) = inl fails
+opposite_or_not h0 = grind (arith, common_steps)
 
 pub both_or_not : {D E : Type 0} → HoldsOrNot D → HoldsOrNot E → HoldsOrNot (D × E)
-both_or_not (inl d) (inl e) = inl (d, e)
-both_or_not (inl d) (inr fails) = inr (λ both. fails both.1)
-both_or_not (inr fails) _ = inr (λ both. fails both.0)
+both_or_not h0 h1 = grind (arith, common_steps)
 
 pub true_or_not : (b : Bool) → HoldsOrNot (b ≡ true)
-true_or_not true = inl refl
-true_or_not false = inr (λ e. false≢true e)
+true_or_not b = grind (arith, common_steps)
 
 pub upto_or_not : (a b : ℕ) → HoldsOrNot (a ≤ b)
 upto_or_not a b = elim (cases_lt b a) [ inl more ↦ inr (λ upto. omega arith) | inr upto ↦ inl upto ]
@@ -50,8 +47,7 @@ list_below (suc n) =
 
 -- where a statement holds
 pub list_where : {X D : Type 0} {P : X → Type 0} → HoldsOrNot D → IsListed P → IsListed (λ x. D × P x)
-list_where (inl d) listed = listed_by (λ x. (λ p. (d, p), λ both. both.1)) listed
-list_where (inr fails) listed = ([], λ x. (λ has. absurd (contains_none x has), λ both. absurd (fails both.0)))
+list_where h0 listed = grind (arith, common_steps, listed_by, contains_none)
 
 -- of each that is listed
 pub list_of : {A X : Type 0} {P : A → Type 0} {F : A → X → Type 0} → IsListed P → ((a : A) → IsListed (F a)) →

@@ -1,5 +1,5 @@
 -- What sets of neighbours offer, and whether a relay is missed.
-use Rattle.mesh_bases.proofs.Common.{ℕ, ◌+◌, inl, inr, refl, subst, arith, List, Contains, cases_eq, Addr4, Near, Far, NeighbourGraph, Offers, IsWilling, IsOtherRelay, IsAsCheap, HasSameDistance, Covers, IsMissed, HasDistinctIds, same_address, IsListed, listed_by, listed_one, listed_either}
+use Rattle.mesh_bases.proofs.Common.{common_steps, ℕ, ◌+◌, inl, inr, refl, subst, arith, List, Contains, cases_eq, Addr4, Near, Far, NeighbourGraph, Offers, IsWilling, IsOtherRelay, IsAsCheap, HasSameDistance, Covers, IsMissed, HasDistinctIds, same_address, IsListed, listed_by, listed_one, listed_either}
 use Rattle.mesh_bases.proofs.Existing.Listings.{HoldsOrNot, both_or_not, opposite_or_not, upto_or_not, some_or_none, each_or_not}
 use Rattle.mesh_bases.proofs.Existing.Listings.{list_elements, list_where, list_of}
 
@@ -23,8 +23,7 @@ module _ (g : NeighbourGraph) where
   -- a larger set offers what a set offers
   pub offers_more : (A B : Near → Type 0) → ((n : Near) → Contains g.near n → A n → B n) →
       (y : Addr4) (c : ℕ) → Offers g A y c → Offers g B y c
-  offers_more A B more y c (inl direct) = inl direct
-  offers_more A B more y c (inr (n, near, a, f, far, via, at, cost)) = inr (n, near, more n near a, f, far, via, at, cost)
+  offers_more A B more y c h5 = grind (arith, common_steps)
 
   pub larger_as_cheap : (A B : Near → Type 0) → ((n : Near) → Contains g.near n → B n → A n) → (y : Addr4) → IsAsCheap g A B y
   larger_as_cheap A B more y c offer = (c, offers_more B A more y c offer, omega arith)

@@ -1,5 +1,5 @@
 -- From each neighbour graph relays can be chosen: all willing neighbours are relays at first, and each one that isn't missed is left out.
-use Rattle.mesh_bases.proofs.Common.{◌≡◌, ◌<◌, inl, inr, refl, sym, ap, subst, arith, Bool, not, filter, List, [], ◌∷◌, Contains, cases_lt, AllPairs-filter, Addr4, Near, NeighbourGraph, addr_eq, AreRelaysOf, IsWilling, IsRelay, IsOtherRelay, Covers, IsMissed, HasDistinctIds, IsAscending, contains_cases, contains_filter, contains_filter_cases, contains_head, contains_none, contains_tail, listed_one}
+use Rattle.mesh_bases.proofs.Common.{common_steps, ◌≡◌, ◌<◌, inl, inr, refl, sym, ap, subst, arith, Bool, not, filter, List, [], ◌∷◌, Contains, cases_lt, AllPairs-filter, Addr4, Near, NeighbourGraph, addr_eq, AreRelaysOf, IsWilling, IsRelay, IsOtherRelay, Covers, IsMissed, HasDistinctIds, IsAscending, contains_cases, contains_filter, contains_filter_cases, contains_head, contains_none, contains_tail, listed_one}
 use Rattle.mesh_atoms.proofs.Deciding.{Decides-addr, Decides-not}
 use Rattle.mesh_bases.proofs.Existing.Ascending.{list_ascending}
 use Rattle.mesh_bases.proofs.Existing.Listings.{list_elements, list_of, list_where}
@@ -15,8 +15,7 @@ abbrev without : List Addr4 → Addr4 → List Addr4
 without relays id = filter (is_other id) relays
 
 others_stay : (relays : List Addr4) (id a : Addr4) → Contains relays a → (a ≡ id → ⊥) → Contains (without relays id) a
-others_stay relays id a has apart =
-    contains_filter (is_other id) relays a has ((Decides-not (addr_eq a id) (Decides-addr a id)).1 apart)
+others_stay relays id a has apart = grind (arith, common_steps, contains_filter, Decides-not, Decides-addr)
 
 only_others : (relays : List Addr4) (id a : Addr4) → Contains (without relays id) a → Contains relays a × (a ≡ id → ⊥)
 only_others relays id a has =

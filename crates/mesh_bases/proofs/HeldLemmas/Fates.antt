@@ -1,5 +1,5 @@
 -- What a message comes to, put together from what each call says.
-use Rattle.mesh_bases.proofs.Common.{◌≡◌, ◌≢◌, ◌++◌, ℕ, List, [], Bool, true, false, refl, Option, Some, ◌⊎◌, inl, inr, ◌<◌, arith, sym, subst, ap, ◌∙◌, IsTrue, slice_index, cases_lt, Addr4, NetAddr, Hello, RouterSettings, base_of, Neighbourhood, TopologyBase, NotedMessages, Bases, MessageFields, SpellsMessage, BreaksTc, ShortPrefix, Arrival, Fate, Frame, ReadsTc, Taken_in, Passed_by, kept_fates, IsReadAsBroken, Hello_breaks, Tc_breaks, ConsidersForwarding, only, hello_read, other_read, IsHeading, ProcessesTc, Tc_taken, Tc_passed, TakesMessage, Hello_read, Hello_broken, Tc_broken, Other_passed}
+use Rattle.mesh_bases.proofs.Common.{common_steps, ◌≡◌, ◌≢◌, ◌++◌, ℕ, List, [], Bool, false, Option, Some, ◌⊎◌, inl, inr, ◌<◌, arith, sym, subst, ap, ◌∙◌, IsTrue, slice_index, cases_lt, Addr4, NetAddr, Hello, RouterSettings, base_of, Neighbourhood, TopologyBase, NotedMessages, Bases, MessageFields, SpellsMessage, BreaksTc, ShortPrefix, Arrival, Fate, Frame, ReadsTc, Taken_in, Passed_by, kept_fates, IsReadAsBroken, Hello_breaks, Tc_breaks, ConsidersForwarding, only, hello_read, other_read, IsHeading, ProcessesTc, Tc_taken, Tc_passed, TakesMessage, Hello_read, Hello_broken, Tc_broken, Other_passed}
 use Rattle.mesh_atoms.specs.declared.tc.Tc.{Tc}
 use Rattle.mesh_atoms.specs.TakesHello.{HelloAnswer, TakesHello}
 use Rattle.mesh_wire.specs.Hello.{HelloIs}
@@ -12,7 +12,6 @@ use Rattle.mesh_wire.specs.Tc.{TcIs}
 use Rattle.mesh_topo.specs.Tuples.{HasHosts}
 use Rattle.mesh_flood.specs.declared.verdict.Heading.{Heading}
 use Rattle.mesh_flood.specs.declared.verdict.Process.{Process}
-use Rattle.mesh_flood.specs.declared.verdict.Process.TheVariants as process
 use Rattle.mesh_flood.specs.declared.verdict.Forward.{Forward}
 use Rattle.mesh_flood.specs.declared.verdict.Forward.TheVariants as forward
 use Rattle.mesh_flood.specs.Verdict.{process_of, forward_of}
@@ -46,11 +45,6 @@ pub spelled_hop : (octets : List ℕ) (heading : Heading) (iface : ℕ) (own : A
 spelled_hop octets heading iface own link noted answer bytes (message, spells, is) answered does =
     (message, spells, forwarded_hop message octets heading own link (base_of noted.received iface) noted.forwarded spells bytes is (sym answered ∙ does))
 
--- a message that counts as processed was to be processed
-pub done_does : {now : ℕ} {tc : Tc} {does : Process} {old new : TopologyBase} {made : Read} {done : Bool} → ReadsTc now tc does old new made done → IsTrue done → does ≡ process.Do
-done_does (Taken_in answer is takes made done) h = is
-done_does (Passed_by not same made done) h = absurd cc
-
 module _ (settings : RouterSettings) (own : Addr4) (arrival : Arrival) (old : Bases) (tc : Tc) (heading : Heading) (octets : List ℕ) (topology : TopologyBase) (noted : NotedMessages) (sent : List Frame) (onward : Forward) (made : Read) (done : Bool) where
   pub tc_processed : (does : Process) → does ≡ process_of own heading old.noted → ReadsTc arrival.now tc does old.topology topology made done →
       ConsidersForwarding settings own arrival heading octets done old noted sent onward →
@@ -80,9 +74,7 @@ hosts_of message tc keeps reads row has kind = single row.dest (λ short. keeps 
 
 -- fates that are kept, and some more
 pub none_kept : (keeps : Bool) → [] ≡ kept_fates keeps []
-none_kept true = refl
-none_kept false = refl
+none_kept keeps = grind (arith, common_steps)
 
 pub kept_more : (keeps : Bool) (fates more : List Fate) → kept_fates keeps fates ++ kept_fates keeps more ≡ kept_fates keeps (fates ++ more)
-kept_more true fates more = refl
-kept_more false fates more = refl
+kept_more keeps fates more = grind (arith, common_steps)

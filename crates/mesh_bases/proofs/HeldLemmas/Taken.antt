@@ -1,5 +1,6 @@
 -- What expiry and the messages of a packet leave.
-use Rattle.mesh_bases.proofs.Common.{◌≡◌, sym, subst, ℕ, List, Addr4, RouterSettings, Live, IsOriginator, Held, Arrival, Fate, Frame, SoundBases, TakesMessages, live_bases_sound, messages_sound, Span, MessageFields}
+use Rattle.mesh_bases.proofs.Common.{◌≡◌, sym, subst, ℕ, List, Addr4, RouterSettings, Live, IsOriginator, Arrival, Fate, Frame, SoundBases, TakesMessages, live_bases_sound, messages_sound, Span, MessageFields}
+use Rattle.mesh_bases.specs.Held.Held.{Held}
 
 -- sound bases after expiry
 pub live_held : (old new : Held) (last now : ℕ) → SoundBases old.settings last old.bases → Live old.settings now old.bases new.bases → new.settings ≡ old.settings → SoundBases new.settings now new.bases

@@ -1,5 +1,5 @@
 -- What a router sends can be written.
-use Rattle.mesh_bases.proofs.Common.{IsSentTime, IsSentIfSome, HaveStatusWhole, AreOneType, HaveTypeWhole, ◌≡◌, ℕ, ◌⊎◌, inl, inr, sym, ap, subst, ◌∙◌, List, [], ◌∷◌, ◌++◌, length, Option, Some, None, IsTrue, slice_get, NetAddr, Hello, TcRow, AreTcRows, IsTcRow, Of_address, Of_network, IsHelloNow, IsRoundedUp, RouterSettings, Relays, Neighbourhood, State, no_bases, Frame, IsHelloFrame}
+use Rattle.mesh_bases.proofs.Common.{arith, common_steps, IsSentTime, IsSentIfSome, HaveStatusWhole, AreOneType, HaveTypeWhole, ◌≡◌, ℕ, ◌⊎◌, inl, inr, sym, ap, subst, ◌∙◌, List, [], ◌∷◌, ◌++◌, length, Option, Some, None, IsTrue, slice_get, NetAddr, Hello, TcRow, AreTcRows, IsTcRow, IsHelloNow, IsRoundedUp, RouterSettings, Relays, Neighbourhood, State, no_bases, Frame, IsHelloFrame}
 use Rattle.mesh_bases.proofs.Pushed.{at_pushed}
 
 -- a state with these settings, this neighbourhood and these relays
@@ -28,9 +28,7 @@ pub status_whole : (s : State) (i now : ℕ) (hello : Hello) → IsHelloNow s i 
 status_whole s i now hello is row has says = let (a, row_is) = is.rows row has in ap (λ (n : NetAddr). n.prefix) row_is.addr
 
 pub one_type : (s : State) (row : TcRow) → IsTcRow s row → IsTrue row.origin ⊎ IsTrue row.routable → (row.gateway ≡ None) × (row.dest.prefix ≡ 32)
-one_type s row (Of_address a m dest origin routable gateway metric advertises) says = (gateway, ap (λ (n : NetAddr). n.prefix) dest)
-one_type s row (Of_network distance m origin routable gateway metric advertises) (inl is) = absurd cc
-one_type s row (Of_network distance m origin routable gateway metric advertises) (inr is) = absurd cc
+one_type s row h2 says = grind (arith, common_steps)
 
 pub rows_one_type : (s : State) (rows : List TcRow) → AreTcRows s rows → AreOneType rows
 rows_one_type s rows are row has says = (one_type s row ((are.exactly row).0 has) says).0

@@ -1,5 +1,5 @@
 -- How an event ends.
-use Rattle.mesh_core.proofs.Common.{◌≡◌, ◌⊎◌, ℕ, Bool, true, false, IsTrue, not, ◌||◌, List, inl, inr, refl, sym, subst, ap, ◌∙◌, true≢false, Addr4, TcRow, AreTcRows, AreRelays, AreRoutes, Bases, State, IsOriginator, SoundNeighbourhood, SoundTopology, SoundBases, Renews, tables_of, Derived, HasDerived, IsAnsnAfter, IsEmptiedAt, rows_stay, relays_kept, routes_kept, rows_kept, Outdated, EventWants, Quiet, IsBeforeEvent, GivesRelays, GivesRoutes, GivesRows, IsCurrent, KeepsWanted, Held}
+use Rattle.mesh_core.proofs.Common.{arith, common_steps, ◌≡◌, ◌⊎◌, ℕ, Bool, false, IsTrue, not, ◌||◌, List, inl, inr, refl, sym, subst, ap, ◌∙◌, Addr4, TcRow, AreTcRows, AreRelays, AreRoutes, Bases, State, IsOriginator, SoundNeighbourhood, SoundTopology, SoundBases, Renews, tables_of, Derived, HasDerived, IsAnsnAfter, IsEmptiedAt, rows_stay, relays_kept, routes_kept, rows_kept, Outdated, EventWants, Quiet, IsBeforeEvent, GivesRelays, GivesRoutes, GivesRows, IsCurrent, KeepsWanted, Held}
 use Rattle.mesh_atoms.specs.declared.settings.RouterSettings.{RouterSettings}
 use Rattle.mesh_core.proofs.EventLemmas.Wholes.{bases_but, originator_but, rows_but, there_are}
 
@@ -18,9 +18,7 @@ pub record RenewsWanted (wants : EventWants) (old new : Outdated) (quiet : Quiet
 
 -- what holds where neither of two does, of which the second is a negation
 neither_true : (a b : Bool) → (a || not b) ≡ false → (a ≡ false) × IsTrue b
-neither_true true b is = absurd (true≢false is)
-neither_true false true is = (refl, refl)
-neither_true false false is = absurd (true≢false is)
+neither_true a b is = grind (arith, common_steps)
 
 -- an event at now began with the state `before`, and s has the bases that it leaves
 module _ (wants : EventWants) (old new : Outdated) (quiet : Quiet) (now : ℕ) (was is : Derived) (before s : State) (last : s.last ≡ now) (has : HasDerived s is)
@@ -57,10 +55,7 @@ module _ (wants : EventWants) (old new : Outdated) (quiet : Quiet) (now : ℕ) (
   ]
 
   current_end : IsCurrent new s
-  current_end = record {
-    relays = λ current. subst (λ (n : ℕ). AreRelays s n) (sym last) (relays_end current);
-    routes = λ current. subst (λ (n : ℕ). (self : Addr4) × AreRoutes s n self) (sym last) (routes_end current);
-  }
+  current_end = grind (arith, common_steps, relays_end, routes_end)
 
   ends_in : KeepsWanted (Renews before now s.bases) wants new s
   ends_in =

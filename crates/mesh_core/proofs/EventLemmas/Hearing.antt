@@ -1,5 +1,5 @@
 -- What is promised of a frame that is heard.
-use Rattle.mesh_core.proofs.Common.{◌≡◌, ◌++◌, ℕ, ◌≤◌, List, [], refl, sym, ap, subst, arith, ◌∙◌, append-nil, Refusal, State, Arrival, Fate, Heard, Frame, Hears, HearsPacket, due, AreOctets, hears_due, hears_last, hears_settings, since_appends, since_is, hears_sendable, live_bases_sound, messages_sound, renews_sound, FirstFault, Outdated, EventWants, IsSoundButForDerived, IsCurrent, KeepsWanted, HearsAndKeeps, HearsTo}
+use Rattle.mesh_core.proofs.Common.{common_steps, ◌≡◌, ◌++◌, ℕ, ◌≤◌, List, [], refl, sym, ap, subst, arith, ◌∙◌, append-nil, Refusal, State, Arrival, Fate, Heard, Frame, Hears, HearsPacket, due, AreOctets, hears_due, hears_last, hears_settings, since_appends, since_is, hears_sendable, live_bases_sound, messages_sound, renews_sound, FirstFault, Outdated, EventWants, IsSoundButForDerived, IsCurrent, KeepsWanted, HearsAndKeeps, HearsTo}
 use Rattle.mesh_machine.specs.declared.fate.Heard.TheVariants as heard
 use Rattle.mesh_core.proofs.EventLemmas.Wholes.{bases_but, but_through, sound_but}
 
@@ -14,8 +14,7 @@ sound_after old arrival bytes (heard.Taken fates) sent whole sound hears =
 
 -- and at no earlier moment
 pub no_earlier : (old : State) (arrival : Arrival) (bytes : List ℕ) (answer : Heard) (sent : List Frame) (whole : State) → old.last ≤ arrival.now → Hears old arrival bytes answer sent whole → old.last ≤ whole.last
-no_earlier old arrival bytes (heard.Refused refusal) sent whole later hears = let same = ap (λ (s : State). s.last) hears.2 in omega (arith, same)
-no_earlier old arrival bytes (heard.Taken fates) sent whole later hears = let is = hears.renews.last in omega (arith, later, is)
+no_earlier old arrival bytes answer sent whole later hears = grind (arith, common_steps)
 
 module _ (wants : EventWants) (old : State) (arrival : Arrival) (bytes : List ℕ) (before after : List Frame) (outdated : Outdated) (new : State)
     (sound : IsSoundButForDerived old) (later : old.last ≤ arrival.now) (octets : AreOctets bytes) where

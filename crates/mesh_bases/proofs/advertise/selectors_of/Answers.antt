@@ -1,10 +1,6 @@
-use Rattle.mesh_bases.proofs.Common.{ℕ, sym, arith, [], List, subst, Addr4, Neighbour, Selector, Adds, Given, adds_start, adds_more, adds_all, IsSelectorBy, none_within}
+use Rattle.mesh_bases.proofs.Common.{ℕ, sym, arith, [], Addr4, Neighbour, adds_more, adds_all, IsSelectorBy, none_within}
 use Rattle.mesh_bases.proofs.advertise.selectors_of.Goals as goal
 use Rattle.mesh_bases.proofs.advertise.selectors_of.Goals.{in-Some+in_ok-put_selector, in_default}
-
-pub loop-place-init : goal.loop-place-init
-loop-place-init g c =
-    subst (λ (l : List Selector). Adds (Given (λ (e : Addr4 × (Neighbour × ℕ)). IsSelectorBy e.0 e.1.0) (g.N.Near4.near c.args.near.now).neighbours 0) [] l) (sym c.new-selectors.ensures.items) (adds_start _ _ [])
 
 pub loop-place-preserved : goal.loop-place-preserved
 loop-place-preserved g c =

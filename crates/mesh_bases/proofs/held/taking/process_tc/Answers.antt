@@ -1,12 +1,6 @@
 use Rattle.mesh_bases.proofs.Common.{subst, ap, List, length, Times, RouterSettings, Bases, AfterNote, Frame, ConsidersForwarding, forwarding}
-use Rattle.mesh_bases.proofs.HeldLemmas.Fates.{tc_processed, done_does, spelled_hop}
+use Rattle.mesh_bases.proofs.HeldLemmas.Fates.{tc_processed, spelled_hop}
 use Rattle.mesh_bases.proofs.held.taking.process_tc.Goals as goal
-
-pub note-requires-clause-judged : goal.note-requires-clause-judged
-note-requires-clause-judged g c = let (link, selector, answered) = c.judge-verdict.ensures.forward in (c.args.own, link, c.judge-verdict.ensures.process, answered)
-
-pub note-requires-clause-processed : goal.note-requires-clause-processed
-note-requires-clause-processed g c = done_does c.in_ok-read.ensures.reads
 
 pub send_on-requires : goal.send_on-requires
 send_on-requires g c =

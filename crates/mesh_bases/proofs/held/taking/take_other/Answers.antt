@@ -5,9 +5,6 @@ use Rattle.mesh_bases.proofs.held.taking.take_other.Goals as goal
 pub returns-in-None-clause-taken : goal.returns-in-None-clause-taken
 returns-in-None-clause-taken g c = ([], sym (append-nil _), λ topology message reads. Other_left reads.no_hello reads.no_tc (reads.none (rw c.in-None.is refl)))
 
-pub note-requires-clause-judged : goal.note-requires-clause-judged
-note-requires-clause-judged g c = let (link, selector, answered) = c.judge-verdict.ensures.forward in (c.args.own, link, c.judge-verdict.ensures.process, answered)
-
 pub send_on-requires : goal.send_on-requires
 send_on-requires g c =
     let (message, spelled, reads) = c.requires.message in

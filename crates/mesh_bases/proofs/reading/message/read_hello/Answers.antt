@@ -2,8 +2,5 @@ use Rattle.mesh_bases.proofs.Common.{Hello_breaks}
 use Rattle.mesh_bases.proofs.ReadingLemmas.Faults.{if_broken_more}
 use Rattle.mesh_bases.proofs.reading.message.read_hello.Goals as goal
 
-pub returns-in-Ok : goal.returns-in-Ok
-returns-in-Ok c = record { kind = c.requires.kind; keeps = c.in-Ok.ensures.keeps; says = c.in-Ok.ensures.reads; validity = c.in-Ok.ensures.bounded }
-
 pub returns-in-Err : goal.returns-in-Err
 returns-in-Err c = c.broken.ensures _ (if_broken_more c.in-Err.fault (λ number net first. Hello_breaks net c.requires.kind first) c.in-Err.ensures.broken)

@@ -1,9 +1,6 @@
-use Rattle.mesh_bases.proofs.Common.{arith, refl, if_ok_weaker}
+use Rattle.mesh_bases.proofs.Common.{refl, if_ok_weaker}
 use Rattle.mesh_bases.proofs.SendingLemmas.Written.{state_with, sent_time, sent_if_some, status_whole}
 use Rattle.mesh_bases.proofs.sending.hellos.hello_bytes.Goals as goal
-
-pub write_hello-requires-clause-few : goal.write_hello-requires-clause-few
-write_hello-requires-clause-few g c = let h = c.in_ok-hello.ensures.few in omega (arith, h)
 
 pub write_hello-requires-clause-validity : goal.write_hello-requires-clause-validity
 write_hello-requires-clause-validity g c =

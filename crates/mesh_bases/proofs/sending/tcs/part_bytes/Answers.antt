@@ -1,22 +1,7 @@
-use Rattle.mesh_bases.proofs.Common.{◌≡◌, List, length, sym, ap, subst, arith, ◌∙◌, AllPairs, TcRow, IsBefore, AreOneType, HaveTypeWhole, part_of, IsTcOfRows, if_ok_weaker}
-use Rattle.mesh_bases.proofs.SendingLemmas.PartRows.{part_length, part_ordered, part_one_type, part_whole}
+use Rattle.mesh_bases.proofs.Common.{◌≡◌, List, sym, ap, subst, ◌∙◌, TcRow, AreOneType, HaveTypeWhole, part_of, IsTcOfRows, if_ok_weaker}
+use Rattle.mesh_bases.proofs.SendingLemmas.PartRows.{part_one_type, part_whole}
 use Rattle.mesh_bases.proofs.SendingLemmas.Written.{rows_one_type, rows_whole}
 use Rattle.mesh_bases.proofs.sending.tcs.part_bytes.Goals as goal
-
-pub rows_of-rows-requires : goal.rows_of-rows-requires
-rows_of-rows-requires c = let within = c.requires.within in let same = ap (λ (rows : List TcRow). length rows) c.as_slice.ensures in omega (arith, within, same)
-
-pub tc_of_rows-requires-clause-ordered : goal.tc_of_rows-requires-clause-ordered
-tc_of_rows-requires-clause-ordered c =
-    let is : c.rows_of-rows.result.now ≡ part_of c.args.derived.now.rows c.args.span = c.rows_of-rows.ensures ∙ ap (λ (rows : List TcRow). part_of rows c.args.span) c.as_slice.ensures in
-    subst (λ (rows : List TcRow). AllPairs (λ r t. IsBefore r.dest t.dest) rows) (sym is)
-    (part_ordered (λ (r t : TcRow). IsBefore r.dest t.dest) c.args.derived.now.rows c.args.span.first c.args.span.len c.requires.within c.requires.rows.1.ordered)
-
-pub write_tc-requires-clause-few : goal.write_tc-requires-clause-few
-write_tc-requires-clause-few c =
-    let is : c.in_ok-tc.tc.rows ≡ part_of c.args.derived.now.rows c.args.span = c.in_ok-tc.ensures.rows ∙ (c.rows_of-rows.ensures ∙ ap (λ (rows : List TcRow). part_of rows c.args.span) c.as_slice.ensures) in
-    let size = ap (λ (rows : List TcRow). length rows) is ∙ part_length c.args.derived.now.rows c.args.span.first c.args.span.len c.requires.within in
-    let within = c.requires.within in let few = c.requires.few in omega (arith, size, within, few)
 
 pub write_tc-requires-clause-kinds : goal.write_tc-requires-clause-kinds
 write_tc-requires-clause-kinds c =

@@ -1,18 +1,7 @@
-use Rattle.mesh_bases.proofs.Common.{◌≡◌, ◌+◌, ◌%◌, ◌++◌, ◌∷◌, [], ℕ, List, length, map, drop, get_or, refl, sym, ap, subst, arith, ◌∙◌, Bool, nat_eq, append-nil, append_assoc, length-map, slice_get-get_or, RouterSettings, TcRow, PartSpan, part_of, Derived, Frame, on_each, SendsParts, No_part, First_part}
+use Rattle.mesh_bases.proofs.Common.{◌≡◌, ◌+◌, ◌%◌, ◌++◌, ◌∷◌, [], ℕ, List, length, map, drop, get_or, refl, sym, ap, subst, arith, ◌∙◌, Bool, nat_eq, append-nil, append_assoc, length-map, RouterSettings, TcRow, PartSpan, part_of, Derived, Frame, on_each, SendsParts, No_part, First_part}
 use Rattle.std.proofs.Math.ListN.{drop_of_length-le}
 use Rattle.mesh_bases.proofs.SendingLemmas.PartRows.{parts_behind, next_number}
 use Rattle.mesh_bases.proofs.sending.tcs.send_spans.Goals as goal
-
-pub loop-i-init : goal.loop-i-init
-loop-i-init c = record {
-  sent = ([], sym (append-nil c.args.out.now), λ s settings has more sends. sends);
-  number = omega arith;
-}
-
-pub part_bytes-requires-clause-within : goal.part_bytes-requires-clause-within
-part_bytes-requires-clause-within c =
-    let d : PartSpan = record { first = 0; len = 0 } in
-    c.requires.within c.loop-i.i (get_or c.args.spans.now c.loop-i.i d) (slice_get-get_or c.args.spans.now c.loop-i.i d c.loop-i-test.true)
 
 pub loop-i-preserved : goal.loop-i-preserved
 loop-i-preserved c =

@@ -1,5 +1,4 @@
-use Rattle.mesh_bases.proofs.Common.{List, refl, sym, subst, ◌∙◌, AllPairs, RouterSettings, TcRow, IsBefore, IsOriginator}
-use Rattle.mesh_bases.proofs.SendingLemmas.Written.{sent_if_some}
+use Rattle.mesh_bases.proofs.Common.{refl, sym, subst, ◌∙◌, RouterSettings, IsOriginator}
 use Rattle.mesh_bases.proofs.sending.tcs.tc_of_rows.Goals as goal
 
 pub returns-clause-is : goal.returns-clause-is
@@ -11,12 +10,4 @@ returns-clause-is c = λ s is ansn. record {
   validity_is = c.time_nearby.ensures;
   interval = (c.time_at_least.result, refl, rw is c.time_at_least.ensures);
   rows_are = c.from_vec.ensures ∙ c.in_ok-from_slice.ensures.items;
-}
-
-pub returns-clause-interval : goal.returns-clause-interval
-returns-clause-interval c = sent_if_some _ _ c.time_at_least.result refl c.time_at_least.ensures
-
-pub invariant_of-result : goal.invariant_of-result
-invariant_of-result c = record {
-  ascending = subst (λ (rows : List TcRow). AllPairs (λ r t. IsBefore r.dest t.dest) rows) (sym (c.from_vec.ensures ∙ c.in_ok-from_slice.ensures.items)) c.requires.ordered;
 }

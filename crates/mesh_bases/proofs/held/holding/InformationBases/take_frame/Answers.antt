@@ -1,19 +1,7 @@
-use Rattle.mesh_bases.proofs.Common.{◌<◌, ◌∙◌, IsTrue, length, subst, sym, RouterSettings, IsOriginator, Spells, AreReadAs, TakesMessages, packet_spelled}
-use Rattle.mesh_bases.proofs.HeldLemmas.Quiet.{advertised_after, both_true, near_after}
+use Rattle.mesh_bases.proofs.Common.{arith, common_steps, subst, RouterSettings, IsOriginator, Spells, AreReadAs, TakesMessages, packet_spelled}
+use Rattle.mesh_bases.proofs.HeldLemmas.Quiet.{advertised_after, both_true}
 use Rattle.mesh_bases.proofs.HeldLemmas.Taken.{live_held, taken_held}
 use Rattle.mesh_bases.proofs.held.holding.InformationBases.take_frame.Goals as goal
-
-pub expire-requires-clause-now : goal.expire-requires-clause-now
-expire-requires-clause-now g c = c.requires.now
-
-pub expire-requires-clause-sound : goal.expire-requires-clause-sound
-expire-requires-clause-sound g c = c.requires.sound
-
-pub take_typed-requires-clause-now : goal.take_typed-requires-clause-now
-take_typed-requires-clause-now g c = c.requires.now
-
-pub take_typed-requires-clause-iface : goal.take_typed-requires-clause-iface
-take_typed-requires-clause-iface g c = subst (λ (r : RouterSettings). c.args.arrival.iface < length r.interfaces) (sym c.in_ok-idle.ensures.settings) c.requires.iface
 
 pub take_typed-requires-clause-sound : goal.take_typed-requires-clause-sound
 take_typed-requires-clause-sound g c = live_held c.args.self.now c.expire.new.self c.args.last c.args.arrival.now c.requires.sound c.in_ok-idle.ensures.live c.in_ok-idle.ensures.settings
@@ -24,9 +12,6 @@ take_typed-requires-clause-messages g c =
     let spelled : Spells packet c.as_slice-spans.result.now c.args.bytes.now = rw c.as_slice-spans.ensures spells in
     let read : AreReadAs packet.messages c.as_slice-typed.result.now = rw c.as_slice-typed.ensures reads in
     (packet.messages, packet_spelled c.args.bytes.now packet c.as_slice-spans.result.now spelled, read)
-
-pub returns-clause-settings : goal.returns-clause-settings
-returns-clause-settings g c = c.take_typed.ensures.settings ∙ c.in_ok-idle.ensures.settings
 
 pub returns-clause-taken : goal.returns-clause-taken
 returns-clause-taken g c =
@@ -61,12 +46,5 @@ returns-clause-sound g c =
     c.requires.sound c.in_ok-idle.ensures.live c.in_ok-idle.ensures.settings (subst (λ (r : RouterSettings). IsOriginator r own) c.in_ok-idle.ensures.settings is_own) c.take_typed.ensures.settings
     (takes packet.messages (packet_spelled c.args.bytes.now packet c.as_slice-spans.result.now spelled) read)
 
-pub returns-clause-near : goal.returns-clause-near
-returns-clause-near g c = λ both.
-    let (idle, quiet) = both_true c.in_ok-idle.idle.near c.in_ok-fates.quiet.near (subst IsTrue c.and.ensures.near both) in
-    near_after c.args.self.now.bases.neighbourhood c.args.last c.expire.new.self.bases.neighbourhood c.args.arrival.now c.take_typed.new.self.bases.neighbourhood c.args.arrival.now (c.in_ok-idle.ensures.near idle) (c.in_ok-fates.ensures.near quiet)
-
 pub returns-clause-advertised : goal.returns-clause-advertised
-returns-clause-advertised g c = λ both.
-    let (idle, quiet) = both_true c.in_ok-idle.idle.advertised c.in_ok-fates.quiet.advertised (subst IsTrue c.and.ensures.advertised both) in
-    advertised_after c.args.self.now.bases.topology c.expire.new.self.bases.topology c.take_typed.new.self.bases.topology (c.in_ok-idle.ensures.advertised idle) (c.in_ok-fates.ensures.advertised quiet)
+returns-clause-advertised g c = grind (arith, common_steps, both_true, advertised_after, c.and.ensures.advertised, c.in_ok-idle.ensures.advertised, c.in_ok-fates.ensures.advertised)

@@ -1,4 +1,4 @@
-use Rattle.mesh_bases.proofs.Common.{◌<◌, ℕ, IsTrue, sym, subst, refl, [], ◌∷◌, ◌++◌, List, length, take, arith, ap, ◌∙◌, append-nil, append_assoc, take_all, slice_get-get_or, RouterSettings, IsOriginator, item_at, Span, MessageFields, Fate, Frame, SoundBases, TakesMessage, TakesMessages, No_messages, messages_sound, kept_fates}
+use Rattle.mesh_bases.proofs.Common.{common_steps, ◌<◌, ℕ, IsTrue, sym, subst, refl, [], ◌∷◌, ◌++◌, List, length, take, arith, ap, ◌∙◌, append-nil, append_assoc, take_all, slice_get-get_or, RouterSettings, IsOriginator, item_at, Span, MessageFields, Fate, Frame, SoundBases, TakesMessage, TakesMessages, No_messages, messages_sound, kept_fates}
 use Rattle.mesh_bases.proofs.HeldLemmas.Fates.{kept_more, none_kept}
 use Rattle.mesh_bases.proofs.HeldLemmas.Quiet.{advertised_after, advertised_equal, both_true, near_after, near_equal}
 use Rattle.mesh_bases.proofs.ReadingLemmas.Messages.{read_at, read_count, takes_more}
@@ -9,9 +9,7 @@ pub loop-i-init : goal.loop-i-init
 loop-i-init g c = record { taken = ([], [], c.new-fates.ensures ∙ none_kept c.args.keeps_fates, sym (append-nil _), λ messages spelled reads. No_messages); settings = refl; near = λ quiet. near_equal _ _ c.args.arrival.now refl; advertised = λ quiet. advertised_equal _ _ refl }
 
 pub bounds-spans-i : goal.bounds-spans-i
-bounds-spans-i g c =
-    let (messages, spelled, reads) = c.requires.messages in
-    let h = spelled.count in let k = read_count messages c.args.typed.now reads in let l = c.loop-i-test.true in omega (arith, h, k, l)
+bounds-spans-i g c = grind (arith, common_steps, read_count, c.requires.messages)
 
 pub octets_of-octets-requires : goal.octets_of-octets-requires
 octets_of-octets-requires g c =
@@ -69,12 +67,6 @@ loop-i-preserved g c =
           advertised_after c.args.self.now.bases.topology c.loop-i.self.bases.topology c.take_message.new.self.bases.topology (c.loop-i.invariant.advertised before) (c.in_ok-fate.ensures.advertised here);
     }
 
-pub take_message-requires-clause-now : goal.take_message-requires-clause-now
-take_message-requires-clause-now g c = c.requires.now
-
-pub take_message-requires-clause-iface : goal.take_message-requires-clause-iface
-take_message-requires-clause-iface g c = subst (λ (r : RouterSettings). c.args.arrival.iface < length r.interfaces) (sym c.loop-i.invariant.settings) c.requires.iface
-
 pub returns-clause-taken : goal.returns-clause-taken
 returns-clause-taken g c =
     let (given, sent, fates, out, takes) = c.loop-i.invariant.taken in
@@ -92,18 +84,3 @@ returns-clause-taken g c =
           let of_all = subst (λ (m : List MessageFields). TakesMessages old.settings c.originator-own.result c.args.arrival c.args.bytes.now old.bases m (take c.loop-i.i c.args.spans.now) c.loop-i.self.bases sent given) (take_all c.loop-i.i messages (omega (arith, fields, end))) (takes messages spelled reads) in
           subst (λ (s : List Span). TakesMessages old.settings c.originator-own.result c.args.arrival c.args.bytes.now old.bases messages s c.loop-i.self.bases sent given) (take_all c.loop-i.i c.args.spans.now (omega (arith, count, fields, end))) of_all,
     )
-
-pub returns-clause-settings : goal.returns-clause-settings
-returns-clause-settings g c = c.loop-i.invariant.settings
-
-pub returns-clause-near : goal.returns-clause-near
-returns-clause-near g c = c.loop-i.invariant.near
-
-pub returns-clause-advertised : goal.returns-clause-advertised
-returns-clause-advertised g c = c.loop-i.invariant.advertised
-
-pub returns-in_err-fate-clause-settings : goal.returns-in_err-fate-clause-settings
-returns-in_err-fate-clause-settings g c = c.take_message.ensures.settings ∙ c.loop-i.invariant.settings
-
-pub returns-in_err-keep_fate-clause-settings : goal.returns-in_err-keep_fate-clause-settings
-returns-in_err-keep_fate-clause-settings g c = c.take_message.ensures.settings ∙ c.loop-i.invariant.settings
