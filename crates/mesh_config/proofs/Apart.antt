@@ -1,5 +1,5 @@
 -- No sender of an interface stands twice: two arcs that lead to it come from two interfaces, whose addresses differ.
-use Rattle.mesh_config.proofs.Common.{◌≡◌, ℕ, zero, suc, List, [], ◌∷◌, ◌++◌, map, Bool, true, false, not, ◌&&◌, cond, nat_eq, Contains, Option, Some, None, refl, sym, ap, ◌∙◌, list_any, flat_map, slice_get, and_parts, eqb-true, eq-eqb, or_parts, false_from_ne_true, map-append, list_any-append, flat_map-map, map-map, Addr4, Metric, RadioArc, SenderMetric, addr_eq, ◌>>=◌, are_distinct, ends_eq, StatedInterface, StatedRouter, all_addrs, stated_lists, ends_of, HaveNoDuplicates, AddressLists, first_addr, with_metric, sender_by, sender_pair, senders_to, not_both as no_both, same_some, back_distinct, contains_at, contains_flat_map_at, front_distinct, one_part}
+use Rattle.mesh_config.proofs.Common.{arith, common_steps, ◌≡◌, ℕ, zero, suc, List, [], ◌∷◌, ◌++◌, map, Bool, true, false, not, ◌&&◌, cond, nat_eq, Contains, Option, Some, refl, sym, ap, ◌∙◌, list_any, flat_map, slice_get, and_parts, or_parts, false_from_ne_true, map-append, list_any-append, flat_map-map, map-map, Addr4, Metric, RadioArc, SenderMetric, addr_eq, ◌>>=◌, are_distinct, ends_eq, StatedInterface, StatedRouter, all_addrs, stated_lists, ends_of, HaveNoDuplicates, AddressLists, first_addr, with_metric, sender_by, sender_pair, senders_to, not_both as no_both, same_some, back_distinct, contains_at, contains_flat_map_at, front_distinct, one_part}
 use Rattle.mesh_atoms.proofs.Lookups.{addr_equiv, same_addr}
 use Rattle.mesh_config.proofs.JoinFacts.{bind_some}
 
@@ -55,15 +55,11 @@ abbrev given : Metric → Bool → Option Addr4 → List Addr4
 given metric leads first = map addr_of (cond leads (with_metric metric first) [])
 
 none_given : (a : Addr4) (metric : Metric) (leads : Bool) (first : Option Addr4) → ((c : Addr4) → leads ≡ true → first ≡ Some c → addr_eq a c ≡ false) → list_any (addr_eq a) (given metric leads first) ≡ false
-none_given a metric false first h = refl
-none_given a metric true None h = refl
-none_given a metric true (Some c) h = rw (h c refl refl) refl
+none_given a metric leads first h = grind (arith, common_steps)
 
 apart_given : (metric : Metric) (leads : Bool) (first : Option Addr4) (rest : List Addr4) → ((c : Addr4) → leads ≡ true → first ≡ Some c → list_any (addr_eq c) rest ≡ false)
     → are_distinct addr_eq rest ≡ true → are_distinct addr_eq (given metric leads first ++ rest) ≡ true
-apart_given metric false first rest h apart = apart
-apart_given metric true None rest h apart = apart
-apart_given metric true (Some c) rest h apart = rw (h c refl refl, apart) refl
+apart_given metric leads first rest h apart = grind (arith, common_steps)
 
 abbrev leads_to : ℕ → ℕ → RadioArc → Bool
 leads_to router iface arc = nat_eq arc.to router && nat_eq arc.to_iface iface
@@ -76,11 +72,7 @@ addrs_more : (lists : AddressLists) (arc : RadioArc) (arcs : List RadioArc) (rou
 addrs_more lists arc arcs router iface = map-append addr_of (sender_by lists router iface arc) (senders_to lists arcs router iface)
 
 ends_same : (x y : RadioArc) (router iface : ℕ) → x.from ≡ y.from → x.from_iface ≡ y.from_iface → leads_to router iface x ≡ true → leads_to router iface y ≡ true → ends_eq (ends_of x) (ends_of y) ≡ true
-ends_same x y router iface from from_iface at bt =
-    let p = and_parts (nat_eq x.to router) (nat_eq x.to_iface iface) at in let q = and_parts (nat_eq y.to router) (nat_eq y.to_iface iface) bt in
-    let to : x.to ≡ y.to = eqb-true x.to router p.0 ∙ sym (eqb-true y.to router q.0) in
-    let to_iface : x.to_iface ≡ y.to_iface = eqb-true x.to_iface iface p.1 ∙ sym (eqb-true y.to_iface iface q.1) in
-    rw (eq-eqb x.from y.from from, eq-eqb x.from_iface y.from_iface from_iface, eq-eqb x.to y.to to, eq-eqb x.to_iface y.to_iface to_iface) refl
+ends_same x y router iface from from_iface at bt = grind (arith, common_steps)
 
 -- an arc's sender is none of those that arcs between other interfaces give
 none_again : (lists : AddressLists) (arc : RadioArc) (arcs : List RadioArc) (router iface : ℕ) (a : Addr4) → are_distinct addr_eq (flat_map of_faces lists) ≡ true

@@ -1,14 +1,12 @@
 -- Settings out of what their tables state.
-use Rattle.mesh_config.proofs.Common.{◌≡◌, ℕ, ◌+◌, ◌<◌, suc, List, [], ◌∷◌, ◌++◌, map, length, get_or, take, codes, zero, Bool, true, false, not, All, None, refl, sym, ap, ◌∙◌, subst, arith, list_all, list_any, flat_map, list_all-map, list_any-append, flat_map-map, and_parts, map-append, length-map, map-map, Attached4, Interface, addr_eq, net_eq, are_distinct, is_host, name_eq, StatedRouter, StatedInterface, first, duplicate_unless, same_router, same_interface, same_attached, router_addrs, all_addrs, attaches_no_host, stated_duplicates, interface_fields, IsClear, AreOfOneRouter, InterfaceFields, stated_interface_fields, EachAt, back_distinct, front_distinct}
+use Rattle.mesh_config.proofs.Common.{common_steps, ◌≡◌, ℕ, ◌+◌, ◌<◌, suc, List, [], ◌∷◌, ◌++◌, map, length, get_or, take, codes, zero, Bool, true, not, All, None, refl, sym, ap, ◌∙◌, subst, arith, list_all, list_any, flat_map, list_all-map, list_any-append, flat_map-map, and_parts, map-append, length-map, map-map, Attached4, Interface, addr_eq, net_eq, are_distinct, is_host, name_eq, StatedRouter, StatedInterface, first, duplicate_unless, same_router, same_interface, same_attached, router_addrs, all_addrs, attaches_no_host, stated_duplicates, interface_fields, IsClear, AreOfOneRouter, InterfaceFields, stated_interface_fields, EachAt, back_distinct, front_distinct}
 use Rattle.std.proofs.lemmas.List.Elements.{All-nil, All-cons}
 use Rattle.mesh_config.proofs.ChecksLemmas.Links.{are_distinct-map}
 use Rattle.mesh_config.proofs.KeysLemmas.Elements.{map_take}
 
 -- one more
 pub each_more : {X : Type 0} (Has : ℕ → X → Type 0) (i n : ℕ) (xs : List X) (x : X) → EachAt Has i xs → i + length xs ≡ n → Has n x → EachAt Has i (xs ++ x ∷ [])
-each_more Has i n [] x all here one =
-    let at : n ≡ i = omega (arith, here) in
-    (subst (λ (k : ℕ). Has k x) at one, tt)
+each_more Has i n [] x all here one = grind (arith, common_steps)
 each_more Has i n (y ∷ ys) x all here one =
     let at : (i + 1) + length ys ≡ n = omega (arith, here) in
     (all.0, each_more Has (i + 1) n ys x all.1 at one)
@@ -47,17 +45,11 @@ pub record Passed (a b c d e : Bool) : Type 0 where
   pub in_fifth : e ≡ true
 
 pub all_passed : (a b c d e : Bool) → first (duplicate_unless a (codes "name") ∷ duplicate_unless b (codes "name") ∷ duplicate_unless c (codes "addresses") ∷ duplicate_unless d (codes "net") ∷ duplicate_unless e (codes "net") ∷ []) ≡ None → Passed a b c d e
-all_passed true true true true true h = record { in_first = refl; in_second = refl; in_third = refl; in_fourth = refl; in_fifth = refl }
-all_passed true true true true false h = let bad : ⊥ = cc in absurd bad
-all_passed true true true false e h = let bad : ⊥ = cc in absurd bad
-all_passed true true false d e h = let bad : ⊥ = cc in absurd bad
-all_passed true false c d e h = let bad : ⊥ = cc in absurd bad
-all_passed false b c d e h = let bad : ⊥ = cc in absurd bad
+all_passed a b c d e h = grind (arith, common_steps)
 
 pub stated_passed : (rs : List StatedRouter) → first (stated_duplicates rs) ≡ None
     → Passed (are_distinct same_router rs) (list_all (λ r. are_distinct same_interface r.interfaces) rs) (are_distinct addr_eq (all_addrs rs)) (list_all (λ r. are_distinct same_attached r.attached) rs) (list_all (attaches_no_host (all_addrs rs)) rs)
-stated_passed rs h =
-    all_passed (are_distinct same_router rs) (list_all (λ r. are_distinct same_interface r.interfaces) rs) (are_distinct addr_eq (all_addrs rs)) (list_all (λ r. are_distinct same_attached r.attached) rs) (list_all (attaches_no_host (all_addrs rs)) rs) h
+stated_passed rs h = grind (arith, common_steps, all_passed, same_router)
 
 pub clear_at : (rs : List StatedRouter) (i : ℕ) (d : StatedRouter) → i < length rs → first (stated_duplicates rs) ≡ None → IsClear (get_or rs i d)
 clear_at rs i d within none =

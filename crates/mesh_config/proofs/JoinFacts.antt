@@ -1,5 +1,5 @@
 -- What arcs that are joined by name keep.
-use Rattle.mesh_config.proofs.Common.{◌≡◌, ℕ, zero, suc, List, [], ◌∷◌, ◌++◌, map, length, position, Bool, true, false, cond, codes, nat_eq, nat_lt, slice_index, Option, Some, None, Ok, Err, refl, sym, ◌∙◌, subst, arith, list_all, list_any, slice_get, position_or_len, list_any-append, name_eq, are_distinct, Ends, ends_eq, is_interface, joins_routers, Fault, ReadValue, fault, bad_value, ◌>>=◌, Identifiers, NamedInterface, find_place, known_place, ends, new_ends, joined, joins, ◌>>?◌}
+use Rattle.mesh_config.proofs.Common.{common_steps, ◌≡◌, ℕ, zero, suc, List, [], ◌∷◌, ◌++◌, map, length, position, Bool, true, false, cond, codes, nat_eq, nat_lt, slice_index, Option, Some, None, Ok, Err, refl, sym, ◌∙◌, subst, arith, list_all, list_any, slice_get, list_any-append, are_distinct, Ends, ends_eq, is_interface, joins_routers, Fault, ReadValue, fault, bad_value, ◌>>=◌, Identifiers, NamedInterface, find_place, known_place, ends, new_ends, joined, joins, ◌>>?◌}
 use Rattle.std.proofs.lemmas.Bool.Decides.{nat_tests}
 use Rattle.mesh_config.specs.declared.keys.refusal.TheConstants.{DUPLICATE}
 
@@ -7,18 +7,12 @@ abbrev counts : List Identifiers → List ℕ
 counts routers = map (λ (n : Identifiers). length n.interface_names) routers
 
 position_within : {A : Type 0} (p : A → Bool) (xs : List A) (i : ℕ) → position p xs ≡ Some i → nat_lt i (length xs) ≡ true
-position_within p xs i h = within (position_or_len p xs) (length xs) (nat_lt (position_or_len p xs) (length xs)) i refl h where
-  within : (k n : ℕ) (b : Bool) (i : ℕ) → nat_lt k n ≡ b → cond b (Some k) None ≡ Some i → nat_lt i n ≡ true
-  within k n true i e h = let same : k ≡ i = cc in rw (← same) e
-  within k n false i e h = let bad : ⊥ = cc in absurd bad
+position_within p xs i h = grind (arith, common_steps)
 
 count_at : (routers : List Identifiers) (i : ℕ) (r : Identifiers) → slice_get routers i ≡ Some r → slice_index (counts routers) i ≡ length r.interface_names
 count_at [] i r h = let bad : ⊥ = cc in absurd bad
 count_at (x ∷ xs) zero r h = let same : x ≡ r = cc in rw same
 count_at (x ∷ xs) (suc i) r h = count_at xs i r h
-
-abbrev both : ℕ → ℕ → Option (ℕ × ℕ)
-both a b = Some (a, b)
 
 -- ---- what was looked up one after the other
 pub bind_some : {A B : Type 0} (o : Option A) (f : A → Option B) (y : B) → (o >>= f) ≡ Some y → (x : A) × ((o ≡ Some x) × (f x ≡ Some y))
@@ -26,16 +20,7 @@ bind_some None f y h = let bad : ⊥ = cc in absurd bad
 bind_some (Some x) f y h = (x, (refl, h))
 
 place_within : (routers : List Identifiers) (p : NamedInterface) (a : ℕ × ℕ) → find_place routers p ≡ Some a → is_interface (counts routers) a.0 a.1 ≡ true
-place_within routers p a h =
-    let place : ℕ → Identifiers → Option (ℕ × ℕ) = λ at r. position (name_eq p.1) r.interface_names >>= both at in
-    let one = bind_some (position (λ r. name_eq p.0 r.router_name) routers) (λ at. slice_get routers at >>= place at) a h in
-    let two = bind_some (slice_get routers one.0) (place one.0) a one.1.1 in
-    let three = bind_some (position (name_eq p.1) two.0.interface_names) (both one.0) a two.1.1 in
-    let found : both one.0 three.0 ≡ Some a = three.1.1 in
-    let pair : ℕ × ℕ = (one.0, three.0) in
-    let same : pair ≡ a = cc in
-    let says : ℕ × ℕ → Type 0 = λ x. is_interface (counts routers) x.0 x.1 ≡ true in
-    subst says same (rw (count_at routers one.0 two.0 two.1.0) (position_within (name_eq p.1) two.0.interface_names three.0 three.1.0))
+place_within routers p a h = grind (arith, common_steps, bind_some, count_at, position_within)
 
 -- ---- what was read one after the other
 bind_ok : {A B : Type 0} (r : ReadValue A) (f : A → ReadValue B) (y : B) → (r >>? f) ≡ Ok y → (x : A) × ((r ≡ Ok x) × (f x ≡ Ok y))
@@ -43,13 +28,10 @@ bind_ok (Ok x) f y h = (x, (refl, h))
 bind_ok (Err e) f y h = let bad : ⊥ = cc in absurd bad
 
 known_ok : (key : List ℕ) (found : Option (ℕ × ℕ)) (a : ℕ × ℕ) → known_place key found ≡ Ok a → found ≡ Some a
-known_ok key None a h = let bad : ⊥ = cc in absurd bad
-known_ok key (Some x) a h = cc
+known_ok key found a h = grind (arith, common_steps)
 
 new_of : (p q : Bool) (f g : Fault) (x e : Ends) → cond p (Err f) (cond q (Err g) (Ok x)) ≡ Ok e → (p ≡ false) × ((q ≡ false) × (e ≡ x))
-new_of true q f g x e h = let bad : ⊥ = cc in absurd bad
-new_of false true f g x e h = let bad : ⊥ = cc in absurd bad
-new_of false false f g x e h = let same : e ≡ x = cc in (refl, (refl, same))
+new_of p q f g x e h = grind (arith, common_steps)
 
 pub record Joins (routers : List Identifiers) (earlier : List Ends) (e : Ends) : Type 0 where
   pub in_range : joins_routers (counts routers) e ≡ true

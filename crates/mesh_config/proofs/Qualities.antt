@@ -1,6 +1,5 @@
 -- The qualities of the senders of an interface.
-use Rattle.mesh_config.proofs.Common.{◌≡◌, ℕ, zero, suc, ◌+◌, ◌<◌, ◌≤◌, List, [], ◌∷◌, ◌++◌, map, length, get_or, take, Bool, true, false, cond, nat_eq, ◌&&◌, Option, Some, None, refl, sym, ap, ◌∙◌, arith, flat_map, slice_get, take_more, length-take-le, map-append, append-nil, slice_get_read, map-map, Addr4, QualityStep, Metric, RadioArc, SenderMetric, StatedArc, quality_pair, AddressLists, first_addr, with_metric, sender_by, senders_to, sender_pair, with_steps, with_quality, quality_by, qualities_to, stated_steps, steps_at}
-use Rattle.std.proofs.lemmas.Grind.{flat_map-append}
+use Rattle.mesh_config.proofs.Common.{common_steps, ◌≡◌, ℕ, zero, suc, ◌+◌, ◌<◌, ◌≤◌, List, [], ◌∷◌, ◌++◌, map, length, get_or, take, Bool, cond, nat_eq, ◌&&◌, Option, Some, refl, sym, ap, ◌∙◌, arith, flat_map, slice_get, take_more, length-take-le, map-append, append-nil, slice_get_read, map-map, Addr4, QualityStep, Metric, RadioArc, SenderMetric, StatedArc, quality_pair, AddressLists, first_addr, with_metric, sender_by, senders_to, sender_pair, with_steps, with_quality, quality_by, qualities_to, stated_steps, steps_at, flat_map-append}
 use Rattle.mesh_atoms.specs.declared.admit.SenderQuality.{SenderQuality}
 
 -- the steps of a stated arc are those at its number
@@ -48,9 +47,7 @@ of_steps p = p.0
 
 one_sender : (metric : Metric) (steps : List QualityStep) (leads : Bool) (first : Option Addr4)
     → map of_steps (cond leads (with_quality steps first) []) ≡ map of_metric (cond leads (with_metric metric first) [])
-one_sender metric steps false first = refl
-one_sender metric steps true None = refl
-one_sender metric steps true (Some addr) = refl
+one_sender metric steps leads first = grind (arith, common_steps)
 
 arc_sender : (lists : AddressLists) (router iface : ℕ) (arc : RadioArc) (steps : List QualityStep) → map of_steps (quality_by lists router iface (arc, steps)) ≡ map of_metric (sender_by lists router iface arc)
 arc_sender lists router iface arc steps = one_sender arc.metric steps (nat_eq arc.to router && nat_eq arc.to_iface iface) (first_addr lists arc.from arc.from_iface)

@@ -1,5 +1,5 @@
 -- The setup of `run` out of what its tables state.
-use Rattle.mesh_config.proofs.Common.{◌≡◌, ℕ, List, [], ◌∷◌, map, length, Bool, true, false, codes, nat_le, le-leb, Option, Some, None, refl, sym, ap, ◌∙◌, lit≤, list_all, and_parts, length-map, map-map, Members, Addr4, Interface, RouterSettings, SenderMetric, Times, addr_eq, are_distinct, are_senders, StatedRouter, Fault, first, listed, interfaces, stated_interface_fields, sub_times, run_table_visits, address, neighbours, StatedNeighbourIs, NeighbourIs, QualityIs, CostsAre, RunRouterIs, RunIs, Identifiers, tables_in, duplicates, duplicate_unless, stated_identifiers, interface_fields, CostFields, interface_costs, RouterParts, settings_parts, stated_parts, IsClear, CostsSay, SetupSays, SetupFrom, setup_visits, run_checks, the_router, addr_in, neighbour_addrs, stated_costs, same_neighbour, senders_checked, stated_run_checks}
+use Rattle.mesh_config.proofs.Common.{arith, common_steps, ◌≡◌, ℕ, List, [], ◌∷◌, map, length, Bool, true, codes, nat_le, le-leb, Option, None, refl, sym, ap, ◌∙◌, lit≤, list_all, and_parts, length-map, map-map, Members, Addr4, Interface, RouterSettings, SenderMetric, Times, addr_eq, are_distinct, are_senders, StatedRouter, Fault, first, listed, interfaces, sub_times, run_table_visits, address, neighbours, StatedNeighbourIs, CostsAre, RunRouterIs, RunIs, Identifiers, tables_in, duplicates, duplicate_unless, stated_identifiers, CostFields, interface_costs, settings_parts, stated_parts, IsClear, CostsSay, SetupSays, SetupFrom, setup_visits, run_checks, the_router, addr_in, neighbour_addrs, stated_costs, same_neighbour, senders_checked, stated_run_checks}
 use Rattle.mesh_atoms.specs.declared.settings.RunSetup.{RunSetup}
 use Rattle.mesh_config.specs.declared.run_tables.stated.Costs.{Costs}
 use Rattle.mesh_config.specs.declared.run_tables.stated.StatedNeighbour.{StatedNeighbour}
@@ -49,14 +49,11 @@ pub clear_one : (d : StatedRouter) → first (duplicates (stated_identifiers d �
 clear_one d none = clear_at (d ∷ []) 0 d (lit≤ tt) (ap first (sym (duplicates_same (d ∷ []))) ∙ none)
 
 pub last_passed : (found : Option Fault) (b : Bool) (key : List ℕ) → first (found ∷ duplicate_unless b key ∷ []) ≡ None → b ≡ true
-last_passed None true key h = refl
-last_passed None false key h = absurd cc
-last_passed (Some f) b key h = absurd cc
+last_passed found b key h = grind (arith, common_steps)
 
 -- ---- what the tables say
 pub same_count : (times : Times) (d : StatedRouter) (r : RouterSettings) → settings_parts r ≡ stated_parts times d → length d.interfaces ≡ length r.interfaces
-same_count times d r same =
-    sym (length-map d.interfaces stated_interface_fields) ∙ (ap (λ (p : RouterParts). length p.interfaces) (sym same) ∙ length-map r.interfaces interface_fields)
+same_count times d r same = grind (arith, common_steps)
 
 neighbours_said : (t : Members) (d : Costs) → CostsAre t d → neighbour_addrs t ≡ map (λ n. n.cost.sender) d.neighbours
 neighbours_said t d is = map_said StatedNeighbourIs (λ n. addr_in (address n)) (λ (n : StatedNeighbour). n.cost.sender) (λ n s h. rw h.is_cost.is_sender) (listed (neighbours t)) d.neighbours is.are_neighbours
@@ -78,11 +75,7 @@ pub setup_same : (t : Members) (d : StatedRun) → first (run_table_visits t) �
 setup_same t d passed is = rw (passed, first_one (first (run_checks (the_router t)))) (checks_same (the_router t) d.router is.is_router)
 
 costs_say : (t : Members) (d : Costs) (i : Interface) → interface_costs i ≡ stated_costs d → CostsAre t d → CostsSay t i
-costs_say t d i same is = record {
-  is_metric = rw (ap (λ (f : CostFields). f.0) same) is.is_metric;
-  are_senders = rw (ap (λ (f : CostFields). f.1.0) same) (Each-map StatedNeighbourIs NeighbourIs (λ n. n.cost) (λ n x h. h.is_cost) (listed (neighbours t)) d.neighbours is.are_neighbours);
-  are_qualities = rw (ap (λ (f : CostFields). f.1.1) same) (Each-map StatedNeighbourIs QualityIs (λ n. n.quality) (λ n x h. h.is_quality) (listed (neighbours t)) d.neighbours is.are_neighbours);
-}
+costs_say t d i same is = grind (arith, common_steps, Each-map, listed)
 
 pub setup_says : (t : Members) (d : StatedRun) (s : RunSetup) → RunIs t d → SetupFrom d s → SetupSays t s
 setup_says t d s is from = record {

@@ -1,5 +1,5 @@
 -- The whole scenario: from what the tables state to what they say of settings.
-use Rattle.mesh_config.proofs.Common.{◌≡◌, ℕ, List, [], ◌∷◌, map, refl, flat_map, Data, Members, Addr4, Attached4, StatedRouter, StatedInterface, StatedArc, listed, Each, table_of, name, addresses, interfaces, attached, net, InterfaceIs, AttachedIs, RouterIs, ArcIs, Identifiers, table_identifiers, net_in, tables_in, places_table, stated_identifiers, router_addrs, arc_places}
+use Rattle.mesh_config.proofs.Common.{arith, common_steps, ◌≡◌, ℕ, List, [], ◌∷◌, map, refl, flat_map, Data, Members, Addr4, StatedRouter, StatedArc, listed, Each, table_of, addresses, RouterIs, ArcIs, Identifiers, table_identifiers, places_table, stated_identifiers, arc_places}
 
 -- what each table says, of all of them
 pub map_said : {X B : Type 0} (Is : Members → X → Type 0) (F : Members → B) (G : X → B) → ((t : Members) (x : X) → Is t x → F t ≡ G x) → (ds : List Data) (xs : List X) → Each Is ds xs
@@ -22,15 +22,7 @@ named_of a a' b b' c c' d d' p q r s = rw (p, q, r, s)
 
 -- what must not stand twice of a router's table is that of the stated router
 pub named_same : (t : Members) (d : StatedRouter) → RouterIs t d → table_identifiers t ≡ stated_identifiers d
-named_same t d is =
-    let called : listed (name t) ≡ d.head.name = rw is.is_head.are_fields.is_name in
-    let ifaces : map (λ i. listed (name i)) (tables_in (interfaces t)) ≡ map (λ i. i.name) d.interfaces =
-    map_said InterfaceIs (λ i. listed (name i)) (λ (i : StatedInterface). i.name) (λ i x h. rw h.is_name) (listed (interfaces t)) d.interfaces is.are_interfaces in
-    let addrs : flat_map (λ i. listed (addresses i)) (tables_in (interfaces t)) ≡ router_addrs d =
-    flat_said InterfaceIs (λ i. listed (addresses i)) (λ (i : StatedInterface). i.addrs) (λ i x h. rw h.is_addrs) (listed (interfaces t)) d.interfaces is.are_interfaces in
-    let nets : map (λ a. net_in (net a)) (tables_in (attached t)) ≡ map (λ a. (a.net.addr, a.net.prefix)) d.attached =
-    map_said AttachedIs (λ a. net_in (net a)) (λ (a : Attached4). (a.net.addr, a.net.prefix)) (λ a x h. rw h.is_net) (listed (attached t)) d.attached is.are_attached in
-    named_of (listed (name t)) d.head.name _ (map (λ i. i.name) d.interfaces) _ (router_addrs d) _ (map (λ a. (a.net.addr, a.net.prefix)) d.attached) called ifaces addrs nets
+named_same t d is = grind (arith, common_steps, listed, map_said, addresses, flat_said, named_of)
 
 pub all_named_same : (ds : List Data) (rs : List StatedRouter) → Each RouterIs ds rs → map table_identifiers (map table_of ds) ≡ map stated_identifiers rs
 all_named_same ds rs all = map_said RouterIs table_identifiers stated_identifiers named_same ds rs all

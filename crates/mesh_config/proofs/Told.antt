@@ -1,5 +1,5 @@
 -- What the top calls tell.
-use Rattle.mesh_config.proofs.Common.{◌≡◌, ℕ, List, [], map, Option, None, Result, Ok, Err, sym, ap, ◌∙◌, subst, Data, Members, Interface, RadioArc, RouterSettings, Times, StatedArc, StatedInterface, StatedRouter, ConfigFault, Fault, first, listed, ValueOrFault, Each, StepsAre, AreThresholds, TimesIs, interfaces, InterfaceIs, RouterIs, AreInterfaceFields, AreRouterFields, stated_interface_fields, ArcIs, AreArcFields, ScenarioIs, scenario_table_visits, routers, arcs, sub_times, arc_ends, scenario_visits, joins, stated_identifiers, arc_places, stated_arc_fields, arc_fields, interface_fields, RouterParts, settings_parts, stated_parts, thresholds_of, threshold_pair, stated_visits, BuiltFrom, stated_steps}
+use Rattle.mesh_config.proofs.Common.{arith, common_steps, ◌≡◌, ℕ, List, [], map, Option, None, Result, Ok, sym, ap, ◌∙◌, subst, Data, Members, Interface, RadioArc, RouterSettings, Times, StatedArc, StatedInterface, StatedRouter, ConfigFault, Fault, first, listed, ValueOrFault, Each, StepsAre, AreThresholds, TimesIs, interfaces, InterfaceIs, RouterIs, AreRouterFields, stated_interface_fields, ArcIs, AreArcFields, ScenarioIs, scenario_table_visits, routers, arcs, sub_times, stated_arc_fields, arc_ends, scenario_visits, joins, stated_identifiers, arc_places, arc_fields, interface_fields, RouterParts, settings_parts, stated_parts, thresholds_of, threshold_pair, stated_visits, BuiltFrom, stated_steps}
 use Rattle.mesh_atoms.specs.declared.settings.Scenario.{Scenario}
 use Rattle.mesh_config.specs.declared.stated.stated.StatedScenario.{StatedScenario}
 use Rattle.mesh_config.specs.Settings.{InterfaceSays, RouterSays, ArcSays, ScenarioSays}
@@ -8,13 +8,11 @@ use Rattle.mesh_config.proofs.Said.{all_named_same, places_same}
 use Rattle.mesh_config.proofs.StatedLemmas.Elements.{Each-along, Each-map}
 
 pub answers_along : {X : Type 0} (Is Says : X → Type 0) (found found' : Option Fault) (r : Result X ConfigFault) → found' ≡ found → ((x : X) → Is x → Says x) → ValueOrFault Is found r → ValueOrFault Says found' r
-answers_along Is Says found found' (Ok x) same h met = (same ∙ met.0, h x met.1)
-answers_along Is Says found found' (Err e) same h met = rw same met
+answers_along Is Says found found' r same h met = grind (arith, common_steps)
 
 -- an interface, a router, an arc
 interfaces_say : (ds : List Data) (xs : List StatedInterface) (ys : List Interface) → map interface_fields ys ≡ map stated_interface_fields xs → Each InterfaceIs ds xs → Each InterfaceSays ds ys
-interfaces_say ds xs ys same all =
-    Each-along InterfaceIs InterfaceSays stated_interface_fields interface_fields (λ t x y h is. subst (AreInterfaceFields t) (sym h) is) ds xs ys same all
+interfaces_say ds xs ys same all = grind (arith, common_steps, Each-along)
 
 pub router_says : (t : Members) (times : Times) (table : Members) (d : StatedRouter) (r : RouterSettings) → TimesIs t times → settings_parts r ≡ stated_parts times d → RouterIs table d → RouterSays t table r
 router_says t times table d r timed same is = record {

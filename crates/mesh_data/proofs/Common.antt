@@ -30,7 +30,7 @@ pub use Rattle.mesh_paths.proofs.SettledNeighbours.{owner}
 pub use Rattle.mesh_paths.specs.SettledRoutes.{Arrives, At_gateway, Goes_on, HasRow, HopsTo, IsSettledNetwork, NextHopsLead, RowsAreLeast}
 pub use Rattle.std.proofs.Common.{Bool, Bor, Contains, IfNone, IfOk, IfSome, IsTrue, List, None, Option, Result, Some, [], ap, arith, cond, eqb, false, inl, inr, length, length-append, map, nat_lt, option_map, refl, slice_get, slice_index_or, subst, suc, sym, take, true, zero, ℕ, ◌*◌, ◌++◌, ◌+◌, ◌-◌, ◌/◌, ◌<◌, ◌^◌, ◌↔◌, ◌∙◌, ◌∷◌, ◌≡◌, ◌≢◌, ◌≤◌, ◌⊎◌}
 pub use Rattle.std.proofs.lemmas.Bool.{and_parts, cases_Bool, cases_lt, cases_order, eqb-true, ltb-false, ltb-true, or_cases, or_parts}
-pub use Rattle.std.proofs.lemmas.List.{get_or_default, length-map}
+pub use Rattle.std.proofs.lemmas.Grind.{common_steps}
 pub use Rattle.std.proofs.lemmas.List.Elements.{AllWithin-more, Contains-append_cases, at_read}
 pub use Rattle.std.proofs.lemmas.List.Sums.{sum_by-append}
 pub use Rattle.std.proofs.lemmas.Option.{slice_get-map, slice_get_read, slice_get_within}

@@ -1,5 +1,5 @@
 -- What the law of settled routes says of a packet on its way.
-use Rattle.mesh_data.proofs.Common.{◌≡◌, ◌≢◌, ℕ, ◌+◌, ◌-◌, ◌*◌, ◌/◌, ◌^◌, ◌<◌, ◌⊎◌, inl, inr, refl, sym, ◌∙◌, ap, subst, arith, List, length, slice_get_within, Addr4, NetAddr, Metric, Route, Scenario, host, metric_value, Leads, HopCosts, Joined, By, IsWillingRouter, AddressOf, Attaches, RadioLeast, To_router, To_network, At, State, WillingWalk, Here, Direct, Further, LeastWilling, LeastToNet, IsSettledNetwork, HopsTo, owner, Holds, LeadsToNext, same_addr, same_host}
+use Rattle.mesh_data.proofs.Common.{common_steps, ◌≡◌, ◌≢◌, ℕ, ◌+◌, ◌-◌, ◌*◌, ◌/◌, ◌^◌, ◌<◌, ◌⊎◌, inl, inr, refl, sym, ◌∙◌, ap, subst, arith, List, length, slice_get_within, Addr4, NetAddr, Metric, Route, Scenario, host, metric_value, Leads, HopCosts, Joined, By, IsWillingRouter, AddressOf, Attaches, RadioLeast, To_router, To_network, At, State, WillingWalk, Here, Direct, Further, LeastWilling, LeastToNet, IsSettledNetwork, HopsTo, owner, Holds, LeadsToNext, same_addr, same_host}
 use Rattle.mesh_atoms.proofs.Nets.{same_net}
 
 -- Networks and addresses
@@ -15,9 +15,7 @@ host_held a b h = same_addr a b (sym (one_each a.0) ∙ h)
 
 -- two networks of one prefix that have an address are the same
 pub holds_one : (net other : NetAddr) (a : Addr4) → Holds net a → Holds other a → net.prefix ≡ other.prefix → net ≡ other
-holds_one net other a h g e =
-    let k : a.0 / 2 ^ (32 - other.prefix) * 2 ^ (32 - other.prefix) ≡ net.addr.0 = subst (λ (p : ℕ). a.0 / 2 ^ (32 - p) * 2 ^ (32 - p) ≡ net.addr.0) e h in
-    same_net net other (same_addr net.addr other.addr (sym k ∙ g)) e
+holds_one net other a h g e = grind (arith, common_steps, same_net, same_addr)
 
 -- Routers
 

@@ -1,5 +1,5 @@
 -- What one router does.
-use Rattle.mesh_data.proofs.Common.{◌≡◌, ◌↔◌, ℕ, ◌+◌, ◌<◌, ◌≤◌, ◌⊎◌, inl, inr, refl, sym, ◌∙◌, ap, subst, arith, Bool, true, false, IsTrue, List, length, Contains, Option, Some, None, Bor, slice_index_or, slice_get, AllWithin, AllWithin-more, at_read, slice_get_within, Addr4, RouterSettings, HasAddress, of_each, NetAddr, Attached4, Holds, IfSome, IfNone, map, nat_lt, option_map, cond, ltb-true, ltb-false, length-map, slice_get-map, slice_get_read, Metric, Route, RadioArc, Scenario, metric_value, Router, AddressOf, Attaches, At, AreStates, State, IsLongest, HasNoRouteTo, Arrived, NoArc, End, Delivers, TakesRoute, LeadsToNext, EndsWith, At_network, Without_arc, IsLongestOf, IsLongerOf, longer_of, IsDecisionBy, IsDecision, IsAddressAt, IsArcOf, IsMoveBy, IsMove}
+use Rattle.mesh_data.proofs.Common.{common_steps, ◌≡◌, ◌↔◌, ℕ, ◌+◌, ◌<◌, ◌≤◌, ◌⊎◌, inl, inr, refl, sym, ◌∙◌, ap, subst, arith, Bool, true, false, IsTrue, List, length, Contains, Option, Some, None, Bor, slice_index_or, slice_get, IfSome, IfNone, map, nat_lt, option_map, cond, AllWithin, AllWithin-more, at_read, slice_get_within, slice_get-map, slice_get_read, Addr4, RouterSettings, HasAddress, State, of_each, NetAddr, Attached4, Holds, IsLongest, HasNoRouteTo, ltb-true, ltb-false, Metric, Route, RadioArc, Scenario, metric_value, Router, AddressOf, Attaches, At, AreStates, Arrived, NoArc, End, Delivers, TakesRoute, LeadsToNext, EndsWith, At_network, Without_arc, IsLongestOf, IsLongerOf, longer_of, IsDecisionBy, IsDecision, IsAddressAt, IsArcOf, IsMoveBy, IsMove}
 use Rattle.std.specs.Option.{option_copied}
 use Rattle.mesh_data.specs.declared.decisions.Decision.{Decision}
 use Rattle.mesh_data.specs.declared.decisions.Decision.TheVariants.{Here, Network, Nowhere, Via}
@@ -27,13 +27,7 @@ NoLonger a x u = Holds u.net a → u.net.prefix ≤ x.net.prefix
 
 pub longest_more : (xs : List Attached4) (n : ℕ) (a : Addr4) (best result : Option Attached4) (x : Attached4) → n < length xs → x ≡ slice_index_or xs n x →
     IsLongerOf a best x result → IsLongestOf xs n a best → IsLongestOf xs (n + 1) a result
-longest_more xs n a best result x l at (inl (holds, longer, is)) before =
-    subst (λ (r : Option Attached4). IsLongestOf xs (n + 1) a r) (sym is)
-    ((n, l, sym at), holds, AllWithin-more (NoLonger a x) xs 0 n (all best longer before) (at_read xs (NoLonger a x) n x l at (λ h. omega arith)))
-  where
-    all : (b : Option Attached4) → ((t : Attached4) → b ≡ Some t → t.net.prefix ≤ x.net.prefix) → IsLongestOf xs n a b → AllWithin (NoLonger a x) xs 0 n
-    all None long none = upto (λ u. Holds u.net a → ⊥) (NoLonger a x) xs n (λ u never h. absurd (never h)) none
-    all (Some t) long (has, holds_t, most) = upto (NoLonger a t) (NoLonger a x) xs n (λ u low h. omega (arith, low h, long t refl)) most
+longest_more xs n a best result x l at (inl (holds, longer, is)) before = grind (arith, common_steps, AllWithin-more, at_read, upto)
 longest_more xs n a best result x l at (inr (off, is)) before =
     subst (λ (r : Option Attached4). IsLongestOf xs (n + 1) a r) (sym is) (stays best off before)
   where
@@ -56,8 +50,7 @@ longest_more xs n a best result x l at (inr (off, is)) before =
         )
 
 pub longest_at_end : (xs : List Attached4) (n : ℕ) (a : Addr4) (best : Option Attached4) → length xs ≤ n → IsLongestOf xs n a best → IsLongestOf xs (length xs) a best
-longest_at_end xs n a None end none = λ k d l u. none k d l (omega arith)
-longest_at_end xs n a (Some t) end (has, holds, most) = (has, holds, λ k d l u. most k d l (omega arith))
+longest_at_end xs n a best end none = grind (arith, common_steps)
 
 -- The decision
 
@@ -82,17 +75,13 @@ module _ (routes : List Route) (own : List Attached4) (a : Addr4) where
 
   pub decided : (o : Option (Bor Route)) (copied : Option Route) (best : Option Attached4) (t : Decision) → copied ≡ option_copied o → t ≡ longer_of copied best →
       IfSome o (λ r. IsLongest routes a r.now) → IfNone o (HasNoRouteTo routes a) → IsLongestOf own (length own) a best → IsDecisionBy routes own a t
-  decided o copied best t is e some none h =
-      subst (λ (u : Decision). IsDecisionBy routes own a u) (sym (e ∙ ap (λ (c : Option Route). longer_of c best) is)) (by_longest o best some none h)
+  decided o copied best t is e some none h = grind (arith, common_steps, by_longest)
 
 pub router_at : (xs ys : List RouterSettings) (x : ℕ) (r : RouterSettings) → xs ≡ ys → x < length ys → r ≡ slice_index_or xs x r → slice_get ys x ≡ Some r
 router_at xs ys x r e l is = slice_get_read ys (length ys) x r refl l (subst (λ (zs : List RouterSettings). r ≡ slice_index_or zs x r) e is)
 
 pub state_within : {R : Type 0} (f : R → State) (s : Scenario) (xs : List R) (x : ℕ) (r : RouterSettings) → AreStates s (map f xs) → Router s x r → x < length xs
-state_within f s xs x r states router =
-    let (p, at) = states.all x r router in
-    let l : x < length (map f xs) = slice_get_within (map f xs) x p at.is in
-    subst (λ (n : ℕ). x < n) (length-map xs f) l
+state_within f s xs x r states router = grind (arith, common_steps, slice_get_within)
 
 pub state_at : {R : Type 0} (f : R → State) (xs : List R) (x : ℕ) (item : R) → x < length xs → item ≡ slice_index_or xs x item → At (map f xs) x (f item)
 state_at f xs x item l is = record { is = slice_get-map f xs x ∙ ap (option_map f) (slice_get_read xs (length xs) x item refl l is) }

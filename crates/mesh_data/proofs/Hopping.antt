@@ -1,5 +1,5 @@
 -- The hops of a trip, one after another.
-use Rattle.mesh_data.proofs.Common.{◌≡◌, ℕ, ◌+◌, ◌<◌, ◌≤◌, inl, inr, refl, sym, ◌∙◌, subst, arith, List, [], ◌∷◌, ◌++◌, length, length-append, map, sum_by, Result, IfOk, length-map, Contains-append_cases, sum_by-append, slice_get_within, Addr4, RouterSettings, Scenario, State, End, Hop, Trip, OfEachTrip, IsHop, AreChained, EndsWith, IsTrip, IsOnTheWay, contains_none as none_of}
+use Rattle.mesh_data.proofs.Common.{◌≡◌, ℕ, ◌+◌, ◌≤◌, inl, inr, refl, sym, ◌∙◌, subst, arith, List, [], ◌∷◌, ◌++◌, length, length-append, Result, IfOk, sum_by, Contains-append_cases, sum_by-append, slice_get_within, Addr4, Scenario, State, Hop, Trip, OfEachTrip, IsHop, AreChained, IsTrip, IsOnTheWay}
 use Rattle.std.proofs.lemmas.Result.{IfOk-weaker}
 use Rattle.mesh_paths.proofs.ShortLists.{only}
 
@@ -24,17 +24,6 @@ module _ (s : Scenario) (states : List State) (a : Addr4) (from : ℕ) where
         small = omega (arith, w.small);
         within = slice_get_within s.routers hop.to is.reaches.settings is.reaches.router;
       }
-
-  pub ends : (x : ℕ) (hops : List Hop) (metric made : ℕ) (end : End) (k : ℕ) → IsOnTheWay s states a from x hops metric made → made ≤ length s.routers → EndsWith s states a x made end k →
-      IsTrip s states from a (record { hops = hops; last = x; end = end; metric = metric + k })
-  ends x hops metric made end k w low is = record {
-    chain = w.chain;
-    each = w.each;
-    few = omega (arith, w.count);
-    added = k;
-    ends = subst (λ (n : ℕ). EndsWith s states a x n end k) (sym w.count) is;
-    metric = (let sum : metric ≡ sum_by (λ (h : Hop). h.metric) hops = w.sum in omega arith);
-  }
 
 -- what holds of each trip holds of one that is made
 pub of_made : (P : Scenario → List State → ℕ → Addr4 → Trip → Type 0) → OfEachTrip P → {E : Type 0} (s : Scenario) (states : List State) (from : ℕ) (a : Addr4) (made : Result Trip E) →

@@ -1,5 +1,5 @@
 -- A trip to an attached network arrives at a router that attaches it.
-use Rattle.mesh_data.proofs.Common.{◌≡◌, ◌≢◌, ℕ, ◌+◌, ◌<◌, ◌≤◌, ◌⊎◌, inl, inr, refl, sym, ◌∙◌, ap, subst, arith, List, [], ◌∷◌, length, Contains, cases_lt, Addr4, NetAddr, Route, Scenario, metric_value, HopCosts as RadioHop, Joined, Itself, IsWillingRouter, AddressOf, Attaches, RadioLeast, At, State, LeastWilling, IsSettledNetwork, RowsAreLeast, NextHopsLead, Arrives, Goes_on, At_gateway, Holds, metric_above_zero, End, Arrived, NoArc, TooFar, Hop, Trip, IsNetworkOf, HasOneGateway, ArrivesAt, OfEachTrip, ReachesNetwork, NeverStrays, TakesRoute, Delivers, HasNoWay, IsHop, AreChained, EndsWith, At_address, At_network, Without_route, After_all, Without_arc, IsTrip}
+use Rattle.mesh_data.proofs.Common.{common_steps, ◌≡◌, ◌≢◌, ℕ, ◌+◌, ◌<◌, ◌≤◌, ◌⊎◌, inl, inr, refl, sym, ◌∙◌, ap, subst, arith, List, [], ◌∷◌, length, Contains, cases_lt, Addr4, NetAddr, Route, Scenario, metric_value, HopCosts as RadioHop, Joined, Itself, IsWillingRouter, AddressOf, Attaches, RadioLeast, At, State, LeastWilling, IsSettledNetwork, RowsAreLeast, NextHopsLead, Arrives, Goes_on, At_gateway, Holds, metric_above_zero, End, Arrived, NoArc, TooFar, Hop, Trip, IsNetworkOf, HasOneGateway, ArrivesAt, OfEachTrip, ReachesNetwork, NeverStrays, TakesRoute, Delivers, HasNoWay, IsHop, AreChained, EndsWith, At_address, At_network, Without_route, After_all, Without_arc, IsTrip}
 use Rattle.mesh_data.proofs.Costs.{host_held, holds_one, at_one, either, radio_one, willing_one, walk_joined, reached, reaches, within}
 use Rattle.mesh_data.proofs.Attached.{one_metric}
 use Rattle.mesh_data.proofs.Longest.{least_exists, longest}
@@ -126,9 +126,7 @@ module _ (R : RowsAreLeast) (N : NextHopsLead) (s : Scenario) (states : List Sta
   on_the_way x c hops last _ _ w (At_network {k} off d) =
       let l = w.left in
       omega (arith, d.beyond l.row (stands_in last w.rest l d.state d.at) (held_by last w.rest l), full last w.rest l, O.longest last k d.net l.joined d.attaches d.holds)
-  on_the_way x c hops last _ _ w (Without_route off d) =
-      let l = w.left in
-      d.no_route l.row (stands_in last w.rest l d.state d.at) (held_by last w.rest l)
+  on_the_way x c hops last _ _ w (Without_route off d) = grind (arith, common_steps, stands_in, held_by)
   on_the_way x c hops last _ _ w (After_all off row routes made) =
       let few_hops : length hops < length s.routers = few Left Done (IsHop s states a) (HasOneGateway s from net) (length s.routers) way x c hops last w in
       omega arith

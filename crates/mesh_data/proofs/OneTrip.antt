@@ -1,5 +1,6 @@
 -- Over sound routers one trip alone leads from a router to an address.
-use Rattle.mesh_data.proofs.Common.{◌≡◌, ℕ, ◌+◌, ◌<◌, ◌≤◌, inl, inr, refl, sym, ◌∙◌, ap, subst, arith, List, [], ◌∷◌, length, Contains, slice_index_or, AllPairs, cases_order, get_or_default, Addr4, NetAddr, Route, Scenario, metric_value, Leads, AddressOf, Attaches, IsSoundScenario, State, sound_scenario, End, Arrived, NoRoute, NoArc, TooFar, Hop, Trip, AreSound, IsOnly, OfEachTrip, Delivers, TakesRoute, HasNoWay, LeadsToNext, IsHop, AreChained, EndsWith, At_address, At_network, Without_route, After_all, Without_arc, not_before_itself, contains_tail as in_tail, contains_head as front}
+use Rattle.mesh_data.proofs.Common.{common_steps, ◌≡◌, ℕ, ◌+◌, ◌<◌, ◌≤◌, inl, inr, refl, sym, ◌∙◌, ap, subst, arith, List, [], ◌∷◌, length, Contains, slice_index_or, AllPairs, cases_order, Addr4, NetAddr, Route, Scenario, metric_value, Leads, AddressOf, Attaches, IsSoundScenario, State, sound_scenario, End, Arrived, NoRoute, NoArc, TooFar, Hop, Trip, AreSound, IsOnly, OfEachTrip, Delivers, TakesRoute, HasNoWay, LeadsToNext, IsHop, AreChained, EndsWith, At_address, At_network, Without_route, After_all, Without_arc, not_before_itself, contains_tail as in_tail, contains_head as front}
+use Rattle.std.proofs.lemmas.List.{get_or_default}
 use Rattle.mesh_atoms.specs.Nodes.{IsBefore}
 use Rattle.mesh_data.proofs.Attached.{one_metric}
 use Rattle.mesh_data.proofs.Costs.{holds_one, at_one}
@@ -27,15 +28,8 @@ one_route rows up row other (k, in_k, at_k) (l, in_l, at_l) same = elim (cases_o
   | inr (inr less) ↦ absurd (apart rows up other row l k less in_k at_l at_k (sym same))
 ]
 
-abbrev hop_with : Hop → ℕ → ℕ → ℕ → Hop
-hop_with h iface to metric = record { from = h.from; iface = iface; to = to; metric = metric }
-
 same_hop : (h g : Hop) → h.from ≡ g.from → h.iface ≡ g.iface → h.to ≡ g.to → h.metric ≡ g.metric → h ≡ g
-same_hop h g from iface to metric =
-    ap (λ (n : ℕ). hop_with h n h.to h.metric) iface
-    ∙ ap (λ (n : ℕ). hop_with h g.iface n h.metric) to
-    ∙ ap (λ (n : ℕ). hop_with h g.iface g.to n) metric
-    ∙ ap (λ (n : ℕ). (let r : Hop = record { from = n; iface = g.iface; to = g.to; metric = g.metric } in r)) from
+same_hop h g from iface to metric = grind (arith, common_steps)
 
 module _ (s : Scenario) (states : List State) (sound : AreSound states) (a : Addr4) where
   scenario : IsSoundScenario s
@@ -66,9 +60,7 @@ module _ (s : Scenario) (states : List State) (sound : AreSound states) (a : Add
       omega (arith, d.beyond row there t.longest.holds, t.within d.net k d.attaches d.holds)
 
   no_route : (x : ℕ) (row : Route) → HasNoWay s states a x → TakesRoute s states a x row → ⊥
-  no_route x row w t =
-      let same : t.state ≡ w.state = at_one states x t.state w.state t.at w.at in
-      w.no_route row (subst (λ (p : State). Contains p.routes row) same t.longest.stands) t.longest.holds
+  no_route x row w t = grind (arith, common_steps, at_one)
 
   no_network : (x k : ℕ) → HasNoWay s states a x → Delivers s states a x k → ⊥
   no_network x k w d = w.no_network d.net k d.attaches d.holds
@@ -178,15 +170,8 @@ module _ (s : Scenario) (states : List State) (sound : AreSound states) (a : Add
         adds = more.adds;
       }
 
-abbrev trip_with : List Hop → ℕ → End → ℕ → Trip
-trip_with hops last end metric = record { hops = hops; last = last; end = end; metric = metric }
-
 same_trip : (t u : Trip) → t.hops ≡ u.hops → t.last ≡ u.last → t.end ≡ u.end → t.metric ≡ u.metric → t ≡ u
-same_trip t u hops last end metric =
-    ap (λ (h : List Hop). trip_with h t.last t.end t.metric) hops
-    ∙ ap (λ (n : ℕ). trip_with u.hops n t.end t.metric) last
-    ∙ ap (λ (e : End). trip_with u.hops u.last e t.metric) end
-    ∙ ap (λ (n : ℕ). trip_with u.hops u.last u.end n) metric
+same_trip t u hops last end metric = grind (arith, common_steps)
 
 pub one_trip : OfEachTrip IsOnly
 one_trip s states from a t is sound u other =

@@ -1,5 +1,5 @@
 -- A trip to a router's address arrives there at the least cost.
-use Rattle.mesh_data.proofs.Common.{◌≡◌, ◌≢◌, ℕ, ◌+◌, ◌<◌, ◌≤◌, inl, inr, refl, sym, ◌∙◌, ap, subst, arith, List, [], ◌∷◌, length, Contains, Addr4, NetAddr, Route, Scenario, host, metric_value, AddressOf, RadioLeast, At, State, IsSettledNetwork, HasRow, RowsAreLeast, NextHopsLead, Arrives, Goes_on, At_gateway, Holds, owner, metric_above_zero, End, Arrived, Hop, Trip, OfEachTrip, ReachesRouter, TakesRoute, IsHop, AreChained, EndsWith, At_address, At_network, Without_route, After_all, Without_arc, IsTrip, same_host}
+use Rattle.mesh_data.proofs.Common.{common_steps, ◌≡◌, ◌≢◌, ℕ, ◌+◌, ◌<◌, ◌≤◌, inl, inr, refl, sym, ◌∙◌, ap, subst, arith, List, [], ◌∷◌, length, Contains, Addr4, NetAddr, Route, Scenario, host, metric_value, AddressOf, RadioLeast, At, State, IsSettledNetwork, HasRow, RowsAreLeast, NextHopsLead, Arrives, Goes_on, At_gateway, Holds, owner, metric_above_zero, End, Arrived, Hop, Trip, OfEachTrip, ReachesRouter, TakesRoute, IsHop, AreChained, EndsWith, At_address, At_network, Without_route, After_all, Without_arc, IsTrip, same_host}
 use Rattle.mesh_data.proofs.Costs.{host_holds, holds_one, at_one, either, radio_one, reached, reaches, within}
 use Rattle.mesh_data.proofs.Falling.{Step, Falls, Wandered, Came, falls, few, total}
 
@@ -87,16 +87,8 @@ module _ (R : RowsAreLeast) (N : NextHopsLead) (s : Scenario) (states : List Sta
   on_the_way : (x c : ℕ) (hops : List Hop) (last : ℕ) (end : End) (added : ℕ) → Wandered Left Done (IsHop s states a) (Unit {0}) (length s.routers) x c hops last →
       EndsWith s states a last (length hops) end added → ⊥
   on_the_way x c hops last _ _ w (At_address here) = not_here last w.rest w.left here
-  on_the_way x c hops last _ _ w (At_network {k} off d) =
-      let (row, stands, e, _) = w.left.has in
-      let same : w.left.state ≡ d.state = at_one states last w.left.state d.state w.left.at d.at in
-      let short : row.dest.prefix < d.net.prefix = d.beyond row (subst (λ (p : State). Contains p.routes row) same stands) (subst (λ (n : NetAddr). Holds n a) (sym e) (host_holds a)) in
-      let full : row.dest.prefix ≡ 32 = ap (λ (n : NetAddr). n.prefix) e in
-      omega (arith, d.net.within)
-  on_the_way x c hops last _ _ w (Without_route off d) =
-      let (row, stands, e, _) = w.left.has in
-      let same : w.left.state ≡ d.state = at_one states last w.left.state d.state w.left.at d.at in
-      d.no_route row (subst (λ (p : State). Contains p.routes row) same stands) (subst (λ (n : NetAddr). Holds n a) (sym e) (host_holds a))
+  on_the_way x c hops last _ _ w (At_network {k} off d) = grind (arith, common_steps, at_one, host_holds)
+  on_the_way x c hops last _ _ w (Without_route off d) = grind (arith, common_steps, at_one, host_holds)
   on_the_way x c hops last _ _ w (After_all off row routes made) =
       let l : length hops < length s.routers = few Left Done (IsHop s states a) (Unit {0}) (length s.routers) way x c hops last w in
       omega arith

@@ -1,5 +1,5 @@
 -- How a probe begins: its number, and its first frames.
-use Rattle.mesh_probe.proofs.Common.{◌≡◌, refl, ℕ, zero, suc, ◌<◌, ◌≤◌, inl, inr, sym, ◌∙◌, ap, subst, arith, List, [], ◌∷◌, length, Some, None, map, get_or, common_steps, All, All-nil, All-cons, All-append, slice_get_cases, Addr4, RouterSettings, Scenario, Router, At, State, IsOriginator, Everywhere, on_each, Coverage, NoNumber, Done, Transmission, sent_by, Flood, CanHear, IsOfInterface, IsLeastUnknown, IsProbeFrame, SendsOnceFrom, IsTcOf, tc_key, AreRoutersAt, HasLeastNumber, IsKnown, IsProbeFlood, IsTcNoted, same_some}
+use Rattle.mesh_probe.proofs.Common.{◌≡◌, refl, ℕ, zero, suc, ◌<◌, ◌≤◌, inl, inr, sym, subst, arith, List, [], ◌∷◌, length, Some, None, map, get_or, All, common_steps, All-nil, All-cons, All-append, slice_get_cases, Addr4, RouterSettings, Scenario, Router, At, State, IsOriginator, Everywhere, on_each, Coverage, NoNumber, Done, Transmission, sent_by, Flood, CanHear, IsOfInterface, IsLeastUnknown, IsProbeFrame, SendsOnceFrom, IsTcOf, tc_key, AreRoutersAt, HasLeastNumber, IsKnown, IsProbeFlood, IsTcNoted, same_some}
 use Rattle.mesh_probe.proofs.Prefix.{sends_once}
 use Rattle.mesh_probe.proofs.Queues.{one_sent}
 use Rattle.mesh_probe.proofs.Turns.{state_there}
@@ -37,8 +37,7 @@ first_owned s w r is (suc i) octets few =
 
 pub first_are : (origin : ℕ) (p : State) (frames : List Transmission) (count : ℕ) (bytes octets : List ℕ) (r : RouterSettings) → frames ≡ sent_by origin (on_each count bytes) →
     count ≡ length r.interfaces → r ≡ p.settings → bytes ≡ octets → frames ≡ sent_by origin (on_each (length p.settings.interfaces) octets)
-first_are origin p frames count bytes octets r are number its same =
-    are ∙ ap (λ n. sent_by origin (on_each n bytes)) (number ∙ ap (λ (t : RouterSettings). length t.interfaces) its) ∙ ap (λ b. sent_by origin (on_each (length p.settings.interfaces) b)) same
+first_are origin p frames count bytes octets r are number its same = grind (arith, common_steps)
 
 module _ (s : Scenario) (states : List State) (origin : ℕ) (net : AreRoutersAt s states s.end) where
   -- the state of the router that probes

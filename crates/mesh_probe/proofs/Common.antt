@@ -6,7 +6,7 @@ pub use Rattle.mesh_atoms.proofs.Values.{addr_itself, one_originator, same_addre
 pub use Rattle.mesh_atoms.specs.Base.{Base, Expires, HasDistinctKeys, Same, addr_eq, base_of, find, flood_eq, if_live, link_eq}
 pub use Rattle.mesh_atoms.specs.Codes.Codes.{IsSentCode, metric_value, time_value}
 pub use Rattle.mesh_atoms.specs.Hello.{Flooding, IsRoundedUp, Says}
-pub use Rattle.mesh_atoms.specs.Live.{Live, LiveNoted, trim}
+pub use Rattle.mesh_atoms.specs.Live.{Live, LiveNoted}
 pub use Rattle.mesh_atoms.specs.Radio.{AddressOf, Adjacent, By, Itself, Joined, Joins, OriginatorOf, Router}
 pub use Rattle.mesh_atoms.specs.Settled.{AreStates, At, IsLinkTo, IsTwoHopBy}
 pub use Rattle.mesh_atoms.specs.State.{Bases, HasAddressOn, HasLink, HasSymmetric, HasSymmetricWith, HasTwoHop, IsOriginator, Neighbourhood, NotedMessages, State, is_symmetric, link_at, state_of}
@@ -23,7 +23,7 @@ pub use Rattle.mesh_atoms.specs.declared.tuples.LinkKey.{LinkKey}
 pub use Rattle.mesh_atoms.specs.declared.tuples.Noted.{Noted}
 pub use Rattle.mesh_flood.specs.Noting.{AfterNote, Notes}
 pub use Rattle.mesh_flood.specs.Standing.{HasFullSet, HasNoted}
-pub use Rattle.mesh_flood.specs.Verdict.{forward_by, has_no_hops, is_far, is_forwarded, is_full, is_last, is_received, key_of}
+pub use Rattle.mesh_flood.specs.Verdict.{forward_by, has_no_hops, is_forwarded, is_full, is_last, is_received, key_of}
 pub use Rattle.mesh_flood.specs.declared.verdict.Forward.{Forward}
 pub use Rattle.mesh_flood.specs.declared.verdict.Heading.{Heading}
 pub use Rattle.mesh_machine.specs.Frames.{octets_at, on_each}
@@ -51,8 +51,8 @@ pub use Rattle.mesh_wire.specs.Rehop.{HasHop, hopped, one_hop_on}
 pub use Rattle.mesh_wire.specs.Rules.{Keeps}
 pub use Rattle.mesh_wire.specs.TcRules.{BreaksTc}
 pub use Rattle.mesh_wire.specs.Writes.{WritesLeastTc, alone}
-pub use Rattle.std.proofs.Common.{All, Bool, Contains, Err, IfOk, IsSome, IsTrue, List, None, Ok, Option, Result, Some, [], add-one, ap, append_assoc, arith, cond, drop, false, filter, get_or, if◌then◌else◌, inl, inr, is_some, length, lit≤, map, nat_eq, nat_le, nat_lt, not, option_map, refl, rules, slice_get, slice_index_or, slice_range, slice_set, subst, suc, sym, take, true, zero, ℕ, ◌*◌, ◌++◌, ◌+◌, ◌-◌, ◌<◌, ◌||◌, ◌∙◌, ◌∷◌, ◌≡◌, ◌≢◌, ◌≤◌, ◌⊎◌}
-pub use Rattle.std.proofs.lemmas.Bool.{and_parts, cases_Bool, cases_eq, cases_lt, eq-eqb, eqb-true, false≢true, leb-false, lt-leb, lt-ltb, or_cases, or_parts, or_right}
+pub use Rattle.std.proofs.Common.{All, Bool, Contains, IfOk, IsSome, IsTrue, List, None, Option, Result, Some, [], add-one, ap, append_assoc, arith, cond, drop, false, filter, get_or, inl, inr, is_some, length, lit≤, map, nat_eq, nat_le, not, option_map, refl, rules, slice_get, slice_index_or, slice_range, slice_set, subst, suc, sym, take, true, zero, ℕ, ◌*◌, ◌++◌, ◌+◌, ◌-◌, ◌<◌, ◌∙◌, ◌∷◌, ◌≡◌, ◌≢◌, ◌≤◌, ◌⊎◌}
+pub use Rattle.std.proofs.lemmas.Bool.{and_parts, cases_Bool, cases_eq, cases_lt, eq-eqb, eqb-true, false≢true, leb-false, lt-leb, or_cases, or_parts, or_right}
 pub use Rattle.std.proofs.lemmas.Grind.{common_steps}
 pub use Rattle.std.proofs.lemmas.List.{append-nil, drop-append-le, drop_all, drop_more, get_or-map, length-append, length-map, map-append, map-set, take-append-drop, take-append-le, take_all}
 pub use Rattle.std.proofs.lemmas.List.Elements.{All-append, All-cons, All-contains, All-head, All-nil, All-tail, Contains-append_cases, Contains-append_left, Contains-append_right, Contains-get_or, Contains-push, Contains-push_cases}

@@ -1,5 +1,5 @@
 -- A message reaches each router that a chain of links leads to.
-use Rattle.mesh_probe.proofs.Common.{◌≡◌, ℕ, zero, suc, ◌+◌, ◌<◌, ◌≤◌, ◌⊎◌, inl, inr, refl, sym, ◌∙◌, ap, subst, arith, List, [], ◌∷◌, ◌++◌, length, Contains, Option, Some, Bool, true, false, nat_eq, IsDistinct, AllByRecursion, eq-eqb, eqb-true, cases_Bool, cases_eq, or_right, or_parts, or_cases, Contains-append_left, Contains-append_right, Contains-append_cases, Contains-push, Contains-push_cases, IsDistinct-cons, length-le_from_distinct_below, contains_tail as in_tail, contains_cases, contains_none as none_of, true_false}
+use Rattle.mesh_probe.proofs.Common.{common_steps, ◌≡◌, ℕ, zero, suc, ◌+◌, ◌<◌, ◌≤◌, ◌⊎◌, inl, inr, refl, sym, ◌∙◌, ap, subst, arith, List, [], ◌∷◌, ◌++◌, length, Contains, Option, Some, Bool, true, false, nat_eq, IsDistinct, AllByRecursion, eq-eqb, cases_Bool, cases_eq, or_right, or_parts, or_cases, Contains-append_left, Contains-append_right, Contains-append_cases, Contains-push, Contains-push_cases, IsDistinct-cons, length-le_from_distinct_below, contains_tail as in_tail, contains_cases, contains_none as none_of, true_false}
 use Rattle.mesh_probe.proofs.Wave.{has, Spread, Going, frames_on, where_sent, Net, Takes, Deaf, Quiet, Sends, Hears, All_heard, One_hears, Wave, Ends, Goes, WaveFrom, Chain, Itself, On, IsSelected, IsCovering, WaveCovers}
 use Rattle.std.proofs.Math.Nat.{eq-or-lt_of_le}
 
@@ -12,10 +12,7 @@ pub has_later : (w q : ℕ) (ws : List ℕ) → has ws q ≡ true → has (w ∷
 has_later w q ws h = or_right (nat_eq q w) (has ws q) h
 
 pub has_cases : (w q : ℕ) (ws : List ℕ) → has (w ∷ ws) q ≡ true → (q ≡ w) ⊎ (has ws q ≡ true)
-has_cases w q ws h = elim (or_cases (nat_eq q w) (has ws q) h) [
-  | inl e ↦ inl (eqb-true q w e)
-  | inr e ↦ inr e
-]
+has_cases w q ws h = grind (arith, common_steps, or_cases)
 
 pub none_distinct : IsDistinct nat_eq []
 unfolding IsDistinct
@@ -100,13 +97,7 @@ module _ (n : Net) (good : IsCovering n) where
         (k : ℕ) → k < n.faces w → (g : Going) × Contains out g × (g.from ≡ w) × (g.iface ≡ k)
 
   none : (f : Going) (s : Spread) → Valid s → Mid f s s []
-  none f s v = record {
-    valid = v;
-    grows = grows_itself s;
-    frames = λ g c. absurd (none_of g c);
-    why = λ q h. inl h;
-    first = λ w h fresh sel k l. true_false h fresh;
-  }
+  none f s v = grind (arith, common_steps, grows_itself)
 
   both : (f : Going) (a b c : Spread) (xs ys : List Going) → Mid f a b xs → Mid f b c ys → Mid f a c (xs ++ ys)
   both f a b c xs ys m k = record {

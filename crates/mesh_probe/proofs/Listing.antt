@@ -1,14 +1,11 @@
 -- The numbers with a property are listed, one after the other.
-use Rattle.mesh_probe.proofs.Common.{ℕ, ◌+◌, ◌<◌, inl, inr, sym, subst, arith, List, [], ◌∷◌, ◌++◌, Contains, get_or, common_steps, cases_eq, Contains-append_left, Contains-push, Contains-push_cases, Contains-get_or, ListsNumbers, contains_none as none_of}
+use Rattle.mesh_probe.proofs.Common.{ℕ, ◌+◌, ◌<◌, inl, inr, sym, subst, arith, List, [], ◌∷◌, ◌++◌, Contains, get_or, common_steps, cases_eq, Contains-append_left, Contains-push, Contains-push_cases, Contains-get_or, ListsNumbers}
 use Rattle.std.proofs.lemmas.List.Quantifiers.{all_pairs_push}
 
 module _ (P : ℕ → Type 0) where
   -- those below a number
   abbrev pub Below : ℕ → ℕ → Type 0
   Below most n = (n < most) × P n
-
-  pub none_listed : ListsNumbers (Below 0) []
-  none_listed = grind (arith, common_steps, none_of)
 
   -- the next number has the property
   pub one_listed : (n : ℕ) (list : List ℕ) → P n → ListsNumbers (Below n) list → ListsNumbers (Below (n + 1)) (list ++ (n ∷ []))

@@ -1,5 +1,5 @@
 -- What is noted of a message, and what is answered to it.
-use Rattle.mesh_probe.proofs.Common.{◌≡◌, ℕ, ◌+◌, ◌<◌, ◌≤◌, inl, inr, refl, sym, ◌∙◌, ap, subst, arith, List, [], length, Option, Some, None, common_steps, Bool, true, false, cond, nat_lt, is_some, lt-ltb, cases_eq, length-le_from_keys, Addr4, FloodKey, Noted, Base, HasDistinctKeys, find, base_of, if_live, Expires, Same, addr_eq, flood_eq, LiveNoted, NotedMessages, Heading, Forward, AfterNote, Notes, key_of, is_full, has_no_hops, forward_by, is_received, is_forwarded, forwarding, IsUnknown, some_of as some_is}
+use Rattle.mesh_probe.proofs.Common.{◌≡◌, ℕ, ◌+◌, ◌<◌, ◌≤◌, inl, inr, refl, sym, ◌∙◌, ap, subst, arith, List, [], length, Option, Some, None, Bool, true, false, cond, is_some, common_steps, cases_eq, length-le_from_keys, Addr4, FloodKey, Noted, Base, HasDistinctKeys, find, base_of, if_live, Expires, Same, addr_eq, flood_eq, LiveNoted, NotedMessages, Heading, Forward, AfterNote, Notes, key_of, is_full, has_no_hops, forward_by, is_received, is_forwarded, forwarding, IsUnknown, some_of as some_is}
 use Rattle.std.specs.Map.{keys_of}
 use Rattle.std.proofs.lemmas.Map.Entries.{length-keys_of}
 use Rattle.std.proofs.lemmas.Map.Made.{is_some-lookup}
@@ -20,34 +20,17 @@ never_own own heading link received forwarded a = rw a refl
 
 pub not_twice : (own : Addr4) (heading : Heading) (link : Option Bool) (received forwarded : Base FloodKey Noted) (e : Noted × ℕ) → find flood_eq forwarded (key_of heading) ≡ Some e →
     is_forwarded (forward_by own heading link received forwarded) ≡ false
-not_twice own heading None received forwarded e found = grind (arith, common_steps)
-not_twice own heading (Some flag) received forwarded e found = grind (arith, common_steps)
+not_twice own heading link received forwarded e found = grind (arith, common_steps)
 
 pub deaf : (own : Addr4) (heading : Heading) (received forwarded : Base FloodKey Noted) →
     (is_received (forward_by own heading None received forwarded) ≡ false) × (is_forwarded (forward_by own heading None received forwarded) ≡ false)
 deaf own heading received forwarded = grind (arith, common_steps)
 
 pub sends_nothing : (count : ℕ) (octets : List ℕ) (answer : Forward) → is_forwarded answer ≡ false → forwarding count octets answer ≡ []
-sends_nothing count octets forward.Do e = absurd (let f : true ≡ false = e in cc)
-sends_nothing count octets forward.Own e = refl
-sends_nothing count octets forward.NotFlooded e = refl
-sends_nothing count octets forward.NoSender e = refl
-sends_nothing count octets forward.NoHops e = refl
-sends_nothing count octets (forward.Seen until) e = refl
-sends_nothing count octets (forward.Done until) e = refl
-sends_nothing count octets forward.NotSelector e = refl
-sends_nothing count octets (forward.Full base) e = refl
+sends_nothing count octets answer e = grind (arith, common_steps)
 
 pub is_do : (answer : Forward) → is_forwarded answer ≡ true → answer ≡ forward.Do
-is_do forward.Do e = refl
-is_do forward.Own e = absurd (let f : false ≡ true = e in cc)
-is_do forward.NotFlooded e = absurd (let f : false ≡ true = e in cc)
-is_do forward.NoSender e = absurd (let f : false ≡ true = e in cc)
-is_do forward.NoHops e = absurd (let f : false ≡ true = e in cc)
-is_do (forward.Seen until) e = absurd (let f : false ≡ true = e in cc)
-is_do (forward.Done until) e = absurd (let f : false ≡ true = e in cc)
-is_do forward.NotSelector e = absurd (let f : false ≡ true = e in cc)
-is_do (forward.Full base) e = absurd (let f : false ≡ true = e in cc)
+is_do answer e = grind (arith, common_steps)
 
 -- Sets
 
@@ -63,8 +46,7 @@ fewer old new distinct to =
     omega (arith, l, e)
 
 live_was : (now : ℕ) (o : Option (Noted × ℕ)) (e : Noted × ℕ) → if_live now o ≡ Some e → o ≡ Some e
-live_was now None e h = absurd (let f : None ≡ Some e = h in cc)
-live_was now (Some f) e h = grind (arith, common_steps)
+live_was now o e h = grind (arith, common_steps)
 
 fewer_live : (now : ℕ) (old new : Base FloodKey Noted) → HasDistinctKeys flood_eq new → Expires flood_eq now old new → length new ≤ length old
 fewer_live now old new distinct expires = fewer old new distinct (λ q e found. (e, live_was now (find flood_eq old q) e (sym (expires q) ∙ found)))
@@ -106,20 +88,10 @@ pub record Stands (key : FloodKey) (now : ℕ) (base : Base FloodKey Noted) : Ty
   pub later : now < e.1
 
 pub stands_live : (key : FloodKey) (now : ℕ) (old new : Base FloodKey Noted) → Stands key now old → Expires flood_eq now old new → Stands key now new
-stands_live key now old new s expires = record {
-  e = s.e;
-  found = (let is : nat_lt now s.e.1 ≡ true = lt-ltb now s.e.1 s.later in
-      expires key ∙ ap (if_live now) s.found ∙ ap (λ (b : Bool). cond b (Some s.e) None) is);
-  later = s.later;
-}
+stands_live key now old new s expires = grind (arith, common_steps)
 
 pub stands_noted : (key other : FloodKey) (now hold : ℕ) (wanted : Bool) (old new : Base FloodKey Noted) → 0 < hold → Stands key now old → Notes wanted other (now + hold) old new → Stands key now new
-stands_noted key other now hold false old new some s same = record { e = s.e; found = same key ∙ s.found; later = s.later }
-stands_noted key other now hold true old new some s sets = by_case (flood_eq other key) (sets key)
-  where
-    by_case : (b : Bool) → find flood_eq new key ≡ cond b (Some (record {}, now + hold)) (find flood_eq old key) → Stands key now new
-    by_case true h = record { e = (record {}, now + hold); found = h; later = omega (arith, some) }
-    by_case false h = record { e = s.e; found = h ∙ s.found; later = s.later }
+stands_noted key other now hold wanted old new some s same = grind (arith, common_steps)
 
 pub stands_new : (key : FloodKey) (now hold : ℕ) (old new : Base FloodKey Noted) → 0 < hold → Notes true key (now + hold) old new → Stands key now new
 stands_new key now hold old new some sets = record {

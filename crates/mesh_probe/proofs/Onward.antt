@@ -1,5 +1,5 @@
 -- A flood, frame by frame: it comes to an end, and the whole of it is a flood.
-use Rattle.mesh_probe.proofs.Common.{◌≡◌, ℕ, suc, ◌+◌, ◌*◌, ◌<◌, ◌≤◌, inl, inr, sym, ◌∙◌, ap, subst, arith, List, [], ◌∷◌, ◌++◌, length, Contains, true, false, Some, map, drop, take, append_assoc, nat_eq, common_steps, All, slice_get, AllPairs, IsDistinct, cases_Bool, append-nil, drop_more, drop_all, take_all, drop-append-le, take-append-le, take-append-drop, length-map, All-head, All-tail, All-append, All-contains, IsDistinct-cons, length-le_from_distinct_below, slice_get_within, get_or_from_slice_get, Addr4, Scenario, State, Transmission, hearers_of, IsInterfaceSender, AllHear, Flood, No_frame_waits, First_frame, CanHear, IsOfInterface, FloodsTo, Nothing_heard, One_more, SendsOnceFrom, AreSentApart, contains_tail as in_tail, contains_head as here}
+use Rattle.mesh_probe.proofs.Common.{◌≡◌, ℕ, suc, ◌+◌, ◌*◌, ◌<◌, ◌≤◌, inl, inr, sym, ◌∙◌, ap, subst, arith, List, [], ◌∷◌, ◌++◌, length, Contains, true, false, Some, map, drop, take, nat_eq, All, slice_get, common_steps, AllPairs, IsDistinct, cases_Bool, append-nil, drop_more, drop_all, take_all, drop-append-le, take-append-le, take-append-drop, length-map, All-head, All-tail, All-append, All-contains, IsDistinct-cons, length-le_from_distinct_below, slice_get_within, get_or_from_slice_get, Addr4, Scenario, State, Transmission, hearers_of, IsInterfaceSender, AllHear, Flood, No_frame_waits, First_frame, CanHear, IsOfInterface, FloodsTo, Nothing_heard, One_more, SendsOnceFrom, AreSentApart, contains_tail as in_tail, contains_head as here}
 use Rattle.mesh_probe.proofs.Covers.{has_cases, none_distinct, none_equal}
 use Rattle.mesh_probe.proofs.Queues.{take_more}
 use Rattle.mesh_probe.proofs.Wave.{has}
@@ -8,8 +8,7 @@ use Rattle.mesh_probe.proofs.Wave.{has}
 completes : {s : Scenario} {now : ℕ} {old : List State} {first : List Transmission} {new : List State} {more heard waiting : List Transmission} {mid : List State} →
     FloodsTo s now old first heard mid waiting → Flood s now mid waiting new more → Flood s now old first new (heard ++ more)
 completes Nothing_heard flood = flood
-completes {s = s} {now = now} {old = old} {first = first} {new = new} {more = more} (One_more {heard = heard} {rest = rest} {more = sent} {f = f} {mid = mid} sender to is hear) flood =
-    subst (λ ts. Flood s now old first new ts) (sym (append_assoc heard (f ∷ []) more)) (completes to (First_frame sender is hear flood))
+completes {s = s} {now = now} {old = old} {first = first} {new = new} {more = more} (One_more {heard = heard} {rest = rest} {more = sent} {f = f} {mid = mid} sender to is hear) flood = grind (arith, common_steps, (completes to (First_frame sender is hear flood)))
 
 -- How many frames there are
 

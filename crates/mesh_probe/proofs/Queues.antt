@@ -1,5 +1,5 @@
 -- Frames behind one another.
-use Rattle.mesh_probe.proofs.Common.{◌≡◌, ℕ, ◌+◌, List, [], ◌∷◌, ◌++◌, sym, ◌∙◌, ap, take, append_assoc, add-one, Some, arith, common_steps, slice_get, map-append, slice_get_within, get_or_from_slice_get, Frame, Transmission, sent_by}
+use Rattle.mesh_probe.proofs.Common.{◌≡◌, ℕ, ◌+◌, List, [], ◌∷◌, ◌++◌, sym, ◌∙◌, ap, take, append_assoc, add-one, Some, arith, slice_get, common_steps, map-append, slice_get_within, get_or_from_slice_get, Frame, Transmission, sent_by}
 use Rattle.std.proofs.Math.Seq.{take-suc}
 
 -- so many items and the next one

@@ -1,12 +1,11 @@
 -- What the laws of floods say of a coverage.
-use Rattle.mesh_probe.proofs.Common.{◌≡◌, ◌≢◌, ℕ, ◌<◌, ◌≤◌, inl, inr, refl, sym, ◌∙◌, ap, subst, arith, List, [], length, Contains, Option, Some, None, map, slice_index_or, Result, Ok, Err, AllPairs, IsSome, IsTrue, IfOk, nat_le, leb-false, cases_Bool, length-map, get_or-map, Scenario, FloodKey, Noted, Base, base_of, find, flood_eq, OriginatorOf, AreStates, State, NotedMessages, HasNoted, HasFullSet, is_full, Coverage, NoNumber, Done, Sending, Transmission, AreUnknown, AreSentApart, IsUnknown, FloodReaches, FloodSendsOnce, key_of_tc, tc_key, AreRoutersAt, AreReached, HasLeastNumber, IfDone, ReachesAll, SendsOnce, ProbesReach, ProbesSendOnce, TellsFlood, sending_of, contains_map, same_some}
+use Rattle.mesh_probe.proofs.Common.{common_steps, ◌≡◌, ◌≢◌, ℕ, ◌<◌, ◌≤◌, inl, inr, sym, ◌∙◌, ap, subst, arith, List, [], length, Contains, Option, None, map, slice_index_or, Result, IsSome, IsTrue, IfOk, nat_le, AllPairs, leb-false, cases_Bool, length-map, get_or-map, Scenario, FloodKey, Noted, Base, base_of, find, flood_eq, OriginatorOf, AreStates, State, NotedMessages, HasNoted, HasFullSet, is_full, Coverage, NoNumber, Done, Sending, Transmission, AreUnknown, AreSentApart, IsUnknown, FloodReaches, FloodSendsOnce, key_of_tc, tc_key, AreRoutersAt, AreReached, HasLeastNumber, IfDone, ReachesAll, SendsOnce, ProbesReach, ProbesSendOnce, TellsFlood, sending_of, contains_map, same_some}
 use Rattle.mesh_probe.specs.declared.coverage.Probe.{Probe}
 
 -- What no router knows
 
 none : {A : Type 0} (o : Option A) → (IsSome o → ⊥) → o ≡ None
-none None never = refl
-none (Some x) never = absurd (never refl)
+none o never = grind (arith, common_steps)
 
 roomy : (base : Base FloodKey Noted) → (IsTrue (is_full base) → ⊥) → length base < 16384
 roomy base never = elim (cases_Bool (nat_le 16384 (length base))) [ inl full ↦ absurd (never full) | inr room ↦ leb-false 16384 (length base) room ]
@@ -62,9 +61,7 @@ probes_send_once law s old new now origin (Done c) routers flood = once s old ne
 module _ (s : Scenario) (old new : List State) (now origin : ℕ) {E : Type 0} where
   pub done_reaches : FloodReaches → (r : Result Probe E) → IfOk r (HasLeastNumber s old origin) → IfOk r (TellsFlood s old now origin new) →
       IfOk r (IfDone (AreReached s origin)) → IfOk r (IfDone (ReachesAll s old now origin))
-  done_reaches law (Ok probe) number flood reached = probes_reach law s old new now origin probe number flood reached
-  done_reaches law (Err e) number flood reached = tt
+  done_reaches law r number flood reached = grind (arith, common_steps, probes_reach)
 
   pub done_once : FloodSendsOnce → AreRoutersAt s old now → (r : Result Probe E) → IfOk r (TellsFlood s old now origin new) → IfOk r (IfDone SendsOnce)
-  done_once law routers (Ok probe) flood = probes_send_once law s old new now origin probe routers.routers flood
-  done_once law routers (Err e) flood = tt
+  done_once law routers r flood = grind (arith, common_steps, probes_send_once)

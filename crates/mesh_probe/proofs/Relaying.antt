@@ -1,5 +1,5 @@
 -- In a settled network the flooding relays cover: who hears a router has a relay of it beside each of its own neighbours.
-use Rattle.mesh_probe.proofs.Common.{◌≡◌, ℕ, zero, suc, ◌+◌, ◌≤◌, ◌<◌, ◌⊎◌, inl, inr, refl, sym, ◌∙◌, ap, subst, arith, List, [], ◌∷◌, Contains, Some, None, Option, slice_get, length, common_steps, Bool, true, slice_get_cases, slice_get_within, Addr4, Metric, LinkKey, Link, RouterSettings, Scenario, Base, HasDistinctKeys, base_of, link_eq, metric_value, Says, Flooding, Joins, Adjacent, Router, AddressOf, At, IsTwoHopBy, IsLinkTo, State, state_of, is_symmetric, HasLink, HasTwoHop, HasSymmetric, HasSymmetricWith, HasAddressOn, tests_symmetric, looks_up_links, SelectorOf, Linked, Unlinked, IsSymmetricWith, IsSettledNetwork, owner, same_state, same_settings, address_in, has_address, state_there, apart, known_address, known_originator, known_by, Known, neighbouring, has_with, shown_near, shows_neighbour, hearers_of, IsInterfaceSender, AllWillFlood, cases_Bool, contains_at, contains_tail as in_tail, contains_cases, same_address, true_false}
+use Rattle.mesh_probe.proofs.Common.{◌≡◌, ℕ, zero, suc, ◌+◌, ◌≤◌, ◌<◌, ◌⊎◌, inl, inr, refl, sym, ◌∙◌, ap, subst, arith, List, [], ◌∷◌, Contains, Some, None, Option, slice_get, length, Bool, true, common_steps, slice_get_cases, slice_get_within, Addr4, Metric, LinkKey, Link, RouterSettings, Scenario, Base, HasDistinctKeys, base_of, link_eq, metric_value, Says, Flooding, Joins, Adjacent, Router, AddressOf, At, IsTwoHopBy, IsLinkTo, State, state_of, is_symmetric, HasLink, HasTwoHop, HasSymmetric, HasSymmetricWith, HasAddressOn, tests_symmetric, looks_up_links, SelectorOf, Linked, Unlinked, IsSymmetricWith, IsSettledNetwork, owner, same_state, same_settings, address_in, has_address, state_there, apart, known_address, known_originator, known_by, Known, neighbouring, has_with, shown_near, shows_neighbour, hearers_of, IsInterfaceSender, AllWillFlood, cases_Bool, contains_at, contains_tail as in_tail, contains_cases, same_address, true_false}
 use Rattle.mesh_atoms.specs.declared.hello.Willing.{Willing as Wills}
 use Rattle.mesh_atoms.specs.declared.tuples.TwoHop.{TwoHop}
 use Rattle.mesh_atoms.specs.declared.tuples.Neighbour.{Neighbour}

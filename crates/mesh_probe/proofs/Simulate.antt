@@ -1,6 +1,5 @@
 -- A flood of the machine's steps is a wave.
-use Rattle.mesh_probe.proofs.Common.{◌≡◌, ℕ, zero, suc, ◌+◌, ◌-◌, ◌<◌, ◌≤◌, ◌⊎◌, inl, inr, refl, sym, ◌∙◌, ap, subst, arith, List, [], ◌∷◌, ◌++◌, length, Contains, Option, Some, None, slice_get, Bool, true, false, nat_eq, nat_le, ◌||◌, if◌then◌else◌, eqb-true, cases_eq, map-append, Addr4, RouterSettings, Scenario, Tc, FloodKey, Link, LinkKey, Noted, Base, base_of, find, addr_eq, flood_eq, if_live, Live, trim, At, AreStates, State, Neighbourhood, NotedMessages, Bases, IsOriginator, link_at, same_addr, MessageFields, SpellsMessage, Keeps, BreaksTc, hopped, Heading, Forward, AfterNote, Notes, key_of, is_last, is_far, has_no_hops, forward_by, is_received, is_forwarded, IsSettledNetwork, owner, originator_in, Arrival, Frame, on_each, Hear, Step, forwarding, Transmission, hearers_of, IsInterfaceSender, sent_by, BecomesAt, AllHear, All_have_heard, Next_hears, Flood, key_of_tc, IsUnknown, AreUnknown, cases_Bool, lt-leb, one_originator, addr_itself as same_eq, contains_tail as in_tail, contains_cases, contains_none as none_of, true_false, same_some}
-use Rattle.mesh_atoms.specs.Quality.{admit_on}
+use Rattle.mesh_probe.proofs.Common.{common_steps, ◌≡◌, ℕ, zero, suc, ◌+◌, ◌-◌, ◌<◌, ◌≤◌, ◌⊎◌, inl, inr, refl, sym, ◌∙◌, ap, subst, arith, List, [], ◌∷◌, ◌++◌, length, Contains, Option, Some, None, slice_get, Bool, true, false, nat_le, cases_eq, cases_Bool, lt-leb, map-append, Addr4, RouterSettings, Scenario, Tc, FloodKey, Link, LinkKey, Noted, Base, base_of, find, addr_eq, flood_eq, Live, At, AreStates, State, Neighbourhood, NotedMessages, Bases, IsOriginator, link_at, same_addr, MessageFields, SpellsMessage, Keeps, BreaksTc, hopped, Heading, Forward, AfterNote, Notes, key_of, is_last, has_no_hops, forward_by, is_received, is_forwarded, IsSettledNetwork, owner, originator_in, Arrival, Frame, on_each, Hear, Step, forwarding, Transmission, hearers_of, IsInterfaceSender, sent_by, BecomesAt, AllHear, All_have_heard, Next_hears, Flood, key_of_tc, IsUnknown, AreUnknown, one_originator, addr_itself as same_eq, contains_tail as in_tail, contains_cases, contains_none as none_of, true_false, same_some}
 use Rattle.mesh_atoms.specs.Sound.{SoundNeighbourhood}
 use Rattle.mesh_wire.specs.Hello.{OriginatorIs}
 use Rattle.mesh_flood.specs.declared.verdict.Forward.TheVariants as forward
@@ -18,39 +17,21 @@ use Rattle.mesh_machine.proofs.Soundness.{same_originator}
 -- Keys
 
 pub same_key : (heading : Heading) (tc : Tc) → heading.kind ≡ 1 → heading.originator ≡ tc.originator → heading.sequence ≡ tc.sequence → key_of heading ≡ key_of_tc tc
-same_key heading tc a b c =
-    ap (λ (n : ℕ). let k : FloodKey = record { kind = n; originator = heading.originator; sequence = heading.sequence } in k) a
-    ∙ ap (λ (n : Addr4). let k : FloodKey = record { kind = 1; originator = n; sequence = heading.sequence } in k) b
-    ∙ ap (λ (n : ℕ). let k : FloodKey = record { kind = 1; originator = tc.originator; sequence = n } in k) c
+same_key heading tc a b c = grind (arith, common_steps)
 
 -- Hops
 
 above_one : (n : ℕ) → nat_le n 1 ≡ false → 1 < n
-above_one zero e = absurd (let f : true ≡ false = e in cc)
-above_one (suc zero) e = absurd (let f : true ≡ false = e in cc)
-above_one (suc (suc n)) e = omega arith
+above_one n e = grind (arith, common_steps)
 
 pub few_hops : (heading : Heading) (l c : ℕ) → heading.limit ≡ Some l → heading.count ≡ Some c → 1 < l → c < 255 → has_no_hops heading ≡ false
-few_hops heading l c e f low far =
-    let a : nat_le l 1 ≡ false = lt-leb l 1 low in
-    let b : nat_eq c 255 ≡ false = elim (cases_Bool (nat_eq c 255)) [ inl t ↦ absurd (let g = eqb-true c 255 t in omega (arith, g, far)) | inr t ↦ t ] in
-    rw (e, f, a, b) refl
+few_hops heading l c e f low far = grind (arith, common_steps, cases_Bool)
 
 pub hops_left : (heading : Heading) (l : ℕ) → heading.limit ≡ Some l → has_no_hops heading ≡ false → 1 < l
-hops_left heading l e nay =
-    let last : is_last heading.limit ≡ false = or_first (is_last heading.limit) (is_far heading.count) nay in
-    above_one l (subst (λ (o : Option ℕ). is_last o ≡ false) e last)
-  where
-    or_first : (a b : Bool) → (a || b) ≡ false → a ≡ false
-    or_first true b h = absurd (cc)
-    or_first false b h = refl
+hops_left heading l e nay = grind (arith, common_steps, is_last, above_one)
 
 pub no_hops : (own : Addr4) (heading : Heading) (flag : Bool) (received forwarded : Base FloodKey Noted) → has_no_hops heading ≡ true → is_forwarded (forward_by own heading (Some flag) received forwarded) ≡ false
-no_hops own heading flag received forwarded e = rw e (by_own (addr_eq heading.originator own))
-  where
-    by_own : (a : Bool) → is_forwarded (if a then forward.Own else forward.NoHops) ≡ false
-    by_own true = refl
-    by_own false = refl
+no_hops own heading flag received forwarded e = grind (arith, common_steps)
 
 -- a message of a TC with that hop limit, which breaks no rule after any number of hops, and the routers over which its originator
 -- sends it. What needs a settled network holds where there is a `Prem`
@@ -140,31 +121,7 @@ module _ {s : Scenario} {states : List State} {now origin : ℕ} {tc : Tc} {m : 
 
   facts : (j hops : ℕ) (sender : Addr4) (p q : State) (sent : List Frame) →
       (h : Hearing (at_hop m limit hops) (record { now = now; iface = j; sender = sender }) p q sent) → Facts j hops p q sent h.took.floods.link
-  facts j hops sender p q sent h =
-      let t = h.took in
-      let from : t.heading.originator ≡ tc.originator = same_originator m.originator t.heading.originator tc.originator t.is_heading.originator G.originator in
-      record {
-        own = h.own;
-        is_own = h.is_own;
-        heading = t.heading;
-        key = same_key t.heading tc (t.is_heading.kind ∙ G.kind) from (same_some t.is_heading.sequence G.sequence);
-        from = from;
-        limit_is = t.is_heading.limit;
-        count_is = t.is_heading.count;
-        live = h.live;
-        is_live = h.is_live;
-        octets = h.octets;
-        spelled = h.spelled;
-        is_done = t.is_done;
-        noted = t.noted;
-        answer = t.answer;
-        answered = t.floods.answered;
-        notes = t.floods.notes;
-        sends = t.floods.sends;
-        settings = h.settings;
-        near = ap (λ (b : Bases). b.neighbourhood) h.bases_are ∙ t.near;
-        noted_is = ap (λ (b : Bases). b.noted) h.bases_are ∙ t.noted_is;
-      }
+  facts j hops sender p q sent h = grind (arith, common_steps, same_originator, same_key, same_some)
 
   sound_near : Prem → (w : ℕ) (q0 : State) → At states w q0 → SoundNeighbourhood q0.settings now q0.bases.neighbourhood
   sound_near prem w q0 at = subst (λ (n : ℕ). SoundNeighbourhood q0.settings n q0.bases.neighbourhood) ((G.settled prem).moment w q0 at) ((G.settled prem).sound w q0 at).neighbourhood
@@ -172,11 +129,7 @@ module _ {s : Scenario} {states : List State} {now origin : ℕ} {tc : Tc} {m : 
   -- links stay
   live_links : (w j hops : ℕ) (q0 p q : State) (sent : List Frame) (flag : Option Bool) (st : Spread) → At states w q0 → IsLike w q0 p st → (f : Facts j hops p q sent flag) →
       Prem → (i : ℕ) (key : LinkKey) → link_at f.live.neighbourhood i key ≡ link_at q0.bases.neighbourhood i key
-  live_links w j hops q0 p q sent flag st at like f prem i key =
-      f.is_live.neighbourhood.links i key
-      ∙ ap (λ (o : Option (Link × ℕ)). trim now (if_live now (admit_on p.settings i now o))) (like.links prem i key)
-      ∙ ap (λ (r : RouterSettings). trim now (if_live now (admit_on r i now (link_at q0.bases.neighbourhood i key)))) like.settings
-      ∙ link_stays q0.settings now q0.bases.neighbourhood (sound_near prem w q0 at) i key
+  live_links w j hops q0 p q sent flag st at like f prem i key = grind (arith, common_steps, link_stays, sound_near)
 
   hold_above : (p : State) → 0 < p.settings.times.forwarded_hold
   hold_above p = let l = p.settings.times.sound.forwarded_hold_range.least in omega (arith, l)
@@ -337,19 +290,13 @@ module _ {s : Scenario} {states : List State} {now origin : ℕ} {tc : Tc} {m : 
 
   -- all hearers hear a frame
   other_told : {More : Type 0} {w : ℕ} {old new : Spread} {flag : Option Bool} {sends : Bool} (v : ℕ) → Takes More w old flag new sends → has new.told v ≡ false → has old.told v ≡ false
-  other_told v Deaf e = e
-  other_told {w = w} {old = old} v (Quiet flag nay) e = elim (cases_Bool (has old.told v)) [ inl t ↦ true_false (has_later w v old.told t) e | inr f ↦ f ]
-  other_told {w = w} {old = old} v (Sends flag nay) e = elim (cases_Bool (has old.told v)) [ inl t ↦ true_false (has_later w v old.told t) e | inr f ↦ f ]
+  other_told v h1 e = grind (arith, common_steps, cases_Bool, true_false, has_later)
 
   other_sent : {More : Type 0} {w : ℕ} {old new : Spread} {flag : Option Bool} {sends : Bool} (v : ℕ) → (v ≡ w → ⊥) → Takes More w old flag new sends → has new.sent v ≡ true → has old.sent v ≡ true
-  other_sent v other Deaf e = e
-  other_sent v other (Quiet flag nay) e = e
-  other_sent {w = w} {old = old} v other (Sends flag nay) e = elim (has_cases w v old.sent e) [ inl same ↦ absurd (other same) | inr before ↦ before ]
+  other_sent v other h2 e = grind (arith, common_steps, has_cases)
 
   still_told : {More : Type 0} {w : ℕ} {old new : Spread} {flag : Option Bool} {sends : Bool} (v : ℕ) → Takes More w old flag new sends → has old.told v ≡ true → has new.told v ≡ true
-  still_told v Deaf e = e
-  still_told {w = w} {old = old} v (Quiet flag nay) e = has_later w v old.told e
-  still_told {w = w} {old = old} v (Sends flag nay) e = has_later w v old.told e
+  still_told v h1 e = grind (arith, common_steps, has_later)
 
   replaced : (cur mid : List State) (w hops : ℕ) (q0 q : State) (st : Spread) (flag : Option Bool) (sent : List Frame) → AreLike cur st → At states w q0 → BecomesAt cur w q mid →
       (d : Does w hops q0 q st flag sent) → AreLike mid d.new

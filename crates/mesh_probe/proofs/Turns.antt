@@ -1,5 +1,5 @@
 -- The routers at the ends of a frame's arcs hear it, one after the other.
-use Rattle.mesh_probe.proofs.Common.{◌≡◌, ℕ, ◌+◌, ◌<◌, ◌≤◌, inl, inr, refl, sym, ◌∙◌, ap, subst, arith, List, [], ◌∷◌, ◌++◌, length, Contains, Bool, true, false, Some, map, drop, get_or, append_assoc, common_steps, All, slice_get, slice_set, cond, option_map, cases_eq, map-set, length-map, drop_more, drop_all, append-nil, All-nil, All-cons, All-head, All-tail, All-append, slice_get_within, slice_get-map, slice_get-get_or, slice_get_read, Addr4, RadioArc, RouterSettings, Scenario, Router, At, State, Frame, arc_leads_to, Transmission, is_arc_from, hearers_of, BecomesAt, AllHear, All_have_heard, Next_hears, sent_by, CanHear, IsOfInterface, HearsFrame, same_some}
+use Rattle.mesh_probe.proofs.Common.{◌≡◌, ℕ, ◌+◌, ◌<◌, ◌≤◌, inl, inr, refl, sym, ◌∙◌, ap, subst, arith, List, [], ◌∷◌, ◌++◌, length, Contains, Bool, true, false, Some, map, drop, get_or, append_assoc, All, slice_get, slice_set, cond, option_map, common_steps, cases_eq, map-set, length-map, drop_more, drop_all, append-nil, All-nil, All-cons, All-head, All-tail, All-append, slice_get_within, slice_get-map, slice_get-get_or, slice_get_read, Addr4, RadioArc, RouterSettings, Scenario, Router, At, State, Frame, arc_leads_to, Transmission, is_arc_from, hearers_of, BecomesAt, AllHear, All_have_heard, Next_hears, sent_by, CanHear, IsOfInterface, HearsFrame, same_some}
 use Rattle.mesh_machine.specs.Sendable.{IsSendable}
 use Rattle.mesh_wire.proofs.Standing.{get_set, get_unset}
 
@@ -61,11 +61,7 @@ module _ (s : Scenario) (now : ℕ) (sender : Addr4) (octets : List ℕ) (x i : 
   -- an arc of another interface
   pub passes : (at : ℕ) (arc : RadioArc) (b : Bool) (here : List State) (sent : List Transmission) → arc ≡ get_or s.arcs at arc → at < length s.arcs → b ≡ is_arc_from arc x i → b ≡ false →
       Turning s now sender octets x i at old here sent → Turning s now sender octets x i (at + 1) old here sent
-  passes at arc b here sent is less test leads t = record {
-    can = t.can;
-    owned = t.owned;
-    goes = λ new more h. t.goes new more (subst (λ hearers. AllHear now sender octets hearers here new more) (sym (hearers_left at arc false is less (sym test ∙ leads))) h);
-  }
+  passes at arc b here sent is less test leads t = grind (arith, common_steps, hearers_left)
 
   -- an arc of the frame's interface
   pub turns : (at : ℕ) (arc : RadioArc) (b : Bool) (here there : List State) (sent after : List Transmission) → arc ≡ get_or s.arcs at arc → at < length s.arcs → b ≡ is_arc_from arc x i → b ≡ true →

@@ -1,5 +1,5 @@
 -- A network before its first event.
-use Rattle.mesh_radio.proofs.Common.{◌≡◌, ℕ, ◌+◌, ◌<◌, List, [], ◌∷◌, ◌++◌, refl, sym, ◌∙◌, ap, subst, length, get_or, map, All, arith, Some, None, length-append, slice_get, length-map, map-append, slice_get_read, All-nil, State, RouterSettings, Scenario, IsOpening, Due, Scene, IsFirstDue, AreOpeningUpTo, AreOpening, IsOpeningScene, IsOpeningNet, IsSound, IsFlying, net_of, RadioTraffic, traffic_of, AreArcsOut, each_more, same_at}
+use Rattle.mesh_radio.proofs.Common.{common_steps, ◌≡◌, ℕ, ◌+◌, ◌<◌, List, [], ◌∷◌, ◌++◌, refl, sym, ◌∙◌, ap, subst, length, get_or, map, arith, Some, None, length-append, slice_get, map-append, slice_get_read, All-nil, State, RouterSettings, Scenario, IsOpening, Due, Scene, IsFirstDue, AreOpeningUpTo, AreOpening, IsOpeningScene, IsOpeningNet, IsSound, net_of, each_more, same_at}
 
 pub none_opening : {A : Type 0} (state : A → State) (settings : List RouterSettings) (routers : List A) → routers ≡ [] → AreOpeningUpTo settings 0 (map state routers)
 none_opening {A = A} state settings routers none = subst (λ (l : List A). AreOpeningUpTo settings 0 (map state l)) (sym none) (record { count_is = refl; each = λ x s at. absurd (let no : None ≡ Some s = at in cc) })
@@ -16,34 +16,10 @@ opening_more {A = A} state settings k r router old new lt is p fresh h =
 
 -- there is a router
 pub some_router : {A : Type 0} (state : A → State) (s : Scenario) (routers : List A) → AreOpening s.routers (map state routers) → 0 < length routers
-some_router state s routers h =
-    let least = s.sound_routers.routers.at_least in
-    omega (arith, least, h.count_is, length-map s.routers (λ (r : RouterSettings). r.name), length-map routers state)
+some_router state s routers h = grind (arith, common_steps)
 
 pub opening_sound : (scenario : Scenario) (routers : List State) (due : Due) (s : Scene) → AreOpening scenario.routers routers → IsFirstDue routers due.router due.moment → IsOpeningScene scenario due s → IsSound routers s
-opening_sound scenario routers due s h first opens = record {
-  ways = subst (λ (t : Scenario). AreArcsOut t.arcs t.routers (length t.routers) s.ways) (sym opens.scenario_is) opens.ways;
-  are_routers = record {
-    count = h.count_is ∙ ap (λ (t : Scenario). length t.routers) (sym opens.scenario_is);
-    settings = λ x t at. let (r, stands, fresh) = h.each x t at in rw (opens.scenario_is, fresh.settings_are) stands;
-    lasts = λ x t at. let (r, stands, fresh) = h.each x t at in let e = fresh.last in omega (arith, e);
-  };
-  seed = ap (λ (t : RadioTraffic). t.draws.seed) opens.traffic ∙ ap (λ (t : Scenario). t.seed) (sym opens.scenario_is);
-  flying = subst (λ (t : RadioTraffic). All (IsFlying s.scenario s.now) t.air) (sym opens.traffic) (All-nil (IsFlying s.scenario s.now));
-  due = subst (λ (d : Due). IsFirstDue routers d.router d.moment) (sym opens.due_is) first;
-  due_later = let now = opens.now in omega (arith, now);
-  in_time = let now = opens.now in omega (arith, now);
-  few = let none = opens.last_ticks in omega (arith, none);
-  ended = λ x t at lt. let none = opens.last_ticks in omega (arith, none, lt);
-}
+opening_sound scenario routers due s h first opens = grind (arith, common_steps, All-nil)
 
 pub opening_net : (scenario : Scenario) (routers : List State) (due : Due) (s : Scene) → AreOpening scenario.routers routers → IsOpeningScene scenario due s → IsOpeningNet scenario (net_of routers s)
-opening_net scenario routers due s h opens = record {
-  scenario_is = opens.scenario_is;
-  count = h.count_is;
-  opening = λ x settings state there at.
-      let (r, stands, fresh) = h.each x state at in
-      rw (same_at scenario.routers x settings r there stands) fresh;
-  traffic = ap traffic_of opens.traffic;
-  last_ticks = opens.last_ticks;
-}
+opening_net scenario routers due s h opens = grind (arith, common_steps, same_at)

@@ -18,7 +18,6 @@ pub use Rattle.mesh_machine.specs.Net.{By_delivery, By_last_tick, By_tick, Deliv
 pub use Rattle.mesh_machine.specs.NetRun.{IsOfPackets, IsOfScenario, IsOpeningNet, IsOver, NetRun}
 pub use Rattle.mesh_machine.specs.Sendable.{IsPacket, IsSendable}
 pub use Rattle.mesh_machine.specs.Traffic.{Delivery, IsHeardFirst, Sends, SendsAll, Traffic, frame_of, leaving, with_delivery, with_heard}
-pub use Rattle.mesh_machine.specs.Ways.{AreArcsOut, EntersInterface}
 pub use Rattle.mesh_machine.specs.declared.frame.Frame.{Frame}
 pub use Rattle.mesh_radio.specs.Occurrences.{emission_of, net_event_of}
 pub use Rattle.mesh_radio.specs.Opening.{AreOpening, AreOpeningUpTo, IsOpeningScene}
@@ -29,8 +28,8 @@ pub use Rattle.mesh_radio.specs.Value.{NetValue, states_of}
 pub use Rattle.mesh_radio.specs.declared.occurrences.SentFrame.{SentFrame}
 pub use Rattle.mesh_radio.specs.declared.scene.Due.{Due}
 pub use Rattle.mesh_radio.specs.declared.scene.Scene.{Scene}
-pub use Rattle.mesh_radio.specs.declared.traffic.traffic.RadioTraffic.{RadioTraffic}
-pub use Rattle.std.proofs.Common.{All, Bool, Err, IfOk, IfSome, List, MatchOption, None, Ok, OnOk, Option, Result, Some, [], add-one, ap, append-nil, append_assoc, arith, cond, false, get_or, inl, inr, is_err, length, length-append, length-set, map, min, nat_lt, option_map, refl, slice_get, slice_set, subst, sym, take, true, true≢false, ℕ, ◌++◌, ◌+◌, ◌<◌, ◌∙◌, ◌∷◌, ◌≡◌, ◌≢◌, ◌≤◌, ◌⊎◌}
+pub use Rattle.std.proofs.Common.{All, Bool, IfOk, IfSome, List, MatchOption, None, OnOk, Option, Result, Some, [], add-one, ap, append-nil, append_assoc, arith, false, get_or, inl, inr, is_err, length, length-append, length-set, map, min, nat_lt, option_map, refl, slice_get, slice_set, subst, sym, take, true, true≢false, ℕ, ◌++◌, ◌+◌, ◌<◌, ◌∙◌, ◌∷◌, ◌≡◌, ◌≢◌, ◌≤◌, ◌⊎◌}
+pub use Rattle.std.proofs.lemmas.Grind.{common_steps}
 pub use Rattle.std.proofs.lemmas.Iterator.Adapters.{YieldsList-from_vec}
 pub use Rattle.std.proofs.lemmas.Iterator.Consumers.{YieldsList-end, YieldsList-turn}
 pub use Rattle.std.proofs.lemmas.List.{drop_all, length-map, map-append, map-id, map-set, same_lists, take_all}

@@ -1,5 +1,6 @@
 -- The events of a network, put together.
-use Rattle.mesh_radio.proofs.Common.{◌≡◌, ℕ, ◌+◌, ◌<◌, ◌≤◌, ◌∙◌, List, refl, sym, length, map, arith, subst, All, Option, Some, None, Result, Ok, Err, Bool, true, false, is_err, IfOk, min, slice_get, slice_set, IfSome, MatchOption, option_map, All-weaker, slice_get_within, RadioArc, RouterSettings, Scenario, State, Frame, Event, Hear, IsPacket, IsSendable, Emission, RadioTraffic as Kept, Traffic, Delivery, IsHeardFirst, SendsAll, with_heard, frame_of, traffic_of, same_at, all_turned, NetEvent, Due, Scene, NetState, NetStep, By_delivery, By_tick, By_last_tick, IsFirstDue, IsSender, TicksNext, HasOnlyLastTicks, Moves, Delivers, TicksDue, TicksLast, event_of, frames_of, IsOver, IsOfScenario, IsOfPackets, net_event_of, IsSound, AreRouterStates, HadLastTicks, KeepsDue, IsAfterTick, Lands, TicksOne, Stepped, Happens, IsFlying, IsLeft, IsAirQuiet, IsNextTick, Due_first, At_end, HasNoTick, AllStays, TellsEvent, net_of, arc_ends, first_and_others, others_later, sent_lost}
+use Rattle.mesh_radio.proofs.Common.{common_steps, ◌≡◌, ℕ, ◌+◌, ◌<◌, ◌≤◌, ◌∙◌, List, refl, sym, length, map, arith, subst, All, Option, Some, None, Result, Bool, false, is_err, IfOk, min, slice_get, slice_set, IfSome, MatchOption, option_map, All-weaker, slice_get_within, RadioArc, RouterSettings, Scenario, State, Frame, Event, Hear, IsPacket, IsSendable, Emission, Traffic, Delivery, IsHeardFirst, SendsAll, with_heard, frame_of, traffic_of, same_at, all_turned, NetEvent, Due, Scene, NetState, NetStep, By_delivery, By_tick, By_last_tick, IsFirstDue, IsSender, TicksNext, HasOnlyLastTicks, Moves, Delivers, TicksDue, TicksLast, event_of, frames_of, IsOver, IsOfScenario, IsOfPackets, net_event_of, IsSound, AreRouterStates, HadLastTicks, KeepsDue, IsAfterTick, Lands, TicksOne, Stepped, Happens, IsFlying, IsLeft, IsAirQuiet, IsNextTick, Due_first, At_end, HasNoTick, AllStays, TellsEvent, net_of, arc_ends, first_and_others, others_later, sent_lost}
+use Rattle.mesh_radio.specs.declared.traffic.traffic.RadioTraffic.{RadioTraffic as Kept}
 use Rattle.std.proofs.lemmas.Result.{IfOk-weaker}
 use Rattle.mesh_atoms.specs.declared.addr.Addr4.{Addr4}
 use Rattle.mesh_radio.specs.declared.occurrences.Occurrence.{Occurrence}
@@ -167,11 +168,7 @@ hears_next until s old new d others event outbox then sound first soon lands see
 
 module _ (s : Scene) (old : List State) (sound : IsSound old s) (quiet : IsAirQuiet s) where
   due_next : s.due.moment ≤ s.scenario.end → TicksNext (net_of old s) s.due.router s.due.moment
-  due_next soon = record {
-    first = sound.due;
-    in_time = soon;
-    before_frames = λ k d lt. let late = quiet k d lt in omega (arith, late, soon);
-  }
+  due_next soon = grind (arith, common_steps)
 
   only_last_ticks : s.scenario.end < s.due.moment → HasOnlyLastTicks (net_of old s)
   only_last_ticks late = record {
@@ -182,28 +179,20 @@ module _ (s : Scene) (old : List State) (sound : IsSound old s) (quiet : IsAirQu
   -- a tick that is next
 
   pub tick_within : (tick : Tick) → IsNextTick s tick → tick.router < length s.scenario.routers
-  tick_within tick (Due_first soon is) =
-      let count = sound.are_routers.count in
-      let below : s.due.router < length old = slice_get_within old s.due.router sound.due.state sound.due.stands in
-      subst (λ (t : Tick). t.router < length s.scenario.routers) (sym is) (omega (arith, count, below))
-  tick_within tick (At_end late some is) = subst (λ (t : Tick). t.router < length s.scenario.routers) (sym is) some
+  tick_within tick h1 = grind (arith, common_steps, slice_get_within)
 
   pub tick_in_time : (tick : Tick) → IsNextTick s tick → tick.moment ≤ s.scenario.end
-  tick_in_time tick (Due_first soon is) = subst (λ (t : Tick). t.moment ≤ s.scenario.end) (sym is) soon
-  tick_in_time tick (At_end late some is) = subst (λ (t : Tick). t.moment ≤ s.scenario.end) (sym is) (omega arith)
+  tick_in_time tick h1 = grind (arith, common_steps)
 
   pub tick_later : (tick : Tick) → IsNextTick s tick → s.now ≤ tick.moment
-  tick_later tick (Due_first soon is) = subst (λ (t : Tick). s.now ≤ t.moment) (sym is) sound.due_later
-  tick_later tick (At_end late some is) = subst (λ (t : Tick). s.now ≤ t.moment) (sym is) sound.in_time
+  tick_later tick h1 = grind (arith, common_steps)
 
   -- it is no later than the tick that is due first
   tick_ahead : (tick : Tick) → IsNextTick s tick → tick.moment ≤ s.due.moment
-  tick_ahead tick (Due_first soon is) = subst (λ (t : Tick). t.moment ≤ s.due.moment) (sym is) (omega arith)
-  tick_ahead tick (At_end late some is) = subst (λ (t : Tick). t.moment ≤ s.due.moment) (sym is) (omega (arith, late))
+  tick_ahead tick h1 = grind (arith, common_steps)
 
   tick_few : (tick : Tick) → IsNextTick s tick → tick.last_ticks ≤ length old
-  tick_few tick (Due_first soon is) = subst (λ (t : Tick). t.last_ticks ≤ length old) (sym is) sound.few
-  tick_few tick (At_end late some is) = let count = sound.are_routers.count in subst (λ (t : Tick). t.last_ticks ≤ length old) (sym is) (omega (arith, count, some))
+  tick_few tick h1 = grind (arith, common_steps)
 
   tick_step : (until : ℕ) (new : List State) (event : NetEvent) (then : Traffic) (tick : Tick) → IsNextTick s tick → (ticks : TicksOne until s.scenario old new tick.router tick.moment event (traffic_of s.traffic) then) →
       NetStep (net_of old s) event (network_after (slice_set old tick.router ticks.stepped.whole) s then tick.last_ticks)
@@ -252,24 +241,18 @@ module _ (s : Scene) (old : List State) (sound : IsSound old s) (quiet : IsAirQu
 
   -- nothing at all is left
   pub nothing_left : HasNoTick s → IsLeft old s old s
-  nothing_left (late, done) =
-      let few = sound.few in
-      let count = sound.are_routers.count in
-      record { over = (record { only = only_last_ticks late; last_ticks = omega (arith, few, count, done) }, refl); sound = sound }
+  nothing_left h0 = grind (arith, common_steps, only_last_ticks)
 
 -- What is told of a network after its next event, if there is one
 
 -- where it stayed as it was before
 pub told_since : {E : Type 0} (until : ℕ) (old mid new : List State) (before between after : Scene) (r : Result (Option Occurrence) E) → AllStays old before mid between →
     IfOk r (λ e. TellsEvent until mid between new after (option_map net_event_of e)) → IfOk r (λ e. TellsEvent until old before new after (option_map net_event_of e))
-told_since until old mid new before between after r stays told =
-    subst (λ (states : List State). IfOk r (λ e. TellsEvent until states before new after (option_map net_event_of e))) stays.routers
-    (subst (λ (s : Scene). IfOk r (λ e. TellsEvent until mid s new after (option_map net_event_of e))) stays.scene told)
+told_since until old mid new before between after r stays told = grind (arith, common_steps)
 
 -- and is sound
 pub sound_since : (old mid : List State) (before between : Scene) → AllStays old before mid between → IsSound old before → IsSound mid between
-sound_since old mid before between stays sound =
-    subst (λ (states : List State). IsSound states between) (sym stays.routers) (subst (IsSound old) (sym stays.scene) sound)
+sound_since old mid before between stays sound = grind (arith, common_steps)
 
 pub quiet_since : (old mid : List State) (before between : Scene) → AllStays old before mid between → IsAirQuiet between
 quiet_since old mid before between stays = subst IsAirQuiet (sym stays.scene) stays.quiet
@@ -284,21 +267,11 @@ module _ {E : Type 0} (old new : List State) (before after : Scene) (r : Result 
       one (Some event) h = subst (λ (states : List State). NetStep (net_of old before) event (net_of states after)) (all_kept 0 h.reached new h.rest (λ x t at. omega arith)) h.step
 
   pub told_named : (was : NetState) → net_of old before ≡ was → IfOk r (λ e. IfSome e (IsOfScenario was.scenario))
-  told_named was is = subst (λ (n : NetState). IfOk r (λ e. IfSome e (IsOfScenario n.scenario))) is (IfOk-weaker r (TellsEvent 0 old before new after) _ one told)
-    where
-      one : (e : Option NetEvent) → TellsEvent 0 old before new after e → IfSome e (IsOfScenario before.scenario)
-      one None h = tt
-      one (Some event) h = h.named
+  told_named was is = grind (arith, common_steps)
 
   pub told_packets : IfOk r (λ e. IfSome e IsOfPackets)
-  told_packets = IfOk-weaker r (TellsEvent 0 old before new after) _ one told
-    where
-      one : (e : Option NetEvent) → TellsEvent 0 old before new after e → IfSome e IsOfPackets
-      one None h = tt
-      one (Some event) h = h.packets
+  told_packets = grind (arith, common_steps)
 
 -- a network that isn't spent is sound
 pub sound_unless_spent : {E : Type 0} (until : ℕ) (old new : List State) (before after : Scene) (r : Result (Option NetEvent) E) (spent : Bool) → IfOk r (TellsEvent until old before new after) → spent ≡ is_err r → spent ≡ false → IsSound new after
-sound_unless_spent until old new before after (Ok None) spent told says whole = told.sound
-sound_unless_spent until old new before after (Ok (Some event)) spent told says whole = told.sound
-sound_unless_spent until old new before after (Err e) spent told says whole = let both : true ≡ false = sym says ∙ whole in absurd cc
+sound_unless_spent until old new before after r spent told says whole = grind (arith, common_steps)

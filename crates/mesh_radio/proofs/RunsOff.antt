@@ -1,5 +1,5 @@
 -- Runs to the end in which routers put off relays and routes up to it.
-use Rattle.mesh_radio.proofs.Common.{◌≡◌, ◌∙◌, Bool, true, false, List, Result, Ok, Err, refl, sym, ap, subst, arith, OnOk, is_err, slice_get_within, State, NetEvent, Scenario, NetState, NetStep, By_delivery, By_tick, By_last_tick, IsOver, NetRun, Scene, AreKeptOf, AreSoundStates, Happens, IsLeft, IsSound, RunsOver, net_of, same_at}
+use Rattle.mesh_radio.proofs.Common.{common_steps, ◌≡◌, ◌∙◌, Bool, false, List, Result, sym, ap, subst, arith, OnOk, is_err, slice_get_within, State, NetEvent, Scenario, NetState, NetStep, IsOver, NetRun, Scene, AreKeptOf, AreSoundStates, Happens, IsLeft, IsSound, RunsOver, net_of, same_at}
 use Rattle.mesh_radio.proofs.SameSteps.{net_step_from}
 use Rattle.mesh_radio.proofs.Keeping.{all_kept}
 use Rattle.mesh_radio.proofs.Runs.{RunsOn, one_step, run_over}
@@ -14,18 +14,10 @@ pub record RunsOff (start : NetState) (rests : List State) (s : Scene) : Type 0 
 
 -- before the first event
 pub none_put_off : (routers : List State) (s : Scene) → IsSound routers s → AreSoundStates routers → RunsOff (net_of routers s) routers s
-none_put_off routers s sound sounds = record {
-  reached = routers;
-  runs = λ more new run. (more, run);
-  kept = record { count = refl; each = λ x whole rest at there. rw (same_at routers x whole rest at there) (record { same = refl; from_then = λ late. refl }) };
-  sounds = sounds;
-  sound = sound;
-}
+none_put_off routers s sound sounds = grind (arith, common_steps, same_at)
 
 same_scenario : (old : NetState) (event : NetEvent) (new : NetState) → NetStep old event new → new.scenario ≡ old.scenario
-same_scenario old event new (By_delivery delivers) = delivers.moves.scenario
-same_scenario old event new (By_tick ticks) = ticks.moves.scenario
-same_scenario old event new (By_last_tick ticks) = ticks.moves.scenario
+same_scenario old event new h3 = grind (arith, common_steps)
 
 -- one event more
 pub one_put_off : (start : NetState) (old new : List State) (before after : Scene) (event : NetEvent) → RunsOff start old before → Happens before.scenario.end old before event new after → RunsOff start new after
@@ -58,9 +50,7 @@ none_left_off opening first old new before after runs left =
 -- a network after its run to the end: what was done, and that it is sound unless it is spent
 module _ {T E : Type 0} (old new : List State) (before after : Scene) where
   pub ran_over : (r : Result T E) (was : NetState) → net_of old before ≡ was → OnOk r (RunsOver old before new after) → OnOk r ((events : List NetEvent) × NetRun was events (net_of new after) × IsOver (net_of new after))
-  ran_over (Ok x) was is ran = (ran.events, subst (λ (n : NetState). NetRun n ran.events (net_of new after)) is ran.run, ran.over)
-  ran_over (Err e) was is ran = tt
+  ran_over r was is ran = grind (arith, common_steps)
 
   pub sound_unless_given_up : (r : Result T E) (spent : Bool) → OnOk r (RunsOver old before new after) → spent ≡ is_err r → spent ≡ false → IsSound new after
-  sound_unless_given_up (Ok x) spent ran says whole = ran.sound
-  sound_unless_given_up (Err e) spent ran says whole = let both : true ≡ false = sym says ∙ whole in absurd cc
+  sound_unless_given_up r spent ran says whole = grind (arith, common_steps)

@@ -1,12 +1,8 @@
 -- What holds of the routers after an event.
-use Rattle.mesh_radio.proofs.Common.{◌≡◌, ℕ, ◌+◌, ◌≤◌, List, refl, sym, ◌∙◌, ap, subst, length, get_or, arith, All, Some, inl, inr, length-set, slice_get, slice_set, ◌⊎◌, ◌≢◌, slice_get-get_or, slice_get_within, State, Scenario, Frame, Event, due, IsFirstDue, AreRouterStates, AreKeptOf, HadLastTicks, KeepsDue, Stepped, IsAfterTick, same_at, set_at, item_at as stands}
+use Rattle.mesh_radio.proofs.Common.{common_steps, ◌≡◌, ℕ, ◌+◌, ◌≤◌, List, refl, sym, ◌∙◌, ap, subst, length, get_or, arith, All, Some, inl, inr, length-set, slice_get, slice_set, ◌⊎◌, ◌≢◌, slice_get-get_or, slice_get_within, State, Scenario, Frame, Event, due, IsFirstDue, AreRouterStates, AreKeptOf, HadLastTicks, KeepsDue, Stepped, IsAfterTick, same_at, set_at, item_at as stands}
 
 pub later_routers : (s : Scenario) (earlier now : ℕ) (routers : List State) → earlier ≤ now → AreRouterStates s earlier routers → AreRouterStates s now routers
-later_routers s earlier now routers le h = record {
-  count = h.count;
-  settings = h.settings;
-  lasts = λ y t at. let was = h.lasts y t at in omega (arith, was, le);
-}
+later_routers s earlier now routers le h = grind (arith, common_steps)
 
 module _ {until : ℕ} {old new : List State} {x now : ℕ} {event : Event} {frames : List Frame} {Change : State → State → Type 0} (step : Stepped until old new x now event frames Change) where
   pub same_count : length new ≡ length old
@@ -17,40 +13,15 @@ module _ {until : ℕ} {old new : List State} {x now : ℕ} {event : Event} {fra
   after_step y t at = set_at old x step.is y t (subst (λ (l : List State). slice_get l y ≡ Some t) step.routers at)
 
   pub routers_after : (s : Scenario) → AreRouterStates s now old → AreRouterStates s now new
-  routers_after s h = record {
-    count = same_count ∙ h.count;
-    settings = λ y t at. elim (after_step y t at) [
-      | inl (a, b) ↦ rw (a, b, step.settings) (h.settings x step.was step.stood)
-      | inr (a, b) ↦ h.settings y t b
-    ];
-    lasts = λ y t at. elim (after_step y t at) [
-      | inl (a, b) ↦ rw b step.last
-      | inr (a, b) ↦ h.lasts y t b
-    ];
-  }
+  routers_after s h = grind (arith, common_steps, same_count, after_step)
 
   -- what is kept of the routers is kept of those to which the step leads
   pub kept_after : AreKeptOf until (slice_set old x step.whole) new
-  kept_after = record {
-    count = length-set old x step.whole ∙ sym same_count;
-    each = λ y whole rest at there. elim (set_at old x step.whole y whole at) [
-      | inl (a, b) ↦ elim (after_step y rest there) [
-        | inl (c, d) ↦ rw (b, d) step.rest
-        | inr (c, d) ↦ absurd (c a)
-      ]
-      | inr (a, b) ↦ elim (after_step y rest there) [
-        | inl (c, d) ↦ absurd (a c)
-        | inr (c, d) ↦ rw (same_at old y whole rest b d) (record { same = refl; from_then = λ late. refl })
-      ]
-    ];
-  }
+  kept_after = grind (arith, common_steps, same_count, set_at, after_step, same_at)
 
   -- a router that had its tick at the end has had it
   pub still_ended : (end count : ℕ) → HadLastTicks end count old → HadLastTicks end count new
-  still_ended end count h y t at lt = elim (after_step y t at) [
-    | inl (a, b) ↦ let was = h x step.was step.stood (omega (arith, a, lt)) in let later = step.no_earlier in rw b (omega (arith, was, later))
-    | inr (a, b) ↦ h y t b lt
-  ]
+  still_ended end count h y t at lt = grind (arith, common_steps, after_step)
 
 -- the next tick at the end
 pub one_ended : {until : ℕ} {old new : List State} {x end : ℕ} {event : Event} {frames : List Frame} (step : Stepped until old new x end event frames (IsAfterTick end)) →

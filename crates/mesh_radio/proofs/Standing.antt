@@ -1,5 +1,6 @@
 -- The routers of a scenario at a moment.
-use Rattle.mesh_radio.proofs.Common.{◌≡◌, ℕ, ◌<◌, ◌≤◌, List, refl, subst, length, get_or, All, Some, slice_get, slice_get_within, slice_get_read, State, RadioArc, RouterSettings, Scenario, Frame, Event, IsSendable, EntersInterface, AreRouterStates, Stepped, same_at, item_at as stands}
+use Rattle.mesh_radio.proofs.Common.{◌≡◌, ℕ, ◌<◌, ◌≤◌, List, refl, subst, length, get_or, All, Some, slice_get, slice_get_within, slice_get_read, State, RadioArc, RouterSettings, Scenario, Frame, Event, IsSendable, AreRouterStates, Stepped, same_at, item_at as stands}
+use Rattle.mesh_machine.specs.Ways.{EntersInterface}
 
 pub router_at : (s : Scenario) (now : ℕ) (routers : List State) (x : ℕ) → AreRouterStates s now routers → x < length s.routers → (was : State) × (slice_get routers x ≡ Some was) × (was.last ≤ now)
 router_at s now routers x h lt = let there = stands routers x (rw h.count lt) in (there.0, there.1, h.lasts x there.0 there.1)

@@ -1,5 +1,5 @@
 -- One router takes a step.
-use Rattle.mesh_radio.proofs.Common.{◌≡◌, ℕ, ◌<◌, ◌≤◌, List, Result, Ok, Err, refl, length, get_or, All, Some, map, arith, slice_get, slice_set, OnOk, map-set, length-map, slice_get_read, slice_get_within, State, Frame, Event, Step, due, IsSendable, IsKeptOf, Stepped, KeepsDue, IsAfterTick, mapped_at, same_at}
+use Rattle.mesh_radio.proofs.Common.{common_steps, ◌≡◌, ℕ, ◌<◌, ◌≤◌, List, Result, refl, length, get_or, All, Some, map, arith, slice_get, slice_set, OnOk, map-set, length-map, slice_get_read, slice_get_within, State, Frame, Event, Step, due, IsSendable, IsKeptOf, Stepped, KeepsDue, IsAfterTick, mapped_at, same_at}
 
 module _ {A : Type 0} (state : A → State) (routers : List A) (x : ℕ) (here : State) (at : slice_get (map state routers) x ≡ Some here) where
   pub within : x < length routers
@@ -34,15 +34,11 @@ module _ {A : Type 0} (state : A → State) (routers : List A) (x : ℕ) (here :
       OnOk came ((whole : State) × Step (state was) event sent whole × IsKeptOf until whole (state then)) → OnOk came (All (IsSendable (state was).settings) sent) → OnOk came ((state then).settings ≡ (state was).settings) →
       OnOk came ((state then).last ≤ now) → OnOk came ((state was).last ≤ (state then).last) → OnOk came (due (state then) ≡ due (state was)) →
       OnOk came (Stepped until (map state routers) (map state (slice_set routers x then)) x now event sent KeepsDue)
-  hears (Ok one) until now event sent was then is step sendable settings last no_earlier due_is =
-      stepped until now event sent was then KeepsDue is step sendable settings last no_earlier due_is
-  hears (Err wanting) until now event sent was then is step sendable settings last no_earlier due_is = tt
+  hears came until now event sent was then is step sendable settings last no_earlier due_is = grind (arith, common_steps, stepped)
 
   -- where it ticks
   pub ticks : {U E : Type 0} (came : Result U E) (until now : ℕ) (event : Event) (sent : List Frame) (was then : A) → was ≡ get_or routers x was → (state was).last ≤ now →
       OnOk came ((whole : State) × Step (state was) event sent whole × IsKeptOf until whole (state then)) → OnOk came (All (IsSendable (state was).settings) sent) → OnOk came ((state then).settings ≡ (state was).settings) →
       OnOk came ((state then).last ≡ now) → OnOk came (now < due (state then)) →
       OnOk came (Stepped until (map state routers) (map state (slice_set routers x then)) x now event sent (IsAfterTick now))
-  ticks (Ok one) until now event sent was then is later step sendable settings last due_later =
-      stepped until now event sent was then (IsAfterTick now) is step sendable settings (omega (arith, last)) (omega (arith, last, later)) (record { due_later = due_later; last_is = last })
-  ticks (Err wanting) until now event sent was then is later step sendable settings last due_later = tt
+  ticks came until now event sent was then is later step sendable settings last due_later = grind (arith, common_steps, stepped)

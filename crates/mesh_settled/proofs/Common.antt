@@ -32,7 +32,7 @@ pub use Rattle.mesh_paths.proofs.Scenarios.{ends_of, sound_scenario}
 pub use Rattle.mesh_paths.proofs.SettledNeighbours.{originator_address}
 pub use Rattle.mesh_settled.specs.Gaps.Fields.{AllSame, AreApart, Differ, DifferFrom, Field, Number, SaySame, address_fields, cost_field, flag_field, known_cost, link_fields, neighbour_fields, network_fields, router_fields, topology_fields, two_hop_fields}
 pub use Rattle.mesh_settled.specs.Gaps.Found.{IsLeastGap, IsLeastMissing, IsSide, IsTest, IsTestFrom, compared, found_at, least_of, lesser, lower}
-pub use Rattle.mesh_settled.specs.Gaps.Gaps.{AreSame, HasNoGap, Held_alone, IsExcepted, IsFirstGap, IsGapAt, IsHeldLink, IsHeldNeighbour, IsHeldTopic, IsHeldTuple, IsHeldTwoHop, IsPresentLink, IsPresentNeighbour, IsPresentTopic, IsPresentTuple, IsPresentTwoHop, Look, Present_alone, Unequal, at_field, is_ranked_before, look, precedes, rank_of}
+pub use Rattle.mesh_settled.specs.Gaps.Gaps.{AreSame, HasNoGap, Held_alone, IsExcepted, IsGapAt, IsHeldLink, IsHeldNeighbour, IsHeldTopic, IsHeldTuple, IsHeldTwoHop, IsPresentLink, IsPresentNeighbour, IsPresentTopic, IsPresentTuple, IsPresentTwoHop, Look, Present_alone, Unequal, is_ranked_before, look, precedes, rank_of}
 pub use Rattle.mesh_settled.specs.Gaps.Joints.{IsBack, IsJointBy, IsJointWith, IsLeastOf, IsOfSome, all_addresses}
 pub use Rattle.mesh_settled.specs.Gaps.Links.{IsGiven, IsGivenAt, IsHeldOn, IsLinkHeld, IsLinkKey, given_link, symmetric_fields}
 pub use Rattle.mesh_settled.specs.Gaps.Metrics.{IsLeading, IsLeastMetricOf, cheaper, less}
@@ -48,9 +48,9 @@ pub use Rattle.mesh_settled.specs.declared.gaps.joints.Joint.{Joint}
 pub use Rattle.mesh_settled.specs.declared.gaps.topics.Claim.{Claim}
 pub use Rattle.mesh_settled.specs.declared.gaps.topics.TopologyKind.{TopologyKind}
 pub use Rattle.mesh_settled.specs.declared.gaps.topics.TopologyKind.TheVariants.{Addresses, Networks, Routers}
-pub use Rattle.std.proofs.Common.{AllPairs, Bool, Contains, Decides, IfSome, IsNone, IsTrue, List, None, Option, Some, [], ap, arith, cond, false, get_or, inl, inr, is_some, length, map, nat_eq, nat_lt, not, option_map, refl, slice_get, slice_index, slice_index_or, subst, suc, sym, true, zero, ℕ, ◌&&◌, ◌*◌, ◌+◌, ◌<◌, ◌↔◌, ◌∙◌, ◌∷◌, ◌≡◌, ◌≢◌, ◌≤◌, ◌⊎◌}
+pub use Rattle.std.proofs.Common.{AllPairs, Bool, Contains, Decides, IfSome, IsNone, IsTrue, List, None, Option, Some, [], ap, arith, cond, false, get_or, inl, inr, is_some, length, map, nat_eq, nat_lt, not, option_map, refl, slice_get, slice_index, subst, suc, sym, true, zero, ℕ, ◌&&◌, ◌*◌, ◌+◌, ◌<◌, ◌↔◌, ◌∙◌, ◌∷◌, ◌≡◌, ◌≢◌, ◌≤◌, ◌⊎◌}
 pub use Rattle.std.proofs.lemmas.Bool.{and_from, and_parts, cases_Bool, cases_eq, cases_lt, eq-eqb, eqb-true, false≢true, lt-ltb, ltb-false, ltb-true, or_cases}
 pub use Rattle.std.proofs.lemmas.Grind.{common_steps}
-pub use Rattle.std.proofs.lemmas.Option.{get_or_from_slice_get, none-some, slice_get-get_or, slice_get-map, slice_get_cases, slice_get_past, slice_get_read, slice_get_within}
+pub use Rattle.std.proofs.lemmas.Option.{get_or_from_slice_get, none-some, slice_get-get_or, slice_get-map, slice_get_cases, slice_get_read, slice_get_within}
 pub use Rattle.std.specs.Borrow.{Bor}
 pub use Rattle.std.specs.List.{list_any}

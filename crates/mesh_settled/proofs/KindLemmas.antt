@@ -1,5 +1,5 @@
 -- From the least gap of each kind to the first gap.
-use Rattle.mesh_settled.proofs.Common.{◌≡◌, ◌≢◌, ℕ, ◌+◌, ◌<◌, ◌≤◌, ◌⊎◌, inl, inr, refl, sym, ◌∙◌, ap, subst, arith, length, List, Option, Some, None, true, false, map, ◌↔◌, is_some, IfSome, IsNone, false≢true, RadioGraph, Scenario, host, At, Settled, State, Found, GapKey, Link, Neighbour, TwoHop, Router, Address, Network, IsLeastGap, Look, look, AreSame, HasNoGap, IsFirstGap, rank_of, IsNetwork, IsTopologyKey, IsFirstFound, IsFirstAt, IsFirstOf, reported, IsLinkKey, IsNeighbourKey, IsTwoHopKey, same_some}
+use Rattle.mesh_settled.proofs.Common.{common_steps, ◌≡◌, ◌≢◌, ℕ, ◌+◌, ◌<◌, ◌≤◌, ◌⊎◌, inl, inr, refl, sym, ◌∙◌, ap, subst, arith, length, List, Option, Some, None, true, false, map, ◌↔◌, is_some, IfSome, IsNone, false≢true, RadioGraph, Scenario, host, At, Settled, State, Found, GapKey, Link, Neighbour, TwoHop, Router, Address, Network, IsLeastGap, Look, look, AreSame, HasNoGap, rank_of, IsNetwork, IsTopologyKey, IsFirstFound, IsFirstAt, IsFirstOf, reported, IsLinkKey, IsNeighbourKey, IsTwoHopKey, same_some}
 use Rattle.mesh_atoms.specs.declared.gap.Gap.{Gap}
 use Rattle.mesh_settled.proofs.GapsLemmas.GapLaw.{law}
 use Rattle.mesh_settled.proofs.GapsLemmas.JointLemmas.{same_state, next_place}
@@ -10,12 +10,7 @@ use Rattle.mesh_settled.proofs.GapsLemmas.Sides.{gaps_differ}
 -- Kinds
 
 is_link : (k : GapKey) → (rank_of k).kind ≡ 0 → IsLinkKey k
-is_link (Link i key) e = (i, key, refl)
-is_link (Neighbour o) e = absurd (omega (arith, e))
-is_link (TwoHop i key) e = absurd (omega (arith, e))
-is_link (Router from to) e = absurd (omega (arith, e))
-is_link (Address from a) e = absurd (omega (arith, e))
-is_link (Network from net) e = absurd (omega (arith, e))
+is_link k e = grind (arith, common_steps)
 
 -- a key of another kind
 abbrev IsRest : GapKey → Type 0
@@ -30,8 +25,7 @@ which (Address from a) = inr (inr (inr (inr (inl (from, host a, refl)))))
 which (Network from net) = inr (inr (inr (inr (inr (from, net, refl)))))
 
 pub none_found : (l : Look) (P : GapKey → Type 0) (o : Option Found) → false ≡ is_some o → IsLeastGap l P o → IsLeastGap l P None
-none_found l P None none least = least
-none_found l P (Some f) none least = absurd (false≢true none)
+none_found l P o none least = grind (arith, common_steps)
 
 -- links come first
 pub first_link : (l : Look) (o : Option Found) → true ≡ is_some o → IsLeastGap l IsLinkKey o → IsFirstFound l o
@@ -91,10 +85,6 @@ module _ (s : Scenario) (graph : RadioGraph) (states : List State) (now : ℕ) (
     λ e. absurd (false≢true (sym e)),
     λ settled. absurd (differs first.p first.at ((law s graph states now g.router first.p net first.at).0 (settled g.router first.p first.at) g.key)),
   )
-
-  pub is_first : (g : Option Gap) → IsFirstOf s states now g → IfSome g (λ gap. IsFirstGap s states now gap)
-  is_first None none = tt
-  is_first (Some g) some = some.0
 
   pub differ : (g : Option Gap) → IsFirstOf s states now g → IfSome g (λ gap. gap.held ≢ gap.present)
   differ None none = tt

@@ -1,5 +1,5 @@
 -- What the tables state is what the checks look at.
-use Rattle.mesh_config.proofs.Common.{◌≡◌, ℕ, ◌+◌, List, [], ◌∷◌, map, position, Bool, not, codes, Option, Some, None, option_map, refl, sym, ap, ◌∙◌, list_all, list_any, flat_map, slice_get, position_from, list_all-map, flat_map-map, slice_get-map, position_from-zero, addr_eq, name_eq, are_distinct, StatedRouter, StatedInterface, Fault, ◌>>=◌, Identifiers, NamedInterface, duplicates, duplicate_unless, find_place, same_interface, same_attached, all_addrs, attaches_no_host, stated_duplicates, stated_identifiers, stated_place}
+use Rattle.mesh_config.proofs.Common.{arith, common_steps, ◌≡◌, ℕ, ◌+◌, List, [], ◌∷◌, map, position, Bool, not, codes, Option, Some, option_map, refl, sym, ◌∙◌, list_all, list_any, flat_map, slice_get, position_from, list_all-map, flat_map-map, slice_get-map, position_from-zero, name_eq, are_distinct, StatedRouter, StatedInterface, Fault, ◌>>=◌, Identifiers, NamedInterface, duplicates, duplicate_unless, find_place, same_interface, same_attached, all_addrs, attaches_no_host, stated_duplicates, stated_identifiers, stated_place}
 use Rattle.mesh_config.specs.Checks.Checks as checks
 
 list_any-map : {A B : Type 0} (p : B → Bool) (f : A → B) (xs : List A) → list_any p (map f xs) ≡ list_any (λ x. p (f x)) xs
@@ -47,8 +47,7 @@ hosts_same rs =
     ∙ all_same _ (attaches_no_host (all_addrs rs)) (λ r. list_all-map (λ n. not (list_any (checks.is_address n) (all_addrs rs))) _ r.attached) rs)
 
 pub duplicates_same : (rs : List StatedRouter) → duplicates (map stated_identifiers rs) ≡ stated_duplicates rs
-duplicates_same rs =
-    list_same _ _ _ _ _ _ _ _ _ _ (are_distinct-map checks.same_name stated_identifiers rs) (ifaces_same rs) (ap (are_distinct addr_eq) (addrs_same rs)) (nets_same rs) (hosts_same rs)
+duplicates_same rs = grind (arith, common_steps, list_same, are_distinct-map, ifaces_same, addrs_same, nets_same, hosts_same)
 
 -- a place looked up
 abbrev both : ℕ → ℕ → Option (ℕ × ℕ)
@@ -57,27 +56,16 @@ both a b = Some (a, b)
 iface_same : (p : NamedInterface) (router : ℕ) (found : Option StatedRouter)
     → (option_map stated_identifiers found >>= λ r. position (name_eq p.1) r.interface_names >>= λ iface. both router iface)
     ≡ (found >>= λ r. position (λ i. name_eq p.1 i.name) r.interfaces >>= λ iface. both router iface)
-iface_same p router None = refl
-iface_same p router (Some r) = rw (position-map (name_eq p.1) (λ (i : StatedInterface). i.name) r.interfaces)
+iface_same p router found = grind (arith, common_steps, position-map)
 
 router_same : (rs : List StatedRouter) (p : NamedInterface) (found : Option ℕ)
     → (found >>= λ router. slice_get (map stated_identifiers rs) router >>= λ r. position (name_eq p.1) r.interface_names >>= λ iface. both router iface)
     ≡ (found >>= λ router. slice_get rs router >>= λ r. position (λ i. name_eq p.1 i.name) r.interfaces >>= λ iface. both router iface)
-router_same rs p None = refl
-router_same rs p (Some router) = rw (slice_get-map stated_identifiers rs router) (iface_same p router (slice_get rs router))
+router_same rs p found = grind (arith, common_steps, slice_get-map, iface_same)
 
 pub place_same : (rs : List StatedRouter) (p : NamedInterface) → find_place (map stated_identifiers rs) p ≡ stated_place rs p
 place_same rs p = rw (position-map (λ (r : Identifiers). name_eq p.0 r.router_name) stated_identifiers rs) (router_same rs p (position (λ r. name_eq p.0 r.head.name) rs))
 
--- a place that was looked up step by step
-abbrev iface_in : List ℕ → ℕ → StatedRouter → Option (ℕ × ℕ)
-iface_in name router r = position (λ i. name_eq name i.name) r.interfaces >>= λ iface. both router iface
-
-abbrev router_in : List StatedRouter → List ℕ → ℕ → Option (ℕ × ℕ)
-router_in rs name router = slice_get rs router >>= iface_in name router
-
 pub place_found : (rs : List StatedRouter) (called name : List ℕ) (at iface : ℕ) (r : StatedRouter) → Some at ≡ position (λ r. name_eq called r.head.name) rs → Some r ≡ slice_get rs at
     → Some iface ≡ position (λ i. name_eq name i.name) r.interfaces → Some (at, iface) ≡ stated_place rs (called, name)
-place_found rs called name at iface r here is there =
-    ap (λ (o : Option ℕ). o >>= λ iface. both at iface) there
-    ∙ (ap (λ (o : Option StatedRouter). o >>= iface_in name at) is ∙ ap (λ (o : Option ℕ). o >>= router_in rs name) here)
+place_found rs called name at iface r here is there = grind (arith, common_steps)

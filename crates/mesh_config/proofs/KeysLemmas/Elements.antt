@@ -1,5 +1,5 @@
 -- Elements of arrays, one after the other.
-use Rattle.mesh_config.proofs.Common.{◌≡◌, ℕ, ◌+◌, ◌<◌, List, [], ◌∷◌, ◌++◌, map, length, get_or, drop, take, Option, Some, None, refl, sym, ap, ◌∙◌, append_assoc, drop_more, map_more, Data, items_of, view, Value, items_list, all_of, ◌>>=◌}
+use Rattle.mesh_config.proofs.Common.{arith, common_steps, ◌≡◌, ℕ, ◌+◌, ◌<◌, List, [], ◌∷◌, ◌++◌, map, length, get_or, drop, take, Option, Some, None, refl, sym, ap, ◌∙◌, drop_more, map_more, Data, items_of, view, Value, items_list, all_of, ◌>>=◌}
 
 pub items_list-of : (ds : List Data) → items_list (items_of ds) ≡ ds
 items_list-of [] = refl
@@ -20,10 +20,8 @@ with_front front (Some xs) = Some (front ++ xs)
 
 -- one element more is turned
 front_more : {A : Type 0} (front : List A) (x : A) (rest : Option (List A)) → with_front front (rest >>= λ xs. Some (x ∷ xs)) ≡ with_front (front ++ x ∷ []) rest
-front_more front x None = refl
-front_more front x (Some xs) = ap (λ (l : List _). Some l) (sym (append_assoc front (x ∷ []) xs))
+front_more front x rest = grind (arith, common_steps)
 
 pub turned_more : {A : Type 0} (turn : Data → Option A) (vs : List Value) (i : ℕ) (v : Value) (x : A) (front : List A) → v ≡ get_or vs i v → i < length vs → Some x ≡ turn (view v)
     → with_front front (all_of turn (map view (drop i vs))) ≡ with_front (front ++ x ∷ []) (all_of turn (map view (drop (i + 1) vs)))
-turned_more turn vs i v x front here within turned =
-    rw (drop_here vs i v here within, ← turned) (front_more front x (all_of turn (map view (drop (i + 1) vs))))
+turned_more turn vs i v x front here within turned = grind (arith, common_steps, drop_here, front_more, all_of)

@@ -1,9 +1,8 @@
 -- A table in a table.
-use Rattle.mesh_config.proofs.Common.{◌≡◌, List, [], ◌∷◌, Option, Some, None, Result, Ok, refl, Members, ConfigFault, Fault, ReadValue, visit, first, ValueOrFault, table_read}
+use Rattle.mesh_config.proofs.Common.{arith, common_steps, ◌≡◌, List, [], ◌∷◌, Option, Result, Ok, Members, ConfigFault, Fault, ReadValue, visit, first, ValueOrFault, table_read}
 
 pub first_one : (found : Option Fault) → first (found ∷ []) ≡ found
-first_one None = refl
-first_one (Some f) = refl
+first_one found = grind (arith, common_steps)
 
 -- what is answered for the table within is answered for the part
 pub part_answers : {X : Type 0} (Is : Members → X → Type 0) (entries : Members → List (Option Fault)) (read : ReadValue Members) (table : Members) (r : Result X ConfigFault)

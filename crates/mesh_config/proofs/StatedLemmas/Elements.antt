@@ -1,6 +1,5 @@
 -- Tables of arrays, one after the other.
-use Rattle.mesh_config.proofs.Common.{◌≡◌, ℕ, List, [], ◌∷◌, ◌++◌, map, Option, Some, None, refl, ◌+◌, ◌<◌, length, get_or, drop, take, Data, Members, flat_map, view, Value, ConfigFault, Fault, first, FailsAt, Each, table_of, element_visits, tables_visits}
-use Rattle.mesh_config.specs.declared.keys.fault.ConfigFault.TheVariants as faults
+use Rattle.mesh_config.proofs.Common.{arith, common_steps, ◌≡◌, ℕ, List, [], ◌∷◌, ◌++◌, map, Option, Some, None, refl, ◌+◌, ◌<◌, length, get_or, drop, take, Data, Members, view, Value, ConfigFault, Fault, first, FailsAt, Each, table_of, element_visits, tables_visits}
 use Rattle.mesh_config.proofs.KeysLemmas.Elements.{drop_here, map_take}
 
 -- the first of two lists
@@ -23,24 +22,20 @@ Each-more Is (e ∷ ds) d [] x all one = absurd all
 
 -- a fault of the first list is the first of both
 pub fails_first : (e : ConfigFault) (a b : List (Option Fault)) → FailsAt e (first a) → FailsAt e (first (a ++ b))
-fails_first (faults.Memory m) a b h = tt
-fails_first (faults.Refused n k) a b h = first_found a b _ h
+fails_first e a b h = grind (arith, common_steps, first_found)
 
 -- one table of an array after the other: its fault is that of the array, and without one the array goes on
 pub tables_fail : (entries : Members → List (Option Fault)) (key : List ℕ) (vs : List Value) (i : ℕ) (v : Value) (e : ConfigFault) → v ≡ get_or vs i v → i < length vs
     → FailsAt e (first (element_visits entries key (view v))) → FailsAt e (first (tables_visits entries key (map view (drop i vs))))
-tables_fail entries key vs i v e here within h =
-    rw (drop_here vs i v here within) (fails_first e (element_visits entries key (view v)) (flat_map (element_visits entries key) (map view (drop (i + 1) vs))) h)
+tables_fail entries key vs i v e here within h = grind (arith, common_steps, drop_here, fails_first)
 
 pub tables_pass : (entries : Members → List (Option Fault)) (key : List ℕ) (vs : List Value) (i : ℕ) (v : Value) → v ≡ get_or vs i v → i < length vs
     → first (element_visits entries key (view v)) ≡ None → first (tables_visits entries key (map view (drop i vs))) ≡ first (tables_visits entries key (map view (drop (i + 1) vs)))
-tables_pass entries key vs i v here within h =
-    rw (drop_here vs i v here within) (first_passes (element_visits entries key (view v)) (flat_map (element_visits entries key) (map view (drop (i + 1) vs))) h)
+tables_pass entries key vs i v here within h = grind (arith, common_steps, drop_here, first_passes)
 
 pub tables_said : {X : Type 0} (Is : Members → X → Type 0) (vs : List Value) (i : ℕ) (v : Value) (xs : List X) (x : X) → v ≡ get_or vs i v → i < length vs
     → Each Is (map view (take i vs)) xs → Is (table_of (view v)) x → Each Is (map view (take (i + 1) vs)) (xs ++ x ∷ [])
-tables_said Is vs i v xs x here within all one =
-    rw (map_take view vs i v here within) (Each-more Is (map view (take i vs)) (view v) xs x all one)
+tables_said Is vs i v xs x here within all one = grind (arith, common_steps, map_take, Each-more)
 
 -- from one kind of values to another that agrees with it
 pub Each-along : {X Y C : Type 0} (Is : Members → X → Type 0) (Says : Members → Y → Type 0) (f : X → C) (g : Y → C) → ((t : Members) (x : X) (y : Y) → g y ≡ f x → Is t x → Says t y)

@@ -1,5 +1,5 @@
 -- Tables of which each has a number above that of the one before.
-use Rattle.mesh_config.proofs.Common.{◌≡◌, ℕ, ◌+◌, ◌<◌, ◌≤◌, List, [], ◌∷◌, ◌++◌, map, true, false, Bool, nat_lt, if◌then◌else◌, Option, Some, None, Ok, Err, refl, ap, ◌∙◌, sym, length, get_or, drop, arith, list_all, and_from, lt-ltb, ltb-false, Data, Members, string, integer, float, boolean, datetime, array, table, view, Value, are_ascending, ConfigFault, Fault, ReadValue, first, visit, bad_value, FailsAt, ticks, Each, table_of, element_visits, no_less, one_above, rising_visits}
+use Rattle.mesh_config.proofs.Common.{common_steps, ◌≡◌, ℕ, ◌+◌, ◌<◌, ◌≤◌, List, [], ◌∷◌, ◌++◌, map, true, false, Bool, nat_lt, if◌then◌else◌, Option, Some, None, Ok, refl, ap, ◌∙◌, sym, length, get_or, drop, arith, list_all, and_from, lt-ltb, Data, Members, view, Value, are_ascending, ConfigFault, Fault, ReadValue, first, visit, FailsAt, ticks, Each, table_of, element_visits, no_less, one_above, rising_visits}
 use Rattle.mesh_config.proofs.KeysLemmas.Elements.{drop_here}
 use Rattle.mesh_config.proofs.StatedLemmas.Elements.{first_passes, fails_first}
 
@@ -7,15 +7,12 @@ use Rattle.mesh_config.proofs.StatedLemmas.Elements.{first_passes, fails_first}
 module _ (visits : ℕ → Members → List (Option Fault)) (number : Members → ReadValue ℕ) (key : List ℕ) where
   pub rising_fail : (vs : List Value) (i least : ℕ) (v : Value) (e : ConfigFault) → v ≡ get_or vs i v → i < length vs
       → FailsAt e (first (element_visits (visits least) key (view v))) → FailsAt e (first (rising_visits visits number key least (map view (drop i vs))))
-  rising_fail vs i least v e here within h =
-      rw (drop_here vs i v here within) (fails_first e (element_visits (visits least) key (view v)) (rising_visits visits number key (one_above (number (table_of (view v)))) (map view (drop (i + 1) vs))) h)
+  rising_fail vs i least v e here within h = grind (arith, common_steps, drop_here, fails_first)
 
   pub rising_pass : (vs : List Value) (i least n : ℕ) (v : Value) → v ≡ get_or vs i v → i < length vs
       → first (element_visits (visits least) key (view v)) ≡ None → number (table_of (view v)) ≡ Ok n
       → first (rising_visits visits number key least (map view (drop i vs))) ≡ first (rising_visits visits number key (n + 1) (map view (drop (i + 1) vs)))
-  rising_pass vs i least n v here within h numbered =
-      rw (drop_here vs i v here within) (first_passes (element_visits (visits least) key (view v)) (rising_visits visits number key (one_above (number (table_of (view v)))) (map view (drop (i + 1) vs))) h
-      ∙ ap (λ (r : ReadValue ℕ). first (rising_visits visits number key (one_above r) (map view (drop (i + 1) vs)))) numbered)
+  rising_pass vs i least n v here within h numbered = grind (arith, common_steps, drop_here, first_passes)
 
 -- no fault in two lists
 none_both : (a b : List (Option Fault)) → first (a ++ b) ≡ None → (first a ≡ None) × (first b ≡ None)
@@ -25,13 +22,7 @@ none_both (Some f ∷ a) b h = absurd cc
 
 -- an element without a fault is a table without one
 none_within : (visits : Members → List (Option Fault)) (key : List ℕ) (d : Data) → first (element_visits visits key d) ≡ None → first (visits (table_of d)) ≡ None
-none_within visits key (table t) h = h
-none_within visits key (string s) h = absurd cc
-none_within visits key (integer n) h = absurd cc
-none_within visits key (float x) h = absurd cc
-none_within visits key (boolean b) h = absurd cc
-none_within visits key (datetime t) h = absurd cc
-none_within visits key (array ds) h = absurd cc
+none_within visits key d h = grind (arith, common_steps)
 
 -- the number of a table without a fault
 pub record Numbered (least : ℕ) (read : ReadValue ℕ) : Type 0 where
@@ -40,23 +31,14 @@ pub record Numbered (least : ℕ) (read : ReadValue ℕ) : Type 0 where
   pub no_less : least ≤ number
 
 unless_some : (b : Bool) (f : Fault) → (if b then Some f else None) ≡ None → b ≡ false
-unless_some false f h = refl
-unless_some true f h = absurd cc
+unless_some b f h = grind (arith, common_steps)
 
 number_of : (least : ℕ) (key : List ℕ) (read : ReadValue ℕ) → visit read ≡ None → no_less least key read ≡ None → Numbered least read
-number_of least key (Err f) h k = absurd cc
-number_of least key (Ok n) h k = record { number = n; is_read = refl; no_less = ltb-false n least (unless_some (nat_lt n least) (bad_value key) k) }
+number_of least key read h k = grind (arith, common_steps, no_less, unless_some)
 
 -- the visits of a table: its known keys, its number, that it is no less, and more
 pub numbered : (least : ℕ) (key : List ℕ) (known : Option Fault) (read : ReadValue ℕ) (more : List (Option Fault)) → first (known ∷ visit read ∷ no_less least key read ∷ more) ≡ None → Numbered least read
-numbered least key known read more h =
-    let a = none_both (known ∷ []) (visit read ∷ no_less least key read ∷ more) h in
-    let b = none_both (visit read ∷ []) (no_less least key read ∷ more) a.1 in
-    let c = none_both (no_less least key read ∷ []) more b.1 in
-    number_of least key read (one_none (visit read) b.0) (one_none (no_less least key read) c.0) where
-      one_none : (v : Option Fault) → first (v ∷ []) ≡ None → v ≡ None
-      one_none None h = refl
-      one_none (Some f) h = absurd cc
+numbered least key known read more h = grind (arith, common_steps, none_both, visit, no_less, number_of)
 
 -- what they stand for ascends, where each stands at a place that rises with the number of its table
 module _ {X : Type 0} (Is : Members → X → Type 0) (visits : ℕ → Members → List (Option Fault)) (number : Members → ReadValue ℕ) (key : List ℕ) (place : X → ℕ) (turn : ℕ → ℕ)

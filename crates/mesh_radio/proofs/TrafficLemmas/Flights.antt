@@ -1,12 +1,12 @@
 -- The ordered map of flights against the list in order of sending.
-use Rattle.mesh_radio.proofs.Common.{◌≡◌, ℕ, ◌+◌, ◌<◌, ◌≤◌, ◌⊎◌, inl, inr, List, [], ◌∷◌, ◌++◌, refl, sym, ◌∙◌, ap, subst, All, Bool, true, false, arith, cond, nat_lt, map, map-append, All-nil, All-cons, All-head, All-tail, All-weaker, All-map, Delivery, IsHeardFirst}
+use Rattle.mesh_radio.proofs.Common.{common_steps, ◌≡◌, ℕ, ◌+◌, ◌<◌, ◌≤◌, ◌⊎◌, inl, inr, List, [], ◌∷◌, ◌++◌, refl, sym, ◌∙◌, ap, subst, All, Bool, true, false, arith, nat_lt, map, map-append, All-nil, All-cons, All-head, All-tail, All-weaker, All-map, Delivery, IsHeardFirst}
 use Rattle.std.specs.Ordering.{nat_cmp, ordering_then, is_gt}
 use Rattle.std.specs.declared.cmp.Ordering.{Ordering}
 use Rattle.std.specs.declared.cmp.Ordering.TheVariants.{Less, Equal, Greater}
 use Rattle.std.specs.Ordering.{match_ordering}
 use Rattle.std.specs.Map.{keys_of}
 use Rattle.std.specs.BTreeMap.{insert_entry}
-use Rattle.std.proofs.lemmas.Bool.{lt-ltb, le-ltb, ltb-false}
+use Rattle.std.proofs.lemmas.Bool.{lt-ltb, ltb-false}
 use Rattle.std.proofs.lemmas.Cmp.{ranked}
 use Rattle.std.proofs.lemmas.Map.Views.{All-keys-insert_entry}
 use Rattle.mesh_radio.specs.declared.traffic.air.DeliveryOrder.{DeliveryOrder}
@@ -17,48 +17,33 @@ use Rattle.mesh_atoms.proofs.NetOrder.{then_less}
 -- Comparing turns
 
 then_equal : (o p : Ordering) → ordering_then o p ≡ Equal → p ≡ Equal
-then_equal Less p e = absurd (cc)
-then_equal Equal p e = e
-then_equal Greater p e = absurd (cc)
+then_equal o p e = grind (arith, common_steps)
 
 -- one turn comes before another
 abbrev Before : DeliveryOrder → DeliveryOrder → Type 0
 Before a b = (a.moment < b.moment) ⊎ ((a.moment ≡ b.moment) × (a.number < b.number))
 
 turn_less : (a b : DeliveryOrder) → turn_cmp a b ≡ Less → Before a b
-turn_less a b e = elim (then_less (nat_cmp a.moment b.moment) (nat_cmp a.number b.number) e) [
-  | inl f ↦ inl (ranked a.moment b.moment Less (sym f))
-  | inr (f, g) ↦ inr (ranked a.moment b.moment Equal (sym f), ranked a.number b.number Less (sym g))
-]
+turn_less a b e = grind (arith, common_steps, then_less, ranked)
 
 turn_equal : (a b : DeliveryOrder) → turn_cmp a b ≡ Equal → a.number ≡ b.number
 turn_equal a b e = ranked a.number b.number Equal (sym (then_equal (nat_cmp a.moment b.moment) (nat_cmp a.number b.number) e))
 
 no_earlier : (a b : DeliveryOrder) → Before a b → a.moment ≤ b.moment
-no_earlier a b (inl h) = omega arith
-no_earlier a b (inr h) = let e : a.moment ≡ b.moment = h.0 in omega (arith, e)
+no_earlier a b h2 = grind (arith, common_steps)
 
 le_gt : (o p : Ordering) → is_gt (ordering_then o p) ≡ false → (o ≡ Less) ⊎ (o ≡ Equal)
-le_gt Less p e = inl refl
-le_gt Equal p e = inr refl
-le_gt Greater p e = absurd (cc)
+le_gt o p e = grind (arith, common_steps)
 
 -- no turn is earlier than the least
 pub turn_from : (a b : DeliveryOrder) → is_gt (turn_cmp a b) ≡ false → a.moment ≤ b.moment
-turn_from a b e = elim (le_gt (nat_cmp a.moment b.moment) (nat_cmp a.number b.number) e) [
-  | inl f ↦ let h : a.moment < b.moment = ranked a.moment b.moment Less (sym f) in omega arith
-  | inr f ↦ let h : a.moment ≡ b.moment = ranked a.moment b.moment Equal (sym f) in omega (arith, h)
-]
+turn_from a b e = grind (arith, common_steps, le_gt, ranked)
 
 -- What holds of all
 
 All-inserted : (P : FlightEntry → Type 0) (e : FlightEntry) (es : List FlightEntry) → P e → All P es → All P (insert_by_number e es)
 All-inserted P e [] p h = All-cons P e [] p h
-All-inserted P e (f ∷ fs) p h =
-    elim (nat_lt e.0.number f.0.number) as (λ b. All P (cond b (e ∷ f ∷ fs) (f ∷ insert_by_number e fs))) [
-      | true ↦ All-cons P e (f ∷ fs) p h
-      | false ↦ All-cons P f (insert_by_number e fs) (All-head P f fs h) (All-inserted P e fs p (All-tail P f fs h))
-    ]
+All-inserted P e (f ∷ fs) p h = grind (arith, common_steps, All-cons, All-head, All-tail, (All-inserted P e fs p (All-tail P f fs h)))
 
 pub All-by_number : (P : FlightEntry → Type 0) (es : List FlightEntry) → All P es → All P (by_number es)
 All-by_number P [] h = h
@@ -76,17 +61,11 @@ All-in_order P es h = All-map P flight_of (by_number es) (All-by_number (λ e. P
 
 insert_last : (e : FlightEntry) (es : List FlightEntry) → All (λ f. f.0.number < e.0.number) es → insert_by_number e es ≡ es ++ e ∷ []
 insert_last e [] h = refl
-insert_last e (f ∷ fs) h =
-    let first : f.0.number < e.0.number = All-head (λ (f : FlightEntry). f.0.number < e.0.number) f fs h in
-    rw (le-ltb e.0.number f.0.number (omega arith)) (ap (λ l. f ∷ l) (insert_last e fs (All-tail (λ (f : FlightEntry). f.0.number < e.0.number) f fs h)))
+insert_last e (f ∷ fs) h = grind (arith, common_steps, All-head, All-tail, (insert_last e fs (All-tail (λ (f : FlightEntry). f.0.number < e.0.number) f fs h)))
 
 insert_before : (e k : FlightEntry) (es : List FlightEntry) → e.0.number < k.0.number → insert_by_number e (es ++ k ∷ []) ≡ insert_by_number e es ++ k ∷ []
 insert_before e k [] h = rw (lt-ltb e.0.number k.0.number h) refl
-insert_before e k (f ∷ fs) h =
-    elim (nat_lt e.0.number f.0.number) as (λ b. cond b (e ∷ f ∷ fs ++ k ∷ []) (f ∷ insert_by_number e (fs ++ k ∷ [])) ≡ cond b (e ∷ f ∷ fs) (f ∷ insert_by_number e fs) ++ k ∷ []) [
-      | true ↦ refl
-      | false ↦ ap (λ l. f ∷ l) (insert_before e k fs h)
-    ]
+insert_before e k (f ∷ fs) h = grind (arith, common_steps, (insert_before e k fs h))
 
 put_by_number : (k : DeliveryOrder) (v : FrameInFlight) (es : List FlightEntry) → All (λ f. f.0.number < k.number) es → by_number (insert_entry turn_cmp es k v) ≡ by_number es ++ (k, v) ∷ []
 put_by_number k v [] h = refl

@@ -1,5 +1,5 @@
 -- The least address that one of two lists alone has.
-use Rattle.mesh_settled.proofs.Common.{◌≡◌, ℕ, ◌+◌, ◌<◌, ◌≤◌, ◌⊎◌, inl, inr, refl, ap, subst, arith, List, Contains, Option, Some, None, Bool, true, false, cond, nat_lt, length, slice_get, common_steps, ◌↔◌, IsTrue, false≢true, ltb-true, ltb-false, cases_eq, Addr4, AreApart, IsLeastMissing, lower, place_of as place_in, contains_at, same_some}
+use Rattle.mesh_settled.proofs.Common.{◌≡◌, ℕ, ◌+◌, ◌<◌, ◌≤◌, ◌⊎◌, inl, inr, refl, ap, subst, arith, List, Contains, Option, Some, None, Bool, true, false, cond, nat_lt, length, slice_get, ◌↔◌, IsTrue, common_steps, false≢true, ltb-true, ltb-false, cases_eq, Addr4, AreApart, IsLeastMissing, lower, place_of as place_in, contains_at, same_some}
 
 -- it stands before place i
 abbrev pub IsEarlier : {X : Type 0} → List X → ℕ → X → Type 0

@@ -1,5 +1,5 @@
 -- A router is settled exactly where it has no gap.
-use Rattle.mesh_settled.proofs.Common.{◌≡◌, ℕ, zero, suc, ◌+◌, ◌*◌, ◌<◌, ◌≤◌, ◌⊎◌, inl, inr, arith, refl, sym, ◌∙◌, ap, subst, [], ◌∷◌, List, Option, Some, None, Bool, true, false, cond, slice_get, ◌↔◌, Contains, list_any, none-some, Addr4, NetAddr, RadioGraph, Metric, Interface, RouterSettings, Scenario, LinkKey, TwoHopKey, Base, Has, metric_value, Says, Flooding, Routing, Joins, Adjacent, IsMetric, At, IsLeastAddress, IsLinkTo, IsNeighbourOf, IsTwoHopBy, IsPeer, IsRouterBy, IsAddressBy, IsNetworkBy, IsSettledAt, Symmetric as Is_symmetric, State, state_of, HasLink, HasTwoHop, HasSymmetric, HasAddress, Decides-some, joins_back, sound_scenario, Link, Neighbour, TwoHop, Router, Address, Network, Field, AllSame, link_fields, neighbour_fields, two_hop_fields, topology_fields, router_fields, address_fields, network_fields, known_cost, Look, look, IsHeldTopic, IsPresentTopic, AreSame, HasNoGap, all_addresses, IsNetwork, one_originator, some_equal as some_nat, same_some, same_answer}
+use Rattle.mesh_settled.proofs.Common.{common_steps, ◌≡◌, ℕ, zero, suc, ◌+◌, ◌*◌, ◌<◌, ◌≤◌, ◌⊎◌, inl, inr, arith, refl, sym, ◌∙◌, ap, subst, [], ◌∷◌, List, Option, Some, None, Bool, true, false, cond, slice_get, ◌↔◌, Contains, list_any, none-some, Addr4, NetAddr, RadioGraph, Metric, Interface, RouterSettings, Scenario, LinkKey, TwoHopKey, Base, Has, metric_value, Says, Flooding, Routing, Joins, Adjacent, IsMetric, At, IsLeastAddress, IsLinkTo, IsNeighbourOf, IsTwoHopBy, IsPeer, IsRouterBy, IsAddressBy, IsNetworkBy, IsSettledAt, Symmetric as Is_symmetric, State, state_of, HasLink, HasTwoHop, HasSymmetric, HasAddress, Decides-some, joins_back, sound_scenario, Link, Neighbour, TwoHop, Router, Address, Network, Field, AllSame, link_fields, neighbour_fields, two_hop_fields, topology_fields, router_fields, address_fields, network_fields, known_cost, Look, look, IsHeldTopic, IsPresentTopic, AreSame, HasNoGap, all_addresses, IsNetwork, one_originator, some_equal as some_nat, same_some, same_answer}
 use Rattle.std.proofs.lemmas.List.Elements.{Contains-append_cases, Contains-append_left, Contains-append_right}
 use mathlib.Core.HLevel.{is_prop→PathP}
 use Rattle.std.specs.Coded.{le_prop}
@@ -19,9 +19,6 @@ use Rattle.mesh_settled.proofs.GapsLemmas.Sides.{all_self, all_sym}
 
 -- Values that fields tell
 
-metric_of : (code : ℕ) → code < 4096 → Metric
-metric_of code in_range = record { code = code; in_range = in_range }
-
 pub same_metric : (a b : Metric) → metric_value a ≡ metric_value b → a ≡ b
 same_metric a b e =
     subst (λ (k : ℕ). (h : k < 4096) → a ≡ record { code = k; in_range = h }) (cost-injective a.code b.code e)
@@ -34,10 +31,7 @@ same_metrics (Some m) None e = absurd (none-some (metric_value m) (sym e))
 same_metrics (Some m) (Some n) e = ap (λ (k : Metric). Some k) (same_metric m n (same_some refl e))
 
 same_bools : (a b : Bool) → ◌≡◌ {A = Option ℕ} (Some (cond a 1 0)) (Some (cond b 1 0)) → a ≡ b
-same_bools true true e = refl
-same_bools false false e = refl
-same_bools true false e = absurd (let h = some_nat 1 0 e in omega (arith, h))
-same_bools false true e = absurd (let h = some_nat 0 1 e in omega (arith, h))
+same_bools a b e = grind (arith, common_steps, some_nat)
 
 same_least : (r : RouterSettings) (j : ℕ) (a b : Addr4) → IsLeastAddress r j a → IsLeastAddress r j b → a ≡ b
 same_least r j a b v w =

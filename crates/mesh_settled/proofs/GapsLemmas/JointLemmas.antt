@@ -1,5 +1,5 @@
 -- Least addresses, and hops by the pairs of the radio graph.
-use Rattle.mesh_settled.proofs.Common.{◌≡◌, ℕ, ◌+◌, ◌<◌, ◌≤◌, inl, inr, refl, sym, ◌∙◌, ap, subst, arith, List, [], Option, Some, None, Bool, true, false, nat_eq, nat_lt, slice_index_or, length, map, slice_get, Contains, ◌↔◌, IsTrue, is_some, option_map, false≢true, eqb-true, eq-eqb, ltb-true, ltb-false, cases_eq, slice_get-map, none-some, slice_get_read, slice_get_past, slice_get_within, Bor, Addr4, Pair, RadioGraph, Metric, RouterSettings, Scenario, IsValue, Joins, IsRadioGraph, At, IsLeastAddress, State, HasAddressOn, HasAddress, Joint, IsLeastMissing, IsBack, IsLeastOf, IsJointBy, IsJointWith, IsOfSome, joins_back, contains_none, contains_at, place_of as place_in, no as never, same_some}
+use Rattle.mesh_settled.proofs.Common.{common_steps, ◌≡◌, ℕ, ◌+◌, ◌<◌, ◌≤◌, inl, inr, refl, sym, ◌∙◌, ap, subst, arith, List, [], Option, Some, None, Bool, true, false, nat_eq, length, slice_get, Contains, ◌↔◌, IsTrue, is_some, option_map, false≢true, eqb-true, eq-eqb, cases_eq, none-some, slice_get_within, Bor, Addr4, Pair, RadioGraph, Metric, RouterSettings, Scenario, IsValue, Joins, IsRadioGraph, At, IsLeastAddress, State, HasAddressOn, HasAddress, Joint, IsLeastMissing, IsBack, IsLeastOf, IsJointBy, IsJointWith, IsOfSome, joins_back, contains_none, contains_at, place_of as place_in, no as never, same_some}
 
 pub least_in : (settings : RouterSettings) (i : ℕ) (list : List Addr4) (o : Option Addr4) → ((a : Addr4) → Contains list a ↔ HasAddressOn settings i a) →
     IsLeastMissing (λ a. Contains list a) [] o → IsValue (IsLeastAddress settings i) o
@@ -7,12 +7,10 @@ least_in settings i list None on least = λ a h. contains_none a (least a ((on a
 least_in settings i list (Some b) on least = ((on b).0 least.0, λ a h. least.2 a ((on a).1 h) (contains_none a))
 
 pub value_some : {A : Type 0} (P : A → Type 0) (o : Option A) (a : A) → o ≡ Some a → IsValue P o → P a
-value_some P None a e v = absurd (none-some a e)
-value_some P (Some b) a e v = subst P (same_some refl e) v
+value_some P o a e v = grind (arith, common_steps, none-some, same_some)
 
 pub value_none : {A : Type 0} (P : A → Type 0) (o : Option A) → o ≡ None → IsValue P o → (a : A) → P a → ⊥
-value_none P None e v = v
-value_none P (Some b) e v = absurd (none-some b (sym e))
+value_none P o e v = grind (arith, common_steps, none-some)
 
 pub one_least : (settings : RouterSettings) (i : ℕ) (least a : Addr4) → IsLeastAddress settings i least → IsTrue (nat_eq least.0 a.0) ↔ IsLeastAddress settings i a
 one_least settings i least a is = (
@@ -20,21 +18,10 @@ one_least settings i least a is = (
   λ other. eq-eqb least.0 a.0 (let low = is.1 a other.0 in let high = other.1 least is.0 in omega arith),
 )
 
--- Routers at their places
-module _ {A : Type 0} (f : A → State) where
-  pub some_router : (routers : List A) (y : ℕ) (r : A) (b : Bool) → b ≡ true → b ≡ nat_lt y (length routers) → r ≡ slice_index_or routers y r → Some (f r) ≡ slice_get (map f routers) y
-  some_router routers y r b e within is = sym (slice_get-map f routers y ∙ ap (option_map f) (slice_get_read routers (length routers) y r refl (ltb-true y (length routers) (sym within ∙ e)) is))
-
-  pub none_router : (routers : List A) (y : ℕ) (b : Bool) → b ≡ false → b ≡ nat_lt y (length routers) → None ≡ slice_get (map f routers) y
-  none_router routers y b e past = sym (slice_get-map f routers y ∙ ap (option_map f) (slice_get_past routers y (ltb-false y (length routers) (sym past ∙ e))))
-
 -- what the look-up of a router finds
 module _ {A : Type 0} (f : A → State) {states : List State} {y : ℕ} {o : Option (Bor A)} (is : option_map (λ (r : Bor A). f r.now) o ≡ slice_get states y) where
   pub router_found : {r : Bor A} → o ≡ Some r → At states y (f r.now)
   router_found some = record { is = sym is ∙ ap (option_map (λ (r : Bor A). f r.now)) some }
-
-  pub no_router_found : o ≡ None → (q : State) → At states y q → ⊥
-  no_router_found none q at = none-some q (sym (sym is ∙ ap (option_map (λ (r : Bor A). f r.now)) none) ∙ at.is)
 
 pub same_state : {states : List State} {y : ℕ} {p q : State} → At states y p → At states y q → p ≡ q
 same_state at at' = same_some at.is at'.is
@@ -90,9 +77,6 @@ module _ {A : Type 0} (P : A → Type 0) (list : List A) where
   abbrev pub NoBefore : ℕ → Type 0
   NoBefore i = (k : ℕ) → k < i → (e : A) → slice_get list k ≡ Some e → P e → ⊥
 
-  pub some_here : (i : ℕ) (e : A) → slice_get list i ≡ Some e → P e → IsTrue true ↔ ((a : A) × Contains list a × P a)
-  some_here i e at p = (λ _. (e, contains_at list i e at, p), λ _. refl)
-
   pub no_more : (i : ℕ) (e : A) → slice_get list i ≡ Some e → (P e → ⊥) → NoBefore i → NoBefore (i + 1)
   no_more i e at none before = next_place (λ k. (f : A) → slice_get list k ≡ Some f → P f → ⊥) i before (λ f there p. none (subst P (same_some there at) p))
 
@@ -107,12 +91,6 @@ module _ (pairs : List Pair) (pair : Pair) where
   abbrev pub LeadsBack : Pair → Type 0
   LeadsBack back = (back.from ≡ pair.to) × (back.from_iface ≡ pair.to_iface) × (back.to ≡ pair.from) × (back.to_iface ≡ pair.from_iface)
 
-  pub back_here : (i : ℕ) (back : Pair) → slice_get pairs i ≡ Some back → LeadsBack back → IsBack pairs pair back.metric
-  back_here i back at (from, from_iface, to, to_iface) = rw (← from, ← from_iface, ← to, ← to_iface) (contains_at pairs i back at)
-
-  pub no_back : (i : ℕ) → length pairs ≤ i → NoBefore LeadsBack pairs i → (m : Metric) → IsBack pairs pair m → ⊥
-  no_back i end before m has = none_in LeadsBack pairs i end before _ has (refl, refl, refl, refl)
-
 -- Searches
 module _ {A B : Type 0} (P : A → B → Type 0) (list : List A) where
   abbrev Gives : A → Type 0
@@ -123,12 +101,10 @@ module _ {A B : Type 0} (P : A → B → Type 0) (list : List A) where
   NoneBefore = NoBefore Gives list
 
   pub found_one : (i : ℕ) (e : A) (o : Option B) → slice_get list i ≡ Some e → true ≡ is_some o → IsValue (P e) o → IsValue (IsOfSome P list) o
-  found_one i e None at some value = absurd (false≢true (sym some))
-  found_one i e (Some r) at some value = (e, contains_at list i e at, value)
+  found_one i e o at some value = grind (arith, common_steps, contains_at)
 
   pub none_one : (i : ℕ) (e : A) (o : Option B) → slice_get list i ≡ Some e → false ≡ is_some o → IsValue (P e) o → NoneBefore i → NoneBefore (i + 1)
-  none_one i e None at some value = no_more Gives list i e at (λ w. value w.0 w.1)
-  none_one i e (Some r) at some value = absurd (false≢true some)
+  none_one i e o at some value = grind (arith, common_steps, no_more)
 
   pub none_found : (i : ℕ) → length list ≤ i → NoneBefore i → IsValue (IsOfSome P list) None
   none_found i end before = λ r w. none_in Gives list i end before w.0 w.1 (r, w.2)

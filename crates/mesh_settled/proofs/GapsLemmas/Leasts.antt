@@ -1,5 +1,5 @@
 -- The order of keys, and the lesser of two gaps.
-use Rattle.mesh_settled.proofs.Common.{◌≡◌, ℕ, ◌+◌, ◌<◌, ◌≤◌, ◌⊎◌, inl, inr, refl, sym, subst, arith, Option, Some, None, Bool, true, false, cond, nat_lt, nat_eq, common_steps, List, slice_get, false≢true, ltb-true, lt-ltb, ltb-false, eqb-true, eq-eqb, cases_eq, cases_Bool, and_parts, or_cases, Found, GapKey, same_some, true_false, Field, Look, IsHeldTuple, IsPresentTuple, AreSame, precedes, is_ranked_before, rank_of, IsLeastGap, IsTest, lesser, found_at}
+use Rattle.mesh_settled.proofs.Common.{◌≡◌, ℕ, ◌+◌, ◌<◌, ◌≤◌, ◌⊎◌, inl, inr, refl, sym, subst, arith, Option, Some, None, Bool, true, false, cond, nat_lt, nat_eq, List, slice_get, common_steps, false≢true, ltb-true, lt-ltb, ltb-false, eqb-true, eq-eqb, cases_eq, cases_Bool, and_parts, or_cases, Found, GapKey, same_some, true_false, Field, Look, IsHeldTuple, IsPresentTuple, AreSame, precedes, is_ranked_before, rank_of, IsLeastGap, IsTest, lesser, found_at}
 use Rattle.mesh_settled.specs.declared.gaps.found.Rank.{Rank}
 use Rattle.mesh_settled.specs.declared.gaps.compare.HeldAndPresent.{HeldAndPresent}
 
@@ -18,22 +18,7 @@ then_before : (k l m : ℕ) (r s t : Bool) → (r ≡ true → s ≡ true → t 
 then_before k l m r s t next e f = grind (arith, common_steps, before_cases, before_less, before_same)
 
 not_before : (k l m : ℕ) (r s t : Bool) → (r ≡ true → s ≡ false → t ≡ true) → precedes k l r ≡ true → precedes m l s ≡ false → precedes k m t ≡ true
-not_before k l m r s t next e f = elim (cases_lt m l) [
-  | inl less ↦ true_false (before_less m l s less) f
-  | inr more ↦ elim (before_cases k l r e) [
-    | inl less ↦ before_less k m t (omega arith)
-    | inr same ↦ elim (cases_eq m l) [
-      | inl equal ↦ elim (cases_Bool s) [
-        | inl same_s ↦ true_false (before_same m l s equal same_s) f
-        | inr other_s ↦ before_same k m t (let h = same.0 in omega arith) (next same.1 other_s)
-      ]
-      | inr other ↦ before_less k m t (let h = same.0 in omega (arith, other))
-    ]
-  ]
-]
-  where
-    cases_lt : (a b : ℕ) → (a < b) ⊎ (b ≤ a)
-    cases_lt a b = elim (cases_Bool (nat_lt a b)) [ inl less ↦ inl (ltb-true a b less) | inr more ↦ inr (ltb-false a b more) ]
+not_before k l m r s t next e f = grind (arith, common_steps, true_false, before_less, before_cases, cases_eq, cases_Bool, before_same)
 
 below : (k l m : ℕ) → nat_lt k l ≡ true → nat_lt l m ≡ true → nat_lt k m ≡ true
 below k l m e f = let g = ltb-true k l e in let h = ltb-true l m f in lt-ltb k m (omega arith)

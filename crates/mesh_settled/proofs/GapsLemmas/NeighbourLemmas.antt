@@ -1,5 +1,5 @@
 -- Neighbours on both sides.
-use Rattle.mesh_settled.proofs.Common.{◌≡◌, ℕ, ◌+◌, ◌<◌, ◌≤◌, ◌⊎◌, inl, inr, refl, sym, ◌∙◌, ap, subst, arith, length, List, Contains, Option, Some, None, Bool, true, false, cond, nat_lt, map, common_steps, ◌↔◌, IsTrue, is_some, false≢true, cases_eq, ltb-true, ltb-false, none-some, slice_get_within, Addr4, RadioGraph, Metric, RouterSettings, Scenario, HasDistinctKeys, addr_eq, Says, Routing, IsMetric, At, IsNeighbourOf, State, HasAddress, HasAddressOn, IsOriginator, neighbour_at, looks_up_neighbours, sound_scenario, originator_address, Found, GapKey, Neighbour as Of_neighbour, Field, AllSame, neighbour_fields, IsSide, IsLeastGap, IsLeastMissing, lesser, least_of, Look, look, IsHeldTuple, IsPresentTuple, IsHeldNeighbour, IsPresentNeighbour, all_addresses, IsNetwork, given_tuple, given_fields, IsNear, IsGivenNear, IsNeighbourHeld, IsOriginatorOf, IsOriginatorBelow, IsNeighbourKey, same_some, place_of as place_in, one_originator, same_addr as addr_is}
+use Rattle.mesh_settled.proofs.Common.{◌≡◌, ℕ, ◌+◌, ◌<◌, ◌≤◌, ◌⊎◌, inl, inr, refl, sym, ◌∙◌, ap, subst, arith, length, List, Contains, Option, Some, None, Bool, true, false, cond, nat_lt, map, ◌↔◌, IsTrue, is_some, common_steps, false≢true, cases_eq, ltb-true, ltb-false, none-some, slice_get_within, Addr4, RadioGraph, Metric, RouterSettings, Scenario, HasDistinctKeys, addr_eq, Says, Routing, IsMetric, At, IsNeighbourOf, State, HasAddress, HasAddressOn, IsOriginator, neighbour_at, looks_up_neighbours, sound_scenario, originator_address, Found, GapKey, Neighbour as Of_neighbour, Field, AllSame, neighbour_fields, IsSide, IsLeastGap, IsLeastMissing, lesser, least_of, Look, look, IsHeldTuple, IsPresentTuple, IsHeldNeighbour, IsPresentNeighbour, all_addresses, IsNetwork, given_tuple, given_fields, IsNear, IsGivenNear, IsNeighbourHeld, IsOriginatorOf, IsOriginatorBelow, IsNeighbourKey, same_some, place_of as place_in, one_originator, same_addr as addr_is}
 use Rattle.mesh_atoms.specs.declared.tuples.Neighbour.{Neighbour}
 use Rattle.mesh_settled.specs.declared.gaps.neighbours.GivenNeighbour.{GivenNeighbour}
 use Rattle.mesh_settled.specs.Gaps.Neighbours.{symmetric_fields, IsGivenAt}
@@ -19,8 +19,7 @@ module _ (list : List Addr4) (P Q : Addr4 → Type 0) where
   least_either (Some c) (Some b) p q = grind (arith, common_steps, nat_lt, cond, ltb-true, ltb-false)
 
   pub missing_as : ((a : Addr4) → P a → Q a) → ((a : Addr4) → Q a → P a) → (o : Option Addr4) → IsLeastMissing P list o → IsLeastMissing Q list o
-  missing_as there back None p = λ a h. p a (back a h)
-  missing_as there back (Some b) p = (there b p.0, p.1, λ a h missing. p.2 a (back a h) missing)
+  missing_as there back o p = grind (arith, common_steps)
 
 pub is_own : (r : RouterSettings) (a : Addr4) (b : Bool) → IsTrue b ↔ HasAddress r a → IsTrue b ↔ Contains (all_addresses r.interfaces) a
 is_own r a b test = (λ e. (all_are r a).1 (test.0 e), λ h. test.1 ((all_are r a).0 h))
@@ -97,16 +96,9 @@ near_is l y q g mine same mine_is there back test = record {
 pub its_originator : (r : RouterSettings) (own a : Addr4) → IsOriginator r own → own.0 ≡ a.0 → IsOriginator r a
 its_originator r own a is e = subst (IsOriginator r) (addr_is own a e) is
 
-pub not_originator : (r : RouterSettings) (own a : Addr4) → ((b : Addr4) → IsOriginator r b → b ≡ own) → (own.0 ≡ a.0 → ⊥) → IsOriginator r a → ⊥
-not_originator r own a only other h = other (ap (λ (b : Addr4). b.0) (sym (only a h)))
-
 pub given_here : (l : Look) (o : Addr4) (y : ℕ) (q : State) (at : At l.states y q) (settings : RouterSettings) → settings ≡ q.settings → IsOriginator settings o → (g : Option GivenNeighbour) → IsGivenNear l y q g → IsGivenAt l o y g
 given_here l o y q at settings same origin None none = λ r there back at_r is m n. none there back m n
 given_here l o y q at settings same origin (Some g) near = (q, at, subst (λ (r : RouterSettings). IsOriginator r o) same origin, near)
-
-pub given_other : (l : Look) (o : Addr4) (y : ℕ) (q : State) (at : At l.states y q) (settings : RouterSettings) → settings ≡ q.settings → (IsOriginator settings o → ⊥) → IsGivenAt l o y None
-given_other l o y q at settings same none = λ r there back at_r is m n.
-    none (subst (λ (t : RouterSettings). IsOriginator t o) (ap (λ (t : State). t.settings) (same_state at_r at) ∙ sym same) is)
 
 module _ (s : Scenario) (graph : RadioGraph) (states : List State) (now x : ℕ) (p : State) (net : IsNetwork s graph states now) (here : At states x p) (o : Addr4) where
   abbrev l : Look

@@ -1,12 +1,9 @@
 -- Senders of TCs, and stray routers.
-use Rattle.mesh_settled.proofs.Common.{◌≡◌, ◌≢◌, ℕ, ◌<◌, ◌≤◌, arith, refl, sym, ◌∙◌, ap, subst, length, List, Some, Bool, true, false, slice_get, nat_eq, map, ◌↔◌, IsTrue, Option, None, is_some, not, false≢true, eqb-true, eq-eqb, slice_get_within, Addr4, RadioGraph, Interface, RouterSettings, Scenario, Joined, At, IsStray, State, HasAddress, IsOriginator, IsValue, sound_scenario, originator_address, IsNetwork, IsPeerOriginator, IsStrayAt, same_addr as addr_is, same_some}
+use Rattle.mesh_settled.proofs.Common.{◌≡◌, ◌≢◌, ℕ, ◌<◌, ◌≤◌, arith, sym, ◌∙◌, ap, subst, length, List, Some, Bool, true, false, slice_get, nat_eq, map, ◌↔◌, IsTrue, Option, None, is_some, not, false≢true, eqb-true, eq-eqb, slice_get_within, Addr4, RadioGraph, Interface, RouterSettings, Scenario, Joined, At, IsStray, State, HasAddress, IsOriginator, IsValue, sound_scenario, originator_address, IsNetwork, IsPeerOriginator, IsStrayAt, same_addr as addr_is, same_some}
 use Rattle.std.proofs.lemmas.List.{length-map}
 use Rattle.mesh_settled.proofs.GapsLemmas.JointLemmas.{same_state}
 
 module _ (s : Scenario) (graph : RadioGraph) (states : List State) (now x : ℕ) (net : IsNetwork s graph states now) where
-  pub not_sender : (from : Addr4) (w : ℕ) (b : Bool) → IsTrue b ↔ ((w ≢ x) × Joined s x w) → b ≡ false → IsTrue false ↔ IsPeerOriginator s states x from w
-  not_sender from w b test no_join = (λ e. absurd (false≢true e), λ h. let p = h.1 in absurd (false≢true (sym no_join ∙ test.1 (p.other, p.joined))))
-
   pub is_sender : (from own : Addr4) (w : ℕ) (b : Bool) (q : State) → IsTrue b ↔ ((w ≢ x) × Joined s x w) → b ≡ true → At states w q → (settings : RouterSettings) → settings ≡ q.settings → IsOriginator settings own →
       IsTrue (nat_eq own.0 from.0) ↔ IsPeerOriginator s states x from w
   is_sender from own w b q test joins at settings same origin =
@@ -18,9 +15,6 @@ module _ (s : Scenario) (graph : RadioGraph) (states : List State) (now x : ℕ)
             let face : slice_get theirs.0.addrs 0 ≡ Some own = subst (λ (f : Interface). slice_get f.addrs 0 ≡ Some own) (same_some mine.1 theirs.1) mine.2 in
             eq-eqb own.0 from.0 (ap (λ (a : Addr4). a.0) (same_some face theirs.2)),
       )
-
-  pub no_stray_at : (a : Addr4) (v : ℕ) (b : Bool) → IsTrue b ↔ ((v ≢ x) × Joined s x v) → b ≡ true → IsTrue false ↔ IsStrayAt s x a v
-  no_stray_at a v b test joins = (λ e. absurd (false≢true e), λ w. absurd (w.1 (test.0 joins).1))
 
   pub stray_at : (a : Addr4) (v : ℕ) (b c : Bool) (q : State) → IsTrue b ↔ ((v ≢ x) × Joined s x v) → b ≡ false → v ≢ x → At states v q → (settings : RouterSettings) → settings ≡ q.settings →
       IsTrue c ↔ HasAddress settings a → IsTrue c ↔ IsStrayAt s x a v
@@ -46,9 +40,6 @@ module _ {A : Type 0} (f : A → State) (routers : List A) where
         let less = within h.0 p at in
         absurd (before h.0 (omega (arith, less)) (h.1, h.2, h.3)),
   )
-
-pub some_stray : (s : Scenario) (x : ℕ) (a : Addr4) (v : ℕ) → IsStrayAt s x a v → IsTrue true ↔ IsStray s x a
-some_stray s x a v h = (λ _. (v, h.0, h.1, h.2), λ _. refl)
 
 -- a sender's originator is no stray router's address
 pub sender_is_near : (s : Scenario) (graph : RadioGraph) (states : List State) (now x : ℕ) → IsNetwork s graph states now → (a : Addr4) (w : ℕ) → IsPeerOriginator s states x a w → IsStray s x a → ⊥

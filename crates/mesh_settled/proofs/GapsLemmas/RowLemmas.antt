@@ -1,5 +1,5 @@
 -- The rows of a router's TC, and what they say.
-use Rattle.mesh_settled.proofs.Common.{◌≡◌, ℕ, ◌<◌, inl, inr, arith, refl, sym, ◌∙◌, ap, subst, length, List, Option, Some, None, Bool, true, false, cond, slice_get, get_or, nat_eq, ◌↔◌, IsTrue, not, Contains, option_map, AllPairs, false≢true, eq-eqb, cases_eq, cases_lt, and_parts as both, and_from, none-some, get_or_from_slice_get, Addr4, NetAddr, Metric, host, net_eq, IsValue, Sound, State, IsOriginator, neighbour_at, looks_up_neighbours, same_net, Claim, TopologyKind, Routers, Addresses, Networks, IsOfSome, IsValueOf, dest_of, is_row_of, claim_by, claim_if, key_at, IsClaimBy, not_before_itself, same_some, cond_none_some, place_of as place_in, no as never}
+use Rattle.mesh_settled.proofs.Common.{common_steps, ◌≡◌, ℕ, ◌<◌, inl, inr, arith, refl, sym, ◌∙◌, ap, subst, length, List, Option, Some, None, Bool, true, false, cond, slice_get, get_or, nat_eq, ◌↔◌, IsTrue, not, Contains, option_map, AllPairs, false≢true, eq-eqb, cases_eq, cases_lt, and_parts as both, and_from, none-some, get_or_from_slice_get, Addr4, NetAddr, Metric, host, net_eq, IsValue, Sound, State, IsOriginator, neighbour_at, looks_up_neighbours, same_net, Claim, TopologyKind, Routers, Addresses, Networks, IsOfSome, IsValueOf, dest_of, is_row_of, claim_by, claim_if, key_at, IsClaimBy, not_before_itself, same_some, cond_none_some, place_of as place_in, no as never}
 use Rattle.mesh_atoms.specs.declared.tc.TcRow.{TcRow}
 use Rattle.mesh_atoms.specs.declared.tuples.Neighbour.{Neighbour}
 use Rattle.mesh_atoms.specs.Advertised.{Advertises, AdvertisesOriginator, AdvertisesNetwork, IsTcRow, Of_address, Of_network}
@@ -11,14 +11,10 @@ net_self : (net : NetAddr) → net_eq net net ≡ true
 net_self net = and_from (nat_eq net.addr.0 net.addr.0) (nat_eq net.prefix net.prefix) (eq-eqb net.addr.0 net.addr.0 refl) (eq-eqb net.prefix net.prefix refl)
 
 pub dest_is : (topic : TopologyKind) (net : NetAddr) (row : TcRow) → is_row_of topic net row ≡ true → row.dest ≡ dest_of topic net
-dest_is Routers net row e = same_net row.dest (host net.addr) (both row.origin _ e).1
-dest_is Addresses net row e = same_net row.dest (host net.addr) (both row.routable _ e).1
-dest_is Networks net row e = same_net row.dest net (both (not row.routable) _ e).1
+dest_is topic net row e = grind (arith, common_steps, same_net)
 
 pub same_key : (topic : TopologyKind) (from : Addr4) (net dest : NetAddr) → dest ≡ dest_of topic net → key_at topic from net ≡ key_at topic from dest
-same_key Routers from net dest e = ap (λ (n : NetAddr). key_at Routers from n) (sym e)
-same_key Addresses from net dest e = ap (λ (n : NetAddr). key_at Addresses from n) (sym e)
-same_key Networks from net dest e = ap (λ (n : NetAddr). key_at Networks from n) (sym e)
+same_key topic from net dest e = grind (arith, common_steps)
 
 -- What a row says
 
@@ -32,12 +28,10 @@ claim_is : (ansn : ℕ) (row : TcRow) (t : Claim) (m : Metric) (d : Option ℕ) 
 claim_is ansn row t m d e has gateway = same_some e (says ansn row m d has gateway)
 
 some_if : (b : Bool) (x : Option Claim) (t : Claim) → b ≡ true → x ≡ Some t → cond b x None ≡ Some t
-some_if true x t e f = f
-some_if false x t e f = absurd (false≢true e)
+some_if b x t e f = grind (arith, common_steps)
 
 pub value_self : {A : Type 0} (o w : Option A) → o ≡ w → IsValue (λ a. w ≡ Some a) o
-value_self None w e = λ a f. none-some a (e ∙ f)
-value_self (Some b) w e = sym e
+value_self o w e = grind (arith, common_steps)
 
 -- Rows in order
 

@@ -1,5 +1,5 @@
 -- What two sides have at a key, and the test of it.
-use Rattle.mesh_settled.proofs.Common.{Bool, List, None, Option, Some, [], ap, inl, inr, refl, subst, sym, ℕ, ◌+◌, ◌∙◌, ◌∷◌, ◌≡◌, ◌≢◌, arith, common_steps, ◌↔◌, is_some, option_map, GapKey, Field, Number, SaySame, AllSame, Differ, DifferFrom, Look, IsHeldTuple, IsPresentTuple, IsExcepted, Held_alone, Present_alone, Unequal, IsGapAt, at_field, IsTest, IsTestFrom, IsSide, IsLeastGap, compared, found_at, none-some, same_some}
+use Rattle.mesh_settled.proofs.Common.{Bool, List, None, Option, Some, [], ap, inl, inr, refl, subst, sym, ℕ, ◌+◌, ◌∙◌, ◌∷◌, ◌≡◌, ◌≢◌, arith, ◌↔◌, is_some, option_map, common_steps, GapKey, Field, Number, SaySame, AllSame, Differ, DifferFrom, Look, IsHeldTuple, IsPresentTuple, IsExcepted, Held_alone, Present_alone, Unequal, IsGapAt, IsTest, IsTestFrom, IsSide, IsLeastGap, compared, found_at, none-some, same_some}
 use Rattle.mesh_settled.specs.declared.gaps.compare.Difference.{Difference}
 use Rattle.mesh_settled.specs.Gaps.Fields.{Addresses}
 use Rattle.mesh_settled.proofs.GapsLemmas.Leasts.{least_one}
@@ -22,8 +22,7 @@ same_then (Addresses ms) (Addresses ns) (Number o) e f = f
 same_then (Number m) (Number n) (Addresses os) e f = f
 
 same_self : (f : Field) → SaySame f f
-same_self (Addresses ms) = λ a. (λ w. w, λ w. w)
-same_self (Number n) = refl
+same_self f = grind (arith, common_steps)
 
 pub all_self : (fs : List Field) → AllSame fs fs
 all_self [] = tt
@@ -82,8 +81,7 @@ module _ (l : Look) (key : GapKey) (all : IsExcepted l key → ⊥) where
 
 -- what is found at the key where each side has a tuple that its fields tell, or none
 some_told : {A : Type 0} (fields : A → List Field) (o : Option A) → is_some (option_map fields o) ≡ is_some o
-some_told fields None = refl
-some_told fields (Some a) = refl
+some_told fields o = grind (arith, common_steps)
 
 pub gap_found : {A B : Type 0} (l : Look) (key : GapKey) → (IsExcepted l key → ⊥) → (ours : A → List Field) (theirs : B → List Field) (held : Option A) (given : Option B) (d : Option Difference) (h g : Bool) → h ≡ is_some held → g ≡ is_some given →
     IsSide (IsHeldTuple l key) (option_map ours held) → IsSide (IsPresentTuple l key) (option_map theirs given) →
@@ -112,10 +110,7 @@ module _ {V T : Type 0} (view : V → T) (fields : T → List Field) (Holds : V 
 -- The two values of a gap differ
 
 unequal_numbers : (f g : Field) (m n : Option ℕ) → Differ f g m n → m ≢ n
-unequal_numbers (Addresses ms) (Addresses ns) m n apart same = grind (arith, common_steps, none-some)
-unequal_numbers (Number v) (Number w) m n apart same = apart.0 (sym apart.1 ∙ (same ∙ apart.2))
-unequal_numbers (Addresses ms) (Number w) m n apart same = apart
-unequal_numbers (Number v) (Addresses ns) m n apart same = apart
+unequal_numbers f g m n apart same = grind (arith, common_steps, none-some)
 
 unequal_from : (at : ℕ) (fs gs : List Field) (field : ℕ) (m n : Option ℕ) → DifferFrom at fs gs field m n → m ≢ n
 unequal_from at [] gs field m n differ same = differ
@@ -126,6 +121,4 @@ unequal_from at (f ∷ fs) (g ∷ gs) field m n differ same = elim differ [
 ]
 
 pub gaps_differ : (l : Look) (key : GapKey) (held present : Option GapValue) → IsGapAt l key held present → held ≢ present
-gaps_differ l key held present (Held_alone fs h e none is none_is) same = none-some (at_field 0 None) (sym none_is ∙ (sym same ∙ is))
-gaps_differ l key held present (Present_alone gs g none none_is is) same = none-some (at_field 0 None) (sym none_is ∙ (same ∙ is))
-gaps_differ l key held present (Unequal fs gs field m n h g differ held_is present_is) same = grind (arith, common_steps, same_some, unequal_from)
+gaps_differ l key held present h4 same = grind (arith, common_steps, none-some, same_some, unequal_from)

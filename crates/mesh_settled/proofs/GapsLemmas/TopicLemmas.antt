@@ -1,5 +1,5 @@
 -- Topology tuples on both sides, of any kind.
-use Rattle.mesh_settled.proofs.Common.{◌≡◌, ℕ, ◌<◌, ◌⊎◌, inl, inr, refl, sym, ◌∙◌, ap, subst, length, List, Option, Some, None, slice_get, map, ◌↔◌, option_map, Addr4, NetAddr, RadioGraph, RouterSettings, Scenario, Base, Has, find, host, router_eq, address_eq, network_eq, Joined, At, IsPeer, IsStray, Sound, State, IsOriginator, has_found, router_equiv, same_router, address_equiv, same_address, network_equiv, same_network, sound_scenario, originator_address, Found, GapKey, Claim, TopologyKind, Routers, Addresses, Networks, Field, AllSame, IsSide, IsLeastGap, lesser, Look, look, IsHeldTuple, IsPresentTuple, IsExcepted, AreSame, IsNetwork, IsPeerOriginator, IsValueOf, claim, claim_fields, key_at, ends_at, IsClaimBy, IsPresentClaim, IsHeldAt, IsTupleHeld, IsToRows, IsByRows, IsByAllRows, IsTopicKey, same_some, place_of as place_in, one_originator}
+use Rattle.mesh_settled.proofs.Common.{arith, common_steps, ◌≡◌, ℕ, ◌<◌, ◌⊎◌, inl, inr, refl, sym, ◌∙◌, ap, subst, length, List, Option, Some, None, slice_get, map, ◌↔◌, option_map, Addr4, NetAddr, RadioGraph, RouterSettings, Scenario, Base, Has, find, host, router_eq, address_eq, network_eq, Joined, At, IsPeer, IsStray, Sound, State, IsOriginator, has_found, router_equiv, same_router, address_equiv, same_address, network_equiv, same_network, sound_scenario, originator_address, Found, GapKey, Claim, TopologyKind, Routers, Addresses, Networks, Field, AllSame, IsSide, IsLeastGap, lesser, Look, look, IsHeldTuple, IsPresentTuple, IsExcepted, AreSame, IsNetwork, IsPeerOriginator, IsValueOf, claim, claim_fields, key_at, ends_at, IsClaimBy, IsPresentClaim, IsHeldAt, IsTupleHeld, IsToRows, IsByRows, IsByAllRows, IsTopicKey, same_some, place_of as place_in, one_originator}
 use Rattle.mesh_atoms.specs.declared.tuples.RouterKey.{RouterKey}
 use Rattle.mesh_atoms.specs.declared.tuples.AddressKey.{AddressKey}
 use Rattle.mesh_atoms.specs.declared.tuples.NetworkKey.{NetworkKey}
@@ -77,9 +77,7 @@ module _ (l : Look) (from : Addr4) (net : NetAddr) where
   given_as topic (Some fs) one = (claim_gives topic fs one.0, λ gs h. one.1 gs (gives_claim topic gs h))
 
   pub excepted_is : (topic : TopologyKind) → IsExcepted l (key_at topic from net) ↔ IsStray l.s l.x from
-  excepted_is Routers = (λ e. e, λ e. e)
-  excepted_is Addresses = (λ e. e, λ e. e)
-  excepted_is Networks = (λ e. e, λ e. e)
+  excepted_is topic = grind (arith, common_steps)
 
 pub stray_same : (s : Scenario) (graph : RadioGraph) (states : List State) (now x : ℕ) → IsNetwork s graph states now → (p : State) (topic : TopologyKind) (from : Addr4) (dest : NetAddr) → IsStray s x from →
     AreSame (look s states now x p) (key_at topic from dest)

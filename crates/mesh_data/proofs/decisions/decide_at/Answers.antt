@@ -1,4 +1,4 @@
-use Rattle.mesh_data.proofs.Common.{◌<◌, length, arith, subst, List, Attached4, IsDecisionBy, map}
+use Rattle.mesh_data.proofs.Common.{◌<◌, length, arith, subst, List, map, Attached4, IsDecisionBy}
 use Rattle.mesh_data.proofs.Deciding.{router_at, state_within, state_at, not_of, decision_at}
 use Rattle.mesh_data.proofs.decisions.decide_at.Goals as goal
 

@@ -1,4 +1,4 @@
-use Rattle.mesh_config.proofs.Common.{◌≡◌, [], drop, take, map, length, joins, stated_identifiers, arc_places, ends_of, stated_arc_fields, arc_fields}
+use Rattle.mesh_config.proofs.Common.{◌≡◌, [], drop, take, map, length, joins, stated_identifiers, arc_places, ends_of, arc_fields, stated_arc_fields}
 use Rattle.mesh_config.proofs.ChecksLemmas.JoinLaws.{after_front}
 use Rattle.mesh_config.proofs.checks.joins.all_joined.Given as goal
 
