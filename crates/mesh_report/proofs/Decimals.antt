@@ -1,5 +1,5 @@
 -- Decimal digits, and how many there are.
-use Rattle.mesh_report.proofs.Common.{◌≡◌, ℕ, ◌+◌, ◌<◌, ◌≤◌, ◌^◌, ◌/◌, ◌%◌, List, [], ◌∷◌, ◌++◌, length, decimal, ap, ◌∙◌, arith, length-append, append_assoc, decimal_digit, decimal_step, length-decimal-le}
+use Rattle.mesh_report.proofs.Common.{common_steps, ◌≡◌, ℕ, ◌+◌, ◌<◌, ◌≤◌, ◌^◌, ◌/◌, ◌%◌, List, [], ◌∷◌, ◌++◌, length, decimal, ap, ◌∙◌, arith, length-append, decimal_digit, decimal_step, length-decimal-le}
 
 pub room_u64 : (n : ℕ) → n < 2 ^ 64 → length (decimal n) ≤ 20
 room_u64 n h = length-decimal-le 20 n (omega arith) (omega arith) h
@@ -13,15 +13,7 @@ pub two_digits : (n : ℕ) → 10 ≤ n → n < 100 → decimal n ≡ (48 + n / 
 two_digits n least most = decimal_step n (omega (arith, least)) (omega (arith, most)) ∙ ap (λ (l : List ℕ). l ++ (48 + n % 10) ∷ []) (decimal_digit (n / 10) (omega (arith, most)))
 
 pub two_last : (n : ℕ) → 99 < n → n < 2 ^ 64 → decimal n ≡ decimal (n / 100) ++ ((48 + n % 100 / 10) ∷ ((48 + n % 100 % 10) ∷ []))
-two_last n more fits =
-    let step = decimal_step n (omega (arith, more)) fits in
-    let next = decimal_step (n / 10) (omega (arith, more)) (omega (arith, fits)) in
-    let front : n / 10 / 10 ≡ n / 100 = omega arith in
-    let first : n / 10 % 10 ≡ n % 100 / 10 = omega arith in
-    let second : n % 10 ≡ n % 100 % 10 = omega arith in
-    step ∙ ap (λ (l : List ℕ). l ++ (48 + n % 10) ∷ []) next ∙ append_assoc (decimal (n / 10 / 10)) ((48 + n / 10 % 10) ∷ []) ((48 + n % 10) ∷ [])
-    ∙ ap (λ (k : ℕ). decimal k ++ ((48 + n / 10 % 10) ∷ ((48 + n % 10) ∷ []))) front ∙ ap (λ (k : ℕ). decimal (n / 100) ++ ((48 + k) ∷ ((48 + n % 10) ∷ []))) first
-    ∙ ap (λ (k : ℕ). decimal (n / 100) ++ ((48 + n % 100 / 10) ∷ ((48 + k) ∷ []))) second
+two_last n more fits = grind (arith, common_steps, decimal_step)
 
 pub two_longer : (n : ℕ) → 99 < n → n < 2 ^ 64 → length (decimal n) ≡ length (decimal (n / 100)) + 2
 two_longer n more fits = ap length (two_last n more fits) ∙ length-append (decimal (n / 100)) ((48 + n % 100 / 10) ∷ ((48 + n % 100 % 10) ∷ []))

@@ -1,5 +1,5 @@
 -- Octets laid in hexadecimal digits, one by one.
-use Rattle.mesh_report.proofs.Common.{◌≡◌, ℕ, suc, ◌+◌, ◌-◌, ◌*◌, ◌/◌, ◌%◌, ◌<◌, ◌≤◌, inl, inr, List, [], ◌∷◌, length, refl, sym, ap, subst, ◌∙◌, arith, Bool, true, ◌&&◌, nat_eq, slice_index, slice_set, put_chunk, cases_eq, cases_lt, eqb-true, and_parts as both, get_or-put_chunk_below, get_or-put_chunk_at, get_or-set_same, get_or-set_other, length-set, lower_digits, encode_with, DIGITS, HasDigits, AreDigits}
+use Rattle.mesh_report.proofs.Common.{◌≡◌, ℕ, suc, ◌+◌, ◌-◌, ◌*◌, ◌/◌, ◌%◌, ◌<◌, ◌≤◌, inl, inr, List, [], ◌∷◌, length, refl, ap, subst, ◌∙◌, arith, Bool, true, ◌&&◌, nat_eq, slice_index, put_chunk, cases_lt, eqb-true, and_parts as both, get_or-put_chunk_below, get_or-put_chunk_at, lower_digits, encode_with, DIGITS, HasDigits, AreDigits}
 use Rattle.mesh_report.proofs.Tables.{all_below, below}
 
 digit : ℕ → ℕ
@@ -19,23 +19,6 @@ first_is x fits = eqb-true _ _ (both _ _ (below is_pair 256 all_pairs x fits)).0
 pub second_is : (x : ℕ) → x < 256 → slice_index DIGITS x / 256 ≡ slice_index lower_digits (x % 16)
 unfolding is_pair digit
 second_is x fits = eqb-true _ _ (both _ _ (below is_pair 256 all_pairs x fits)).1
-
-pub one_more : (octets text : List ℕ) (i a b : ℕ) → 2 * i + 1 < length text → AreDigits octets text i → HasDigits (slice_index octets i) a b → AreDigits octets (slice_set (slice_set text (2 * i) a) (2 * i + 1) b) (i + 1)
-one_more octets text i a b room before is k lt =
-    let one : List ℕ = slice_set text (2 * i) a in
-    let two : List ℕ = slice_set one (2 * i + 1) b in
-    let size : length one ≡ length text = length-set text (2 * i) a in
-    elim (cases_eq k i) [
-      | inl same ↦
-          let first : slice_index two (2 * i) ≡ a = get_or-set_other one (2 * i + 1) (2 * i) b 0 (λ e. omega (arith, e)) ∙ get_or-set_same text (2 * i) a 0 (omega (arith, room)) in
-          let second : slice_index two (2 * i + 1) ≡ b = get_or-set_same one (2 * i + 1) b 0 (omega (arith, room, size)) in
-          subst (λ (n : ℕ). HasDigits (slice_index octets n) (slice_index two (2 * n)) (slice_index two (2 * n + 1))) (sym same) (first ∙ is.0, second ∙ is.1)
-      | inr other ↦
-          let p = before k (omega (arith, lt, other)) in
-          let first : slice_index two (2 * k) ≡ slice_index text (2 * k) = get_or-set_other one (2 * i + 1) (2 * k) b 0 (λ e. omega (arith, e)) ∙ get_or-set_other text (2 * i) (2 * k) a 0 (λ e. other (omega (arith, e))) in
-          let second : slice_index two (2 * k + 1) ≡ slice_index text (2 * k + 1) = get_or-set_other one (2 * i + 1) (2 * k + 1) b 0 (λ e. other (omega (arith, e))) ∙ get_or-set_other text (2 * i) (2 * k + 1) a 0 (λ e. omega (arith, e)) in
-          (first ∙ p.0, second ∙ p.1)
-    ]
 
 pub digits_all : (octets text : List ℕ) → length text ≡ 2 * length octets → AreDigits octets text (length octets) → text ≡ encode_with lower_digits octets
 unfolding encode_with

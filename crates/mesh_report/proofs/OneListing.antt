@@ -1,10 +1,6 @@
 -- A message reads in one way, and a line has one listing.
-use Rattle.mesh_report.proofs.Common.{◌≡◌, ℕ, zero, suc, List, [], ◌∷◌, ◌++◌, length, Option, Result, Ok, Err, Bool, true, false, inl, inr, sym, ap, ◌∙◌, arith, refl, NetAddr, MessageFields, PacketFields, Span, Keeps, message_text, IsMessagesText, IsPacketListed, recode_line, IsRecodeLine, IsRecode, IsLineText, hello_line, tc_line, broken_line, ReadsMessage, IsReading}
+use Rattle.mesh_report.proofs.Common.{common_steps, ◌≡◌, ℕ, List, [], ◌∷◌, ◌++◌, length, Option, Result, Ok, Err, Bool, true, false, inl, inr, sym, ap, ◌∙◌, arith, refl, NetAddr, MessageFields, PacketFields, Span, Keeps, IsMessagesText, IsPacketListed, recode_line, IsRecodeLine, IsRecode, IsLineText, ReadsMessage, IsReading}
 use Rattle.mesh_atoms.specs.declared.refusal.Refusal.{Refusal}
-use Rattle.mesh_wire.specs.Hello.{HelloIs}
-use Rattle.mesh_wire.specs.HelloRules.{BreaksHello}
-use Rattle.mesh_wire.specs.Tc.{TcIs}
-use Rattle.mesh_wire.specs.TcRules.{BreaksTc}
 use Rattle.mesh_wire.proofs.OneHello.{one_hello}
 use Rattle.mesh_wire.proofs.OneTc.{one_tc}
 use Rattle.mesh_wire.proofs.Single.{one_broken}
@@ -17,24 +13,16 @@ same_both {a} {b} {x} {x'} {y} {y'} e e' p q = e ∙ ap (λ (l : List ℕ). l ++
 -- one typed value at most, and one first rule, have one line
 one_line : {X : Type 0} (Breaks : ℕ → Option NetAddr → Type 0) (Is : X → Type 0) (line_of : X → List ℕ) → (Keeps Breaks → (x y : X) → Is x → Is y → x ≡ y)
     → (a b : List ℕ) → ReadsMessage Breaks Is line_of a → ReadsMessage Breaks Is line_of b → a ≡ b
-one_line Breaks Is line_of only a b (inl (x, keeps, is, e)) (inl (y, keeps', is', e')) = e ∙ ap line_of (only keeps x y is is') ∙ sym e'
-one_line Breaks Is line_of only a b (inl (x, keeps, is, e)) (inr (n, at, first, e')) = absurd (keeps n at first.broken)
-one_line Breaks Is line_of only a b (inr (n, at, first, e)) (inl (x, keeps, is, e')) = absurd (keeps n at first.broken)
-one_line Breaks Is line_of only a b (inr (n, at, first, e)) (inr (m, at', first', e')) = e ∙ ap broken_line (one_broken Breaks n m at at' first first').0 ∙ sym e'
+one_line Breaks Is line_of only a b h6 h7 = grind (arith, common_steps, one_broken)
 
 pub one_way : (message : MessageFields) (a b : List ℕ) → IsReading message a → IsReading message b → a ≡ b
-one_way message a b h k = by message.kind refl where
-  by : (kind : ℕ) → message.kind ≡ kind → a ≡ b
-  by zero e = one_line (BreaksHello message) (HelloIs message) hello_line (one_hello message) a b (h.hello e) (k.hello e)
-  by (suc zero) e = one_line (BreaksTc message) (TcIs message) tc_line (one_tc message) a b (h.tc e) (k.tc e)
-  by (suc (suc n)) e = h.other (λ z. omega (arith, z, e)) (λ z. omega (arith, z, e)) ∙ sym (k.other (λ z. omega (arith, z, e)) (λ z. omega (arith, z, e)))
+one_way message a b h k = grind (arith, common_steps, one_line, one_hello, one_tc)
 
 one_messages : (messages : List MessageFields) (spans : List Span) (a b : List ℕ) → IsMessagesText messages spans a → IsMessagesText messages spans b → a ≡ b
 one_messages [] [] a b e e' = e ∙ sym e'
 one_messages [] (s ∷ spans) a b e e' = absurd e
 one_messages (m ∷ messages) [] a b e e' = absurd e
-one_messages (m ∷ messages) (s ∷ spans) a b (x, y, (r, reads, is), more, e) (x', y', (r', reads', is'), more', e') =
-    same_both e e' (is ∙ ap (λ (l : List ℕ). message_text s.len m ++ l) (one_way m r r' reads reads') ∙ sym is') (one_messages messages spans y y' more more')
+one_messages (m ∷ messages) (s ∷ spans) a b (x, y, (r, reads, is), more, e) (x', y', (r', reads', is'), more', e') = grind (arith, common_steps, same_both, one_way, (one_messages messages spans y y' more more'))
 
 one_packet : (number : ℕ) (packet : PacketFields) (spans : List Span) (a b : List ℕ) → IsPacketListed number packet spans a → IsPacketListed number packet spans b → a ≡ b
 one_packet number packet spans a b (x, is, e) (x', is', e') = same_both e e' refl (one_messages packet.messages spans x x' is is')

@@ -1,5 +1,5 @@
 -- Vectors, lane by lane.
-use Rattle.mesh_report.proofs.Common.{◌≡◌, ℕ, ◌/◌, ◌%◌, ◌^◌, ◌<◌, Bool, true, false, cond, List, length, map, get_or, replicate, refl, sym, ap, subst, ◌∙◌, arith, w8, zip2, sel_l, mask_l, top, pick_l, length-zip2, get_or-zip2, get_or-replicate, length-sel_l, get_or-sel_l, bit_mask_l, tops_compared, get_or-map}
+use Rattle.mesh_report.proofs.Common.{common_steps, ◌≡◌, ℕ, ◌/◌, ◌%◌, ◌^◌, ◌<◌, Bool, false, cond, List, length, map, get_or, replicate, sym, ap, subst, ◌∙◌, arith, w8, zip2, sel_l, mask_l, top, pick_l, length-zip2, get_or-zip2, get_or-replicate, length-sel_l, get_or-sel_l, bit_mask_l, tops_compared, get_or-map}
 use Rattle.std.proofs.Math.Nat.{zero-div}
 use Rattle.mesh_report.specs.Lanes.{HasLanes}
 
@@ -12,9 +12,7 @@ lanes_of n f xs ys p q = record {
 
 -- an operator on a vector and a number
 pub lanes_with : (n : ℕ) (f : ℕ → ℕ → ℕ) (xs : List ℕ) (y : ℕ) → length xs ≡ n → length (replicate n y) ≡ n → HasLanes n (zip2 f xs (replicate n y)) (λ k. f (get_or xs k 0) y)
-lanes_with n f xs y p q =
-    let is = lanes_of n f xs (replicate n y) p q in
-    record { len = is.len; each = λ k lt. is.each k lt ∙ ap (f (get_or xs k 0)) (get_or-replicate n k y 0 lt) }
+lanes_with n f xs y p q = grind (arith, common_steps, lanes_of)
 
 -- a choice by a comparison with a number
 pub lanes_chosen : (n : ℕ) (t : ℕ → ℕ → Bool) (v : List ℕ) (y : ℕ) (low high : List ℕ) → length v ≡ n → length low ≡ n → length high ≡ n → length (replicate n y) ≡ n
@@ -33,8 +31,7 @@ pub picked : (xs places : List ℕ) (j place : ℕ) → j < length places → ge
 picked xs places j place lt is = get_or-map (λ k. get_or xs k 0) places j 0 0 lt ∙ ap (λ (k : ℕ). get_or xs k 0) is
 
 unset : (b : Bool) → cond {A = ℕ} b 1 0 ≡ 0 → b ≡ false
-unset true e = absurd (omega (arith, e))
-unset false e = refl
+unset b e = grind (arith, common_steps)
 
 -- where a mask has no bit, no lane passes
 pub none_set : (p : ℕ → Bool) (v : List ℕ) (k : ℕ) → mask_l (map p v) ≡ 0 → k < length v → p (get_or v k 0) ≡ false

@@ -20,7 +20,7 @@ pub use Rattle.mesh_atoms.specs.declared.settings.Scenario.{Scenario}
 pub use Rattle.mesh_atoms.specs.declared.tuples.LinkKey.{LinkKey}
 pub use Rattle.mesh_settled.proofs.machine.tlv.Grows.{grows_on}
 unfoldable pub use Rattle.mesh_settled.specs.machine.Names.{router_name}
-pub use Rattle.mesh_settled.specs.machine.Net.{By_delivery, By_last_tick, By_tick, Moves, NetState, NetStep, event_of, frames_of}
+pub use Rattle.mesh_settled.specs.machine.Net.{Moves, NetState, NetStep, event_of, frames_of}
 pub use Rattle.mesh_settled.specs.machine.NetRun.{NetRun, events_at}
 pub use Rattle.mesh_settled.specs.machine.packet.Least.{Wrote}
 pub use Rattle.mesh_settled.specs.machine.tlv.Least.{Grows}
@@ -37,8 +37,8 @@ pub use Rattle.mesh_texts.specs.Sections.Order.{IsLeastFrom, IsNext, nearer}
 pub use Rattle.mesh_texts.specs.Sections.Section.{AreAllLinkLines, AreLinkLines, AreNeighbourLines, AreSections, AreTuplesFrom, IsSection, addr_number, link_number}
 unfoldable pub use Rattle.mesh_texts.specs.Sections.Section.{ways_text}
 unfoldable pub use Rattle.mesh_texts.specs.Trace.{event_line, event_text, flooding_relays_line, heard_line, loss_line, lost_line, relays_lines, routing_relays_line, sent_line, sent_lines, tick_line}
-pub use Rattle.std.proofs.Common.{Bool, Contains, IfSome, IsNone, List, None, Option, Some, [], ap, append_assoc, arith, codes, cond, decimal, drop, false, get_or, inl, inr, is_some, length, length-append, length-set, ltb, map, nat_eq, nat_le, nat_lt, not, option_map, refl, slice_get, slice_index, slice_index_or, subst, suc, sym, take, true, zero, ℕ, ◌%◌, ◌&&◌, ◌++◌, ◌+◌, ◌-◌, ◌/◌, ◌<◌, ◌==◌, ◌^◌, ◌↔◌, ◌∙◌, ◌∷◌, ◌≡◌, ◌≢◌, ◌≤◌, ◌⊎◌}
-pub use Rattle.std.proofs.lemmas.Bool.{and_from, and_parts, eq-eqb, eqb-true, le-leb, leb-false, leb-true, lt-leb, ltb-false, ltb-true, ne_eqb}
+pub use Rattle.std.proofs.Common.{Bool, Contains, IfSome, IsNone, List, None, Option, Some, [], ap, append_assoc, arith, codes, cond, decimal, drop, false, get_or, inl, inr, is_some, length, length-append, length-set, ltb, map, nat_eq, not, option_map, refl, slice_get, slice_index, slice_index_or, subst, suc, sym, take, true, zero, ℕ, ◌%◌, ◌&&◌, ◌++◌, ◌+◌, ◌-◌, ◌/◌, ◌<◌, ◌==◌, ◌^◌, ◌↔◌, ◌∙◌, ◌∷◌, ◌≡◌, ◌≢◌, ◌≤◌, ◌⊎◌}
+pub use Rattle.std.proofs.lemmas.Bool.{and_from, and_parts, eq-eqb, eqb-true, lt-leb, ltb-false, ltb-true, ne_eqb}
 pub use Rattle.std.proofs.lemmas.Grind.{common_steps, flat_map-append}
 pub use Rattle.std.proofs.lemmas.List.{append-nil, drop_all, drop_more, map-append}
 pub use Rattle.std.proofs.lemmas.List.Elements.{All-append, All-from_recursion, All-nil, Contains-append_cases, Contains-append_right, Contains-get_or, recursion_from_All}

@@ -1,19 +1,15 @@
 -- Which marks the parts of a line lack: a part has letters, digits, dots and slashes at most.
-use Rattle.mesh_texts.proofs.Common.{◌≡◌, ℕ, zero, suc, ◌+◌, ◌<◌, ◌/◌, ◌%◌, Bool, true, false, not, ◌&&◌, cond, List, [], ◌∷◌, ◌++◌, Option, Some, None, refl, ap, ◌∙◌, arith, codes, decimal, nat_eq, nat_lt, slice_get, slice_index, ◌==◌, digits, digits_onto, digit_glyph, ne_eqb, lt-leb, encode_with, encode_lower, lower_digits, Addr4, NetAddr, Interface, RouterSettings, IsName, is_name_octet, router_name, dotted, slashed, node_text, metric_text, choice_text, status_text, nearness_text, relays_text, spaced, name_of_face, face_name}
+use Rattle.mesh_texts.proofs.Common.{common_steps, ◌≡◌, ℕ, zero, suc, ◌+◌, ◌<◌, ◌/◌, ◌%◌, Bool, true, false, not, ◌&&◌, cond, List, [], ◌∷◌, ◌++◌, Option, refl, ap, ◌∙◌, arith, codes, decimal, nat_eq, slice_get, slice_index, ◌==◌, digits, digits_onto, digit_glyph, ne_eqb, lt-leb, encode_with, encode_lower, lower_digits, Addr4, NetAddr, Interface, RouterSettings, IsName, is_name_octet, router_name, dotted, slashed, node_text, metric_text, choice_text, status_text, nearness_text, relays_text, spaced, name_of_face, face_name}
 use Rattle.mesh_atoms.specs.declared.codes.metric.Metric.{Metric}
 use Rattle.mesh_atoms.specs.Codes.Codes.{metric_value}
 use Rattle.mesh_atoms.specs.declared.tuples.LinkState.{LinkState}
-use Rattle.mesh_atoms.specs.declared.tuples.LinkState.TheVariants.{Pending as Is_pending, Lost as Is_lost, Symmetric as Is_symmetric, Heard as Is_heard}
 use Rattle.mesh_settled.specs.machine.Names.{name_of_router}
 use Rattle.mesh_texts.proofs.Cuts.{lacks, lacks_both, lacks_by, lacks_rest, not_here}
 
 -- Numbers
 
 glyph_high : (mark n : ℕ) → mark < 48 → nat_eq (digit_glyph false n) mark ≡ false
-glyph_high mark n low = by (nat_lt n 10) where
-  by : (b : Bool) → nat_eq (cond b (48 + n) (87 + n)) mark ≡ false
-  by true = ne_eqb (48 + n) mark (λ e. omega (arith, low, e))
-  by false = ne_eqb (87 + n) mark (λ e. omega (arith, low, e))
+glyph_high mark n low = grind (arith, common_steps)
 
 onto_lacks : (mark : ℕ) → mark < 48 → (k n : ℕ) (acc : List ℕ) → lacks mark acc ≡ true →
     lacks mark (digits_onto k 10 false n acc) ≡ true
@@ -38,56 +34,35 @@ one_mark c mark e = ap (λ (b : Bool). not b && true) e
 
 pub dotted_lacks : (mark : ℕ) → mark < 48 → nat_eq 46 mark ≡ false → (a : Addr4) → lacks mark (dotted a) ≡ true
 unfolding dotted
-dotted_lacks mark low dot a =
-    let dot_lacks : lacks mark (codes ".") ≡ true = one_mark 46 mark dot in
-    let m = decimal (a.0 / 16777216) in
-    let n = decimal (a.0 / 65536 % 256) in
-    let o = decimal (a.0 / 256 % 256) in
-    let p = decimal (a.0 % 256) in
-    lacks_both mark (m ++ codes "." ++ n) (codes "." ++ o ++ codes "." ++ p)
-    (lacks_both mark (m ++ codes ".") n (lacks_both mark m (codes ".") (decimal_lacks mark low (a.0 / 16777216)) dot_lacks) (decimal_lacks mark low (a.0 / 65536 % 256)))
-    (lacks_both mark (codes "." ++ o ++ codes ".") p
-    (lacks_both mark (codes "." ++ o) (codes ".") (lacks_both mark (codes ".") o dot_lacks (decimal_lacks mark low (a.0 / 256 % 256))) dot_lacks)
-    (decimal_lacks mark low (a.0 % 256)))
+dotted_lacks mark low dot a = grind (arith, common_steps, one_mark, lacks_both, decimal_lacks)
 
 pub slashed_lacks : (mark : ℕ) → mark < 48 → nat_eq 46 mark ≡ false → nat_eq 47 mark ≡ false → (n : NetAddr) →
     lacks mark (slashed n) ≡ true
 unfolding slashed
-slashed_lacks mark low dot slash n =
-    lacks_both mark (dotted n.addr ++ codes "/") (decimal n.prefix)
-    (lacks_both mark (dotted n.addr) (codes "/") (dotted_lacks mark low dot n.addr) (one_mark 47 mark slash)) (decimal_lacks mark low n.prefix)
+slashed_lacks mark low dot slash n = grind (arith, common_steps, lacks_both, dotted_lacks, one_mark, decimal_lacks)
 
 pub node_lacks : (mark : ℕ) → mark < 48 → nat_eq 46 mark ≡ false → nat_eq 47 mark ≡ false → (n : NetAddr) →
     lacks mark (node_text n) ≡ true
 unfolding node_text
-node_lacks mark low dot slash n = by (n.prefix == 32) where
-  by : (b : Bool) → lacks mark (cond b (dotted n.addr) (slashed n)) ≡ true
-  by true = dotted_lacks mark low dot n.addr
-  by false = slashed_lacks mark low dot slash n
+node_lacks mark low dot slash n = grind (arith, common_steps, dotted_lacks, slashed_lacks)
 
 -- Words
 
 pub metric_lacks : (m : Option Metric) → lacks 10 (metric_text m) ≡ true
 unfolding metric_text
-metric_lacks None = refl
-metric_lacks (Some m) = decimal_lacks 10 (omega arith) (metric_value m)
+metric_lacks m = grind (arith, common_steps, decimal_lacks, metric_value)
 
 pub choice_lacks : (choice : Bool) → lacks 10 (choice_text choice) ≡ true
 unfolding choice_text
-choice_lacks true = refl
-choice_lacks false = refl
+choice_lacks choice = grind (arith, common_steps)
 
 pub status_lacks : (status : LinkState) → lacks 10 (status_text status) ≡ true
 unfolding status_text
-status_lacks Is_pending = refl
-status_lacks Is_lost = refl
-status_lacks Is_symmetric = refl
-status_lacks Is_heard = refl
+status_lacks status = grind (arith, common_steps)
 
 pub nearness_lacks : (symmetric : Bool) → lacks 10 (nearness_text symmetric) ≡ true
 unfolding nearness_text
-nearness_lacks true = refl
-nearness_lacks false = refl
+nearness_lacks symmetric = grind (arith, common_steps)
 
 spaced_lacks : (addrs : List Addr4) → lacks 10 (spaced addrs) ≡ true
 spaced_lacks [] = refl
@@ -107,8 +82,7 @@ pub name_lacks : (mark : ℕ) → mark < 48 → (name : List ℕ) → IsName nam
 name_lacks mark low name is = lacks_by mark is_name_octet (no_letter mark low) name is.octets
 
 face_lacks : (mark : ℕ) → mark < 48 → (face : Option Interface) → lacks mark (name_of_face face) ≡ true
-face_lacks mark low None = refl
-face_lacks mark low (Some face) = name_lacks mark low face.name face.sound.named
+face_lacks mark low face = grind (arith, common_steps, name_lacks)
 
 pub face_name_lacks : (mark : ℕ) → mark < 48 → (faces : List Interface) (i : ℕ) → lacks mark (face_name faces i) ≡ true
 unfolding face_name
@@ -118,8 +92,7 @@ pub own_name_lacks : (mark : ℕ) → mark < 48 → (r : RouterSettings) → lac
 own_name_lacks mark low r = name_lacks mark low r.name r.sound.named
 
 router_lacks : (mark : ℕ) → mark < 48 → (r : Option RouterSettings) → lacks mark (name_of_router r) ≡ true
-router_lacks mark low None = refl
-router_lacks mark low (Some r) = own_name_lacks mark low r
+router_lacks mark low r = grind (arith, common_steps, own_name_lacks)
 
 pub router_name_lacks : (mark : ℕ) → mark < 48 → (routers : List RouterSettings) (x : ℕ) →
     lacks mark (router_name routers x) ≡ true

@@ -1,5 +1,5 @@
 -- The text of a run read back: whether it was settled, and the routes under a router's name.
-use Rattle.mesh_texts.proofs.Common.{◌≡◌, ◌↔◌, ℕ, zero, suc, ◌<◌, Bool, false, List, [], ◌∷◌, ◌++◌, length, map, Option, Some, None, refl, sym, ap, ◌∙◌, subst, arith, append_assoc, codes, length-append, common_steps, slice_get, Contains, option_map, AllByRecursion as Each, append-nil, map-append, All-from_recursion, recursion_from_All, slice_get-map, Addr4, NetAddr, Route, Scenario, RouterSettings, name_eq, At, State, Gap, dotted, face_name, router_line, row_line, route_line, IsGapOf, settled_text, WholeRun, TellsWhetherSettled, IsRunText, IsLine, BeginsWith, SaysSettled, IsPlain, ArePlain, StandsUnder, PrintsBy}
+use Rattle.mesh_texts.proofs.Common.{◌≡◌, ◌↔◌, ℕ, zero, suc, ◌<◌, Bool, false, List, [], ◌∷◌, ◌++◌, length, map, Option, Some, None, refl, sym, ap, ◌∙◌, subst, arith, append_assoc, codes, length-append, slice_get, Contains, option_map, common_steps, AllByRecursion as Each, append-nil, map-append, All-from_recursion, recursion_from_All, slice_get-map, Addr4, NetAddr, Route, Scenario, RouterSettings, name_eq, At, State, Gap, dotted, face_name, router_line, row_line, route_line, IsGapOf, settled_text, WholeRun, TellsWhetherSettled, IsRunText, IsLine, BeginsWith, SaysSettled, IsPlain, ArePlain, StandsUnder, PrintsBy}
 use Rattle.std.specs.List.{IsDistinct}
 use Rattle.std.proofs.lemmas.Cmp.{nat_list_eq_equiv}
 use Rattle.mesh_atoms.proofs.Kept.{distinct_is}

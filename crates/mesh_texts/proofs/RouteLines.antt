@@ -1,5 +1,5 @@
 -- What the line of a route tells: its parts can be read back.
-use Rattle.mesh_texts.proofs.Common.{◌≡◌, ℕ, zero, suc, ◌+◌, ◌<◌, ◌≤◌, ◌^◌, ◌/◌, ◌%◌, Bool, true, false, cond, ltb, List, [], ◌∷◌, ◌++◌, length, refl, sym, ap, ◌∙◌, arith, append_assoc, codes, decimal, ◌==◌, digits, digits_onto, digit_glyph, ltb-true, ltb-false, eqb-true, Addr4, NetAddr, dotted, slashed, node_text, route_line}
+use Rattle.mesh_texts.proofs.Common.{common_steps, ◌≡◌, ℕ, zero, suc, ◌+◌, ◌<◌, ◌≤◌, ◌^◌, ◌/◌, ◌%◌, Bool, true, false, ltb, List, [], ◌∷◌, ◌++◌, length, refl, sym, ap, ◌∙◌, arith, append_assoc, codes, decimal, digits, digits_onto, digit_glyph, ltb-true, ltb-false, Addr4, NetAddr, dotted, slashed, node_text, route_line}
 use Rattle.std.specs.Str.Parse.{digits_value}
 use Rattle.std.proofs.lemmas.Fmt.{decimal_is_IsNumeral_wide, length-decimal-le}
 use Rattle.std.proofs.Math.Nat.{pow-succ'}
@@ -16,11 +16,7 @@ tens (suc k) = omega (arith, pow-succ' 10 k, tens k)
 -- a number of more digits than are written fills all of them
 fills : (k n : ℕ) (acc : List ℕ) → 10 ^ k ≤ n → length (digits_onto k 10 false n acc) ≡ k + length acc
 fills zero n acc le = omega arith
-fills (suc k) n acc le = by (n / 10 == 0) refl (fills k (n / 10) (digit_glyph false (n % 10) ∷ acc) (omega (arith, pow-succ' 10 k, le))) where
-  by : (b : Bool) → (n / 10 == 0) ≡ b → length (digits_onto k 10 false (n / 10) (digit_glyph false (n % 10) ∷ acc)) ≡ k + length (digit_glyph false (n % 10) ∷ acc)
-      → length (cond b (digit_glyph false (n % 10) ∷ acc) (digits_onto k 10 false (n / 10) (digit_glyph false (n % 10) ∷ acc))) ≡ suc k + length acc
-  by true e more = absurd (let small : n / 10 ≡ 0 = eqb-true (n / 10) 0 e in let some = tens k in omega (arith, pow-succ' 10 k, le, small, some))
-  by false e more = omega (arith, more)
+fills (suc k) n acc le = grind (arith, common_steps, tens, (fills k (n / 10) (digit_glyph false (n % 10) ∷ acc) (omega (arith, pow-succ' 10 k, le))))
 
 -- a number of 64 bits is read back
 pub same_decimal : (m n : ℕ) → m < 2 ^ 64 → decimal m ≡ decimal n → m ≡ n
@@ -42,14 +38,7 @@ same_decimal m n small e = by (ltb n (10 ^ 64)) refl where
 pub in_order : (a : Addr4) →
     dotted a ≡ decimal (a.0 / 16777216) ++ 46 ∷ (decimal (a.0 / 65536 % 256) ++ 46 ∷ (decimal (a.0 / 256 % 256) ++ 46 ∷ decimal (a.0 % 256)))
 unfolding dotted
-in_order a =
-    let m = decimal (a.0 / 16777216) in
-    let n = decimal (a.0 / 65536 % 256) in
-    let o = decimal (a.0 / 256 % 256) in
-    let p = decimal (a.0 % 256) in
-    let rest = codes "." ++ o ++ codes "." ++ p in
-    ap (λ (l : List ℕ). l ++ rest) (append_assoc m (codes ".") n) ∙ append_assoc m (codes "." ++ n) rest
-    ∙ ap (λ (l : List ℕ). m ++ 46 ∷ (n ++ 46 ∷ l)) (append_assoc o (codes ".") p)
+in_order a = grind (arith, common_steps)
 
 pub same_dotted : (a b : Addr4) → a.0 < 2 ^ 32 → dotted a ≡ dotted b → a ≡ b
 same_dotted a b small e =

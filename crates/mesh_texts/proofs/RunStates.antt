@@ -1,11 +1,11 @@
 -- The states at the end of a run of a network are those of its scenario's routers, in order, and they are a network's at one moment.
-use Rattle.mesh_texts.proofs.Common.{◌≡◌, ℕ, List, [], ◌∷◌, length, map, inl, inr, refl, sym, ap, ◌∙◌, subst, arith, length-set, slice_get_within, slice_get_cases, RouterSettings, Scenario, At, AreStates, Settled, State, NetEvent, same_some, NetState, NetStep, By_delivery, By_tick, By_last_tick, Moves, event_of, frames_of, NetRun, events_at, WholeRun, RoutersAreRuns}
+use Rattle.mesh_texts.proofs.Common.{common_steps, ◌≡◌, ℕ, List, [], ◌∷◌, length, map, inl, inr, refl, sym, ap, ◌∙◌, subst, arith, length-set, slice_get_within, slice_get_cases, RouterSettings, Scenario, At, AreStates, Settled, State, NetEvent, same_some, NetState, NetStep, Moves, event_of, frames_of, NetRun, events_at, WholeRun, RoutersAreRuns}
 use Rattle.mesh_atoms.specs.declared.graphs.RadioGraph.{RadioGraph}
 use Rattle.mesh_atoms.specs.Radio.{Router, IsRadioGraph}
 use Rattle.mesh_settled.specs.machine.declared.frame.Frame.{Frame}
-use Rattle.mesh_settled.specs.machine.Machine.{Event, Step, Heard_frame, Ticked, Steps, No_events, First_event, Run}
+use Rattle.mesh_settled.specs.machine.Machine.{Event, Step, Steps, No_events, First_event, Run}
 use Rattle.mesh_settled.proofs.machine.Effects.{hears_settings}
-use Rattle.mesh_settled.specs.machine.Traffic.{Traffic, with_heard}
+use Rattle.mesh_settled.specs.machine.Traffic.{Traffic}
 use Rattle.mesh_settled.proofs.paths.Scenarios.{sound_scenario}
 use Rattle.mesh_settled.specs.paths.SettledRoutes.{IsSettledNetwork}
 use Rattle.mesh_settled.proofs.machine.Through.{are_machines, end_together}
@@ -14,8 +14,7 @@ use Rattle.mesh_settled.specs.Gaps.Network.{IsNetwork}
 -- Settings stay
 
 step_settings : (old : State) (event : Event) (sent : List Frame) (new : State) → Step old event sent new → new.settings ≡ old.settings
-step_settings old event sent new (Heard_frame {arrival} {bytes} answer hears) = hears_settings old arrival bytes answer sent new hears
-step_settings old event sent new (Ticked ticks) = ticks.renews.settings
+step_settings old event sent new h4 = grind (arith, common_steps, hears_settings)
 
 steps_settings : (old : State) (events : List Event) (sent : List (List Frame)) (new : State) → Steps old events sent new →
     new.settings ≡ old.settings
@@ -33,9 +32,7 @@ moved_count : (old new : NetState) (event : NetEvent) (before : Traffic) → Mov
 moved_count old new event before moves = ap length moves.routers ∙ length-set old.routers event.router moves.is
 
 step_count : (old new : NetState) (event : NetEvent) → NetStep old event new → length new.routers ≡ length old.routers
-step_count old new event (By_delivery d) = moved_count old new event (with_heard old.traffic d.others) d.moves
-step_count old new event (By_tick t) = moved_count old new event old.traffic t.moves
-step_count old new event (By_last_tick t) = moved_count old new event old.traffic t.moves
+step_count old new event h3 = grind (arith, common_steps, moved_count)
 
 run_count : (old : NetState) (events : List NetEvent) (new : NetState) → NetRun old events new → length new.routers ≡ length old.routers
 run_count old [] new is = ap (λ (n : NetState). length n.routers) is

@@ -1,5 +1,5 @@
 -- What stands under the headings of sections.
-use Rattle.mesh_texts.proofs.Common.{◌≡◌, ℕ, zero, suc, List, [], ◌∷◌, ◌++◌, map, Some, inl, inr, refl, sym, ap, ◌∙◌, subst, append_assoc, codes, slice_get, AllByRecursion as Each, Addr4, State, line_of, dotted, router_line, row_line, BeginsWith, IsPlain, heads_equal, tails_equal}
+use Rattle.mesh_texts.proofs.Common.{arith, common_steps, ◌≡◌, ℕ, zero, suc, List, [], ◌∷◌, ◌++◌, map, Some, inl, inr, refl, sym, ap, ◌∙◌, subst, append_assoc, codes, slice_get, AllByRecursion as Each, Addr4, State, line_of, dotted, router_line, row_line, BeginsWith, IsPlain, heads_equal, tails_equal}
 use Rattle.mesh_texts.proofs.LineLists.{Heads, Stands, Under, each_both, each_front, each_back, each_map, each_weaker, each_has, stands_in_two, under_past, under_behind}
 use Rattle.mesh_texts.proofs.LineTexts.{IsNeither, plain_neither, router_no_route, row_no_heading}
 use Rattle.mesh_texts.proofs.WholeTexts.{AreSectionLines}
@@ -34,9 +34,7 @@ neither_no_route before behind line lines all e route = (each_has IsNeither befo
 -- with further lines behind them
 with_back : (heading : List ℕ) (others rows rest back lines : List (List ℕ)) → lines ≡ heading ∷ (others ++ (rows ++ rest)) →
     lines ++ back ≡ heading ∷ (others ++ (rows ++ (rest ++ back)))
-with_back heading others rows rest back lines e =
-    ap (λ (l : List (List ℕ)). l ++ back) e
-    ∙ ap (λ (l : List (List ℕ)). heading ∷ l) (append_assoc others (rows ++ rest) back ∙ ap (λ (l : List (List ℕ)). others ++ l) (append_assoc rows rest back))
+with_back heading others rows rest back lines e = grind (arith, common_steps)
 
 -- before the first heading stands no route
 no_route_first : (states : List State) (lines back between behind : List (List ℕ)) (line : List ℕ) →

@@ -1,7 +1,7 @@
 -- The text of a run as lines: those of its trace, the counts, each router's section, and what is said of the gap.
-use Rattle.mesh_texts.proofs.Common.{◌≡◌, ℕ, ◌+◌, ◌<◌, Bool, true, false, List, [], ◌∷◌, ◌++◌, length, map, Option, Some, None, refl, sym, ap, ◌∙◌, subst, arith, append_assoc, codes, length-append, common_steps, slice_get, AllByRecursion as Each, flat_map, enumerate_from, append-nil, recursion_from_All, flat_map-map, Addr4, Interface, RadioArc, RouterSettings, Scenario, State, NetEvent, NetState, Gap, face_name, router_line, link_line, neighbour_line, held_line, flooding_line, routing_line, row_line, AreAllLinkLines, ways_text, IsSection, AreSections, event_line, flooding_relays_line, relays_lines, lost_line, sent_line, sent_lines, event_text, counts_line, gap_line, settled_text, Traces, WholeRun, IsTrace, IsRunText, IsLine, BeginsWith, IsPlain, ArePlain}
+use Rattle.mesh_texts.proofs.Common.{◌≡◌, ℕ, ◌+◌, ◌<◌, Bool, List, [], ◌∷◌, ◌++◌, length, map, Option, Some, None, refl, sym, ap, ◌∙◌, subst, arith, append_assoc, codes, length-append, slice_get, common_steps, AllByRecursion as Each, flat_map, enumerate_from, append-nil, recursion_from_All, flat_map-map, Addr4, Interface, RadioArc, RouterSettings, Scenario, State, NetEvent, NetState, Gap, face_name, router_line, link_line, neighbour_line, held_line, flooding_line, routing_line, row_line, AreAllLinkLines, ways_text, IsSection, AreSections, event_line, flooding_relays_line, relays_lines, lost_line, sent_line, sent_lines, event_text, counts_line, gap_line, settled_text, Traces, WholeRun, IsTrace, IsRunText, IsLine, BeginsWith, IsPlain, ArePlain}
 use Rattle.mesh_atoms.specs.declared.network.Emission.{Emission}
-use Rattle.mesh_texts.specs.Trace.{happened_line, arc_line, IsEventText, Of_taken, Of_refused}
+use Rattle.mesh_texts.specs.Trace.{happened_line, arc_line, IsEventText}
 use Rattle.mesh_texts.proofs.LineLists.{flat, flat_both, each_both, each_map, each_weaker}
 use Rattle.mesh_texts.proofs.LineTexts.{IsNeither, plain_neither, router_no_settled, row_no_settled, link_plain, neighbour_plain, held_plain, flooding_plain, routing_plain, tick_plain, heard_plain, flooding_relays_plain, routing_relays_plain, sent_plain, loss_plain, counts_plain, gap_plain, settled_neither, unsettled_plain, router_is_line, row_is_line}
 
@@ -20,11 +20,7 @@ pub plain_one : (l : List ℕ) → IsPlain l → Plain l
 plain_one l is = record { lines = l ∷ []; each = (is, tt); whole = sym (append-nil l) }
 
 pub plain_both : (a b : List ℕ) → Plain a → Plain b → Plain (a ++ b)
-plain_both a b p q = record {
-  lines = p.lines ++ q.lines;
-  each = each_both IsPlain p.lines q.lines p.each q.each;
-  whole = ap (λ (t : List ℕ). t ++ b) p.whole ∙ ap (λ (t : List ℕ). flat p.lines ++ t) q.whole ∙ sym (flat_both p.lines q.lines);
-}
+plain_both a b p q = grind (arith, common_steps, each_both, flat_both)
 
 pub plain_is : (a b : List ℕ) → a ≡ b → Plain b → Plain a
 plain_is a b e p = record { lines = p.lines; each = p.each; whole = e ∙ p.whole }
@@ -36,8 +32,7 @@ plain_each f h (x ∷ xs) = plain_both (f x) (flat_map f xs) (h x) (plain_each f
 -- The trace
 
 happened_plain : (moment : ℕ) (r : RouterSettings) (heard : Option (ℕ × Addr4 × List ℕ)) → Plain (happened_line moment r heard)
-happened_plain moment r None = plain_one _ (tick_plain moment r)
-happened_plain moment r (Some (i, sender, frame)) = plain_one _ (heard_plain moment r i sender frame)
+happened_plain moment r heard = grind (arith, common_steps, plain_one, tick_plain, heard_plain)
 
 event_line_plain : (event : NetEvent) (r : RouterSettings) → Plain (event_line event r)
 unfolding event_line
@@ -50,8 +45,7 @@ relays_plain s = plain_both _ _
     (plain_one _ (routing_relays_plain s.settings s.relays.routing))
 
 arc_plain : (routers : List RouterSettings) (moment : ℕ) (arc : Option RadioArc) → Plain (arc_line routers moment arc)
-arc_plain routers moment None = plain_none
-arc_plain routers moment (Some a) = plain_one _ (loss_plain moment routers a)
+arc_plain routers moment arc = grind (arith, common_steps, plain_none, plain_one, loss_plain)
 
 lost_plain : (s : Scenario) (moment arc : ℕ) → Plain (lost_line s moment arc)
 unfolding lost_line
@@ -67,8 +61,7 @@ unfolding event_text
 event_plain s event after = grind (arith, common_steps, plain_both, event_line_plain, relays_plain, plain_each, sending_plain)
 
 told_plain : (s : Scenario) (event : NetEvent) (after : State) (text : List ℕ) → IsEventText s event after text → Plain text
-told_plain s event after text (Of_taken packet e) = plain_is text (event_text s event after) e (event_plain s event after)
-told_plain s event after text (Of_refused refused e) = plain_is text (event_line event after.settings) e (event_line_plain event after.settings)
+told_plain s event after text h4 = grind (arith, common_steps, plain_is, event_plain, event_line_plain)
 
 traces_plain : (old : NetState) (events : List NetEvent) (new : NetState) (text : List ℕ) → Traces old events new text → Plain text
 traces_plain old [] new text t = plain_is text [] t.1 plain_none
@@ -76,8 +69,7 @@ traces_plain old (event ∷ events) new text (mid, step, first, rest, traced, mo
     plain_is text (first ++ rest) e (plain_both first rest (told_plain mid.scenario event traced.0 first traced.2) (traces_plain mid events new rest more))
 
 trace_plain : (trace : Bool) (s : Scenario) (run : WholeRun s) (text : List ℕ) → IsTrace trace run text → Plain text
-trace_plain false s run text e = plain_is text [] e plain_none
-trace_plain true s run text t = traces_plain run.opening run.events run.final text t
+trace_plain trace s run text e = grind (arith, common_steps, plain_is, plain_none, traces_plain)
 
 -- what is said of the gap
 pub record Neither (text : List ℕ) : Type 0 where

@@ -12,7 +12,7 @@ pub use Rattle.mesh_atoms.specs.AfterTc.{AfterTc, Becomes, Full_of, Given, Gives
 pub use Rattle.mesh_atoms.specs.Base.{Base, Expires, Has, HasDistinctKeys, Same, addr_eq, address_eq, base_of, find, flood_eq, host, if_live, link_eq, network_eq, router_eq}
 pub use Rattle.mesh_atoms.specs.Hello.{HasLinkTo, IsHelloNow, IsHelloRow, IsRoundedUp, Link_heard, Link_in, Link_lost, Link_out, Link_symmetric, Near_in, Near_out, Other_if, Other_lost, Other_symmetric, Part, Says, SaysLink, This_if, link_part, local_part, other_part}
 pub use Rattle.mesh_atoms.specs.HelloTold.{IsHandedIn, IsListed, IsMyStatus, IsSending, LooksAt, Tells, Told}
-pub use Rattle.mesh_atoms.specs.Live.{Back, Gone, HasLinkOf, HasSymmetricOf, IsSymmetricAddress, KeepsNeighbour, Live, LiveNeighbourhood, LiveNoted, LiveTopology, Restores, SettlesLost, Stays, is_symmetric_at, is_symmetric_entry, trim}
+pub use Rattle.mesh_atoms.specs.Live.{HasLinkOf, HasSymmetricOf, IsSymmetricAddress, KeepsNeighbour, Live, LiveNeighbourhood, LiveNoted, LiveTopology, Restores, SettlesLost, is_symmetric_at, is_symmetric_entry, trim}
 pub use Rattle.mesh_atoms.specs.Nodes.{IsBefore, net_cmp}
 pub use Rattle.mesh_atoms.specs.Reading.{Fails, has}
 pub use Rattle.mesh_atoms.specs.RelayGraphs.{AreRelays, AreRelaysOf, IsFloodingGraph, IsRoutingGraph}
@@ -97,24 +97,24 @@ pub use Rattle.mesh_trace.specs.Positions.Alike.{Alike, AlikeBases, AlikeNear, A
 pub use Rattle.mesh_trace.specs.Positions.Due.{Follows, HearsBy, HellosDue, Hellos_due, Hellos_early, Refused, Taken, TakesPacket, TcsDue, Tcs_due, Tcs_early, Tcs_silent, TicksBy, none_told, part_items}
 pub use Rattle.mesh_trace.specs.Positions.Events.{By_delivery, By_last_tick, By_tick, OpensEvent, OpensHearing, OpensTick}
 pub use Rattle.mesh_trace.specs.Positions.Items.{AreTcFrames, TellsFrame, TellsItem, Tells_flooding, Tells_frame, Tells_hello, Tells_loss, Tells_routing, Tells_tc, with_flooding, with_routing}
-pub use Rattle.mesh_trace.specs.Positions.Laws.{AllElseIsFixed, HasSomeLine, LeadsAlike, LeadsFromAlike, MessagesAreFixed, NoneIsLonger, NothingFollows, OneDecidesEnd, OneDecidesFit, OneUnfit, PositionsAreSound, PositionsHaveAddresses, RunsAreWhole, UnfitIsNotWhole, WholeExactlyForRuns, WholeTracesAreRuns}
+pub use Rattle.mesh_trace.specs.Positions.Laws.{AllElseIsFixed, LeadsAlike, LeadsFromAlike, MessagesAreFixed, NoneIsLonger, NothingFollows, OneDecidesEnd, OneDecidesFit, OneUnfit, PositionsAreSound, PositionsHaveAddresses, RunsAreWhole, UnfitIsNotWhole, WholeExactlyForRuns, WholeTracesAreRuns}
 pub use Rattle.mesh_trace.specs.Positions.Leading.{At_line, Behind_all, Fits, IsWholeTrace, LeadsBy, LineLeads, Reaches, To_event, To_item}
 pub use Rattle.mesh_trace.specs.Positions.Standing.{Flooding, IsDone, IsFirstPosition, Item, Lost, Routing, Sent, TracePosition, relay_items, with_state, with_traffic}
 pub use Rattle.mesh_trace.specs.Reading.Lines.{IsLineOf, begun, lines_of}
 pub use Rattle.mesh_trace.specs.Reading.Readers.{IsRest, lines_from}
-pub use Rattle.mesh_trace.specs.Spelling.Looks.{IsLocal, IsSaying, LooksHello, LooksTc, Saying, SaysHello, SaysOnly, SaysTc, TellsOnly}
+pub use Rattle.mesh_trace.specs.Spelling.Looks.{IsLocal, LooksHello, LooksTc, Saying, SaysHello, SaysOnly, SaysTc, TellsOnly}
 pub use Rattle.mesh_wire.specs.Hello.{HelloIs, local_value}
 pub use Rattle.mesh_wire.specs.Kinds.{local_if}
 pub use Rattle.mesh_wire.specs.Parts.{IsIn, octets_of, value_at}
 pub use Rattle.mesh_wire.specs.Rows.{HasPart, HasType, HoldsAddress, OctetIs}
 pub use Rattle.mesh_wire.specs.Rules.{Keeps}
 pub use Rattle.mesh_wire.specs.Writes.{HasBriefBlocks, IsReadOfHello, IsReadOfHelloAddress, IsReadOfOther, IsReadOfTc, IsReadOfTcAddress, SpellsBriefly, alone}
-pub use Rattle.std.proofs.Common.{All, Bool, Contains, Decides, Err, IfSome, IsNone, IsSome, IsTrue, List, None, Ok, Option, Result, Some, [], add-one, ap, append_assoc, arith, codes, cond, count_by, decimal, drop, eqb, false, if◌then◌else◌, inl, inr, length, length-append, ltb, map, min, nat_eq, nat_le, nat_lt, not, refl, replicate, rules, set-set, slice_get, slice_index, slice_index_or, slice_range, slice_set, subst, suc, sym, take, true, zero, ℕ, ◌%◌, ◌&&◌, ◌++◌, ◌+◌, ◌-◌, ◌/◌, ◌<◌, ◌^◌, ◌↔◌, ◌∙◌, ◌∷◌, ◌≡◌, ◌≢◌, ◌≤◌, ◌⊎◌}
+pub use Rattle.std.proofs.Common.{All, Bool, Contains, Decides, Err, IfSome, IsNone, IsSome, IsTrue, List, None, Ok, Option, Result, Some, [], add-one, ap, append_assoc, arith, codes, cond, count_by, decimal, drop, eqb, false, if◌then◌else◌, inl, inr, length, length-append, ltb, map, min, nat_eq, nat_le, nat_lt, not, refl, rules, set-set, slice_get, slice_index, slice_index_or, slice_range, slice_set, subst, suc, sym, take, true, zero, ℕ, ◌%◌, ◌&&◌, ◌++◌, ◌+◌, ◌-◌, ◌/◌, ◌<◌, ◌^◌, ◌↔◌, ◌∙◌, ◌∷◌, ◌≡◌, ◌≢◌, ◌≤◌, ◌⊎◌}
 pub use Rattle.std.proofs.Math.Seq.{take-append_seam}
 pub use Rattle.std.proofs.lemmas.Bool.{and_parts, cases_Bool, cases_lt, eqb-false, eqb-true, false≢true, le-leb, leb-true, ltb-false, ltb-true, ne_eqb, or_left, or_right}
 pub use Rattle.std.proofs.lemmas.Bool.Decides.{Decides-and, Decides-eqb, Decides-like, not_from_Decides}
 pub use Rattle.std.proofs.lemmas.Grind.{common_steps}
-pub use Rattle.std.proofs.lemmas.List.{append-nil, append_cancel_left, append_cancel_right, at_drop_more, drop-drop, drop-map, drop_all, get_or_past, length-drop, length-map, map-append, take_all}
+pub use Rattle.std.proofs.lemmas.List.{append-nil, append_cancel_left, append_cancel_right, at_drop_more, drop-map, drop_all, get_or_past, length-drop, length-map, map-append, take_all}
 pub use Rattle.std.proofs.lemmas.List.Elements.{All-cons, All-contains, All-head, All-nil, All-tail, Contains-append_cases, Contains-append_left, Contains-append_right}
 pub use Rattle.std.proofs.lemmas.List.Sorted.{answers_always, searchable_from_sorted}
 pub use Rattle.std.proofs.lemmas.Option.{get_or_from_slice_get, slice_get-get_or, slice_get_within}

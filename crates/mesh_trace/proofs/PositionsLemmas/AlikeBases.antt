@@ -1,5 +1,5 @@
 -- Bases that are alike, and what expiry leaves of them.
-use Rattle.mesh_trace.proofs.Common.{common_steps, ◌≡◌, ◌↔◌, ℕ, ◌≤◌, ◌+◌, ◌&&◌, refl, sym, ◌∙◌, ap, subst, arith, List, Option, Some, None, Bool, true, false, cond, IsTrue, Contains, Addr4, RouterSettings, LinkKey, Link, Neighbour, TwoHop, Base, Expires, Same, if_live, base_of, addr_eq, router_eq, address_eq, network_eq, flood_eq, HasLinkOf, HasSymmetricOf, KeepsNeighbour, Restores, IsSymmetricAddress, SettlesLost, Back, Gone, Stays, LiveNeighbourhood, LiveTopology, LiveNoted, Live, trim, is_symmetric_at, Neighbourhood, TopologyBase, NotedMessages, Bases, link_at, neighbour_at, lost_at, least_only, same_neighbour, AlikeNear, AlikeTopology, AlikeNoted, AlikeBases}
+use Rattle.mesh_trace.proofs.Common.{common_steps, ◌≡◌, ◌↔◌, ℕ, ◌≤◌, ◌+◌, ◌&&◌, refl, sym, ◌∙◌, ap, subst, arith, List, Option, Some, None, Bool, cond, IsTrue, Contains, Addr4, RouterSettings, LinkKey, Link, Neighbour, TwoHop, Base, Expires, Same, if_live, base_of, addr_eq, router_eq, address_eq, network_eq, flood_eq, HasLinkOf, HasSymmetricOf, KeepsNeighbour, Restores, IsSymmetricAddress, SettlesLost, LiveNeighbourhood, LiveTopology, LiveNoted, Live, trim, is_symmetric_at, Neighbourhood, TopologyBase, NotedMessages, Bases, link_at, neighbour_at, lost_at, least_only, same_neighbour, AlikeNear, AlikeTopology, AlikeNoted, AlikeBases}
 use Rattle.mesh_atoms.specs.declared.tuples.Lost.{Lost}
 use Rattle.mesh_atoms.specs.Quality.{admit_on}
 
@@ -35,10 +35,7 @@ bases_on a b c h k = grind (arith, common_steps)
 -- ---- what is the only one
 
 pub flag_only : (x y : Bool) (P Q : Type 0) → (IsTrue x ↔ P) → (IsTrue y ↔ Q) → (P → Q) → (Q → P) → x ≡ y
-flag_only true true P Q h k to back = refl
-flag_only false false P Q h k to back = refl
-flag_only true false P Q h k to back = sym (k.1 (to (h.0 refl)))
-flag_only false true P Q h k to back = h.1 (back (k.0 refl))
+flag_only x y P Q h k to back = grind (arith, common_steps)
 
 -- ---- neighbours by links that are the same
 
@@ -95,28 +92,17 @@ symmetric_address a b alike x (o, n, until, at, symmetric, among) = (o, n, until
 
 pub settles_only : (was is was' is' : Type 0) (until : ℕ) (stood x y : Option (Lost × ℕ)) → (was → was') → (was' → was) → (is → is') → (is' → is) →
     SettlesLost was is until stood x → SettlesLost was' is' until stood y → x ≡ y
-settles_only was is was' is' until stood x y w w' t t' (Back now e) (Back now' f) = e ∙ sym f
-settles_only was is was' is' until stood x y w w' t t' (Back now e) (Gone then' none' f) = absurd (none' (t now))
-settles_only was is was' is' until stood x y w w' t t' (Back now e) (Stays never' none' f) = absurd (none' (t now))
-settles_only was is was' is' until stood x y w w' t t' (Gone then none e) (Back now' f) = absurd (none (t' now'))
-settles_only was is was' is' until stood x y w w' t t' (Gone then none e) (Gone then' none' f) = e ∙ sym f
-settles_only was is was' is' until stood x y w w' t t' (Gone then none e) (Stays never' none' f) = absurd (never' (w then))
-settles_only was is was' is' until stood x y w w' t t' (Stays never none e) (Back now' f) = absurd (none (t' now'))
-settles_only was is was' is' until stood x y w w' t t' (Stays never none e) (Gone then' none' f) = absurd (never (w' then'))
-settles_only was is was' is' until stood x y w w' t t' (Stays never none e) (Stays never' none' f) = e ∙ sym f
+settles_only was is was' is' until stood x y w w' t t' h12 h13 = grind (arith, common_steps)
 
 pub settles_by : (was is was' is' : Type 0) (until : ℕ) (stood x : Option (Lost × ℕ)) → (was → was') → (was' → was) → (is → is') → (is' → is) →
     SettlesLost was is until stood x → SettlesLost was' is' until stood x
-settles_by was is was' is' until stood x w w' t t' (Back now e) = Back (t now) e
-settles_by was is was' is' until stood x w w' t t' (Gone then none e) = Gone (w then) (λ h. none (t' h)) e
-settles_by was is was' is' until stood x w w' t t' (Stays never none e) = Stays (λ h. never (w' h)) (λ h. none (t' h)) e
+settles_by was is was' is' until stood x w w' t t' h11 = grind (arith, common_steps)
 
 -- ---- what expiry leaves
 
 module _ (settings : RouterSettings) (now : ℕ) where
   live_links : (a b a' b' : Neighbourhood) → AlikeNear a b → LiveNeighbourhood settings now a a' → LiveNeighbourhood settings now b b' → SameLinks a' b'
-  live_links a b a' b' alike h k i key =
-      k.links i key ∙ (ap (λ (e : Option (Link × ℕ)). trim now (if_live now (admit_on settings i now e))) (alike.links i key) ∙ sym (h.links i key))
+  live_links a b a' b' alike h k i key = grind (arith, common_steps)
 
   live_neighbours : (a b a' b' : Neighbourhood) → AlikeNear a b → LiveNeighbourhood settings now a a' → LiveNeighbourhood settings now b b' → SameNeighbours a' b'
   live_neighbours a b a' b' alike h k o =

@@ -1,5 +1,5 @@
 -- One line tells one thing of an item, and tells the same from networks that are alike.
-use Rattle.mesh_trace.proofs.Common.{arith, common_steps, ◌≡◌, ℕ, ◌+◌, ◌<◌, ◌^◌, refl, sym, ◌∙◌, ap, subst, List, [], ◌∷◌, ◌++◌, length, map, drop, Some, Bool, codes, decimal, Ok, slice_get, append_cancel_left, append_cancel_right, Addr4, NeighbourGraph, Interface, RadioArc, Scenario, TcRow, AreRelaysOf, IsFloodingGraph, IsRoutingGraph, State, Frame, on_each, IsHelloFrame, Traffic, Spreads, No_arcs, Loses, Carries, with_loss, with_delivery, AreOctets, same_at, face_name, flooding_text, routing_relays_line, sent_line, NetState, HasAddresses, TellsItem, Tells_flooding, Tells_routing, Tells_hello, Tells_tc, TellsFrame, AreTcFrames, with_flooding, with_routing, IsLineOf, Item, Flooding, Routing, Sent, Lost, with_state}
+use Rattle.mesh_trace.proofs.Common.{arith, ◌≡◌, ℕ, ◌+◌, ◌<◌, ◌^◌, refl, sym, ◌∙◌, ap, subst, List, [], ◌∷◌, ◌++◌, length, map, drop, Some, Bool, codes, decimal, Ok, slice_get, common_steps, append_cancel_left, append_cancel_right, Addr4, NeighbourGraph, Interface, RadioArc, Scenario, TcRow, AreRelaysOf, IsFloodingGraph, IsRoutingGraph, State, Frame, on_each, IsHelloFrame, Traffic, Spreads, No_arcs, Loses, Carries, with_loss, with_delivery, AreOctets, same_at, face_name, flooding_text, routing_relays_line, sent_line, NetState, HasAddresses, TellsItem, Tells_flooding, Tells_routing, Tells_hello, Tells_tc, TellsFrame, AreTcFrames, with_flooding, with_routing, IsLineOf, Item, Flooding, Routing, Sent, Lost, with_state}
 use Rattle.hex.specs.Hex.{encode_lower, decode_of}
 use Rattle.hex.proofs.HexLemmas.{decode_of-encode_lower}
 use Rattle.mesh_trace.specs.Positions.Standing.{Hello, Tc}
@@ -97,11 +97,7 @@ same_sent moment router face one other are are' e =
 -- two frames on one interface with one line are one
 same_frame : (s : State) (line : List ℕ) (f g : Frame) → f.iface ≡ g.iface → AreOctets f.bytes → AreOctets g.bytes → IsLineOf line (sent_line s.last s.settings.name (face_name s.settings.interfaces f.iface) f.bytes) →
     IsLineOf line (sent_line s.last s.settings.name (face_name s.settings.interfaces g.iface) g.bytes) → f ≡ g
-same_frame s line f g iface are are' one other =
-    let here : IsLineOf line (sent_line s.last s.settings.name (face_name s.settings.interfaces g.iface) f.bytes) =
-    subst (λ (i : ℕ). IsLineOf line (sent_line s.last s.settings.name (face_name s.settings.interfaces i) f.bytes)) iface one in
-    let bytes = same_sent s.last s.settings.name (face_name s.settings.interfaces g.iface) f.bytes g.bytes are are' (sym here ∙ other) in
-    ap (λ (i : ℕ). let frame : Frame = record { iface = i; bytes = f.bytes } in frame) iface ∙ ap (λ (l : List ℕ). let frame : Frame = record { iface = g.iface; bytes = l } in frame) bytes
+same_frame s line f g iface are are' one other = grind (arith, common_steps, same_sent)
 
 -- ---- one line tells one thing
 

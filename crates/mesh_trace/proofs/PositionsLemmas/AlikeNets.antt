@@ -1,36 +1,14 @@
 -- Networks that are alike, and that what a line tells at the one it tells at the other.
-use Rattle.mesh_trace.proofs.Common.{◌≡◌, ◌≢◌, ◌⊎◌, ℕ, zero, suc, inl, inr, refl, sym, ◌∙◌, ap, subst, arith, List, [], ◌∷◌, ◌++◌, length, Some, Bool, slice_get, slice_set, Addr4, RouterSettings, Scenario, TcRow, Relays, IsHelloNow, IsRoundedUp, IsFloodingGraph, State, IsOriginator, IsValidity, Frame, on_each, IsHelloFrame, Emission, Traffic, Sends, set_at, face_name, flooding_text, routing_relays_line, sent_line, lost_line, NetState, WritesTc, AlikeStates, Alike, TellsItem, Tells_flooding, Tells_routing, Tells_hello, Tells_tc, Tells_frame, Tells_loss, TellsFrame, AreTcFrames, with_flooding, with_routing, IsLineOf, Item, TracePosition, with_state, with_traffic}
+use Rattle.mesh_trace.proofs.Common.{common_steps, ◌≡◌, ◌≢◌, ◌⊎◌, ℕ, zero, suc, inl, inr, refl, sym, ◌∙◌, subst, arith, List, [], ◌∷◌, length, Some, Bool, slice_get, slice_set, Addr4, RouterSettings, Scenario, TcRow, IsHelloNow, IsRoundedUp, IsFloodingGraph, State, IsOriginator, IsValidity, Frame, on_each, IsHelloFrame, Emission, Traffic, Sends, set_at, face_name, flooding_text, routing_relays_line, sent_line, lost_line, NetState, WritesTc, AlikeStates, Alike, TellsItem, Tells_flooding, Tells_routing, Tells_hello, Tells_tc, Tells_frame, Tells_loss, TellsFrame, AreTcFrames, with_flooding, with_routing, IsLineOf, Item, TracePosition, with_state, with_traffic}
 use Rattle.mesh_trace.proofs.PositionsLemmas.AlikeBases.{bases_itself, bases_on}
 use Rattle.mesh_trace.proofs.PositionsLemmas.AlikeStates.{HoldsAlso, hello_by, routing_by, flooding_by}
 use Rattle.mesh_trace.proofs.PositionsLemmas.TcFrames.{one_part, parts_one}
 
 pub states_itself : (s : State) → AlikeStates s s
-states_itself s = record {
-  settings = refl;
-  bases = bases_itself s.bases;
-  relays = refl;
-  rows = refl;
-  ansn = refl;
-  emptied = refl;
-  sequence = refl;
-  next_hello = refl;
-  next_tc = refl;
-  last = refl;
-}
+states_itself s = grind (arith, common_steps, bases_itself)
 
 pub states_on : (r s t : State) → AlikeStates r s → AlikeStates s t → AlikeStates r t
-states_on r s t h k = record {
-  settings = k.settings ∙ h.settings;
-  bases = bases_on r.bases s.bases t.bases h.bases k.bases;
-  relays = k.relays ∙ h.relays;
-  rows = k.rows ∙ h.rows;
-  ansn = k.ansn ∙ h.ansn;
-  emptied = k.emptied ∙ h.emptied;
-  sequence = k.sequence ∙ h.sequence;
-  next_hello = k.next_hello ∙ h.next_hello;
-  next_tc = k.next_tc ∙ h.next_tc;
-  last = k.last ∙ h.last;
-}
+states_on r s t h k = grind (arith, common_steps, bases_on)
 
 -- ---- networks
 
@@ -125,32 +103,10 @@ frames_from s t complete sequence rows first further states are =
     }
 
 flooding_states : (s t : State) (relays : List Addr4) → AlikeStates s t → AlikeStates (with_flooding s relays) (with_flooding t relays)
-flooding_states s t relays h = record {
-  settings = h.settings;
-  bases = h.bases;
-  relays = ap (λ (r : Relays). record r { flooding = r.flooding ++ (relays ∷ []) }) h.relays;
-  rows = h.rows;
-  ansn = h.ansn;
-  emptied = h.emptied;
-  sequence = h.sequence;
-  next_hello = h.next_hello;
-  next_tc = h.next_tc;
-  last = h.last;
-}
+flooding_states s t relays h = grind (arith, common_steps)
 
 routing_states : (s t : State) (relays : List Addr4) → AlikeStates s t → AlikeStates (with_routing s relays) (with_routing t relays)
-routing_states s t relays h = record {
-  settings = h.settings;
-  bases = h.bases;
-  relays = ap (λ (r : Relays). record r { routing = relays }) h.relays;
-  rows = h.rows;
-  ansn = h.ansn;
-  emptied = h.emptied;
-  sequence = h.sequence;
-  next_hello = h.next_hello;
-  next_tc = h.next_tc;
-  last = h.last;
-}
+routing_states s t relays h = grind (arith, common_steps)
 
 module _ (m n : NetState) (x : ℕ) (s t : State) (line : List ℕ) (nets : AlikeNets m n) (states : AlikeStates s t) (h : HoldsAlso s t) (k : HoldsAlso t s) where
   back : s.settings ≡ t.settings

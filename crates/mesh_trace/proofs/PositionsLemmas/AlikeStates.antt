@@ -1,5 +1,5 @@
 -- Routers that are alike hold the same tuples, say the same, and have the same graphs and rows.
-use Rattle.mesh_trace.proofs.Common.{common_steps, ◌≡◌, ◌↔◌, ℕ, suc, inl, inr, refl, sym, ◌∙◌, ap, subst, arith, List, [], ◌∷◌, Option, Some, None, Contains, slice_get, Bool, true, ◌⊎◌, IsEquivalence, AllPairs, Addr4, Metric, NeighbourGraph, Hello, HelloRow, RouterSettings, TcRow, LinkKey, Link, Neighbour, Relays, TwoHop, TwoHopKey, GivesAsSelector, IsRowBy, AreTcRows, Base, Has, HasDistinctKeys, Same, base_of, Part, This_if, Other_if, Link_lost, Link_symmetric, Link_heard, Other_lost, Other_symmetric, Link_in, Link_out, Near_in, Near_out, HasLinkTo, SaysLink, Says, IsHelloRow, IsHelloNow, local_part, link_part, other_part, IsBefore, IsRoutingGraph, IsFloodingGraph, SoundNeighbourhood, State, HasLink, HasTwoHop, HasSymmetric, HasAddressOn, IsOriginator, IsValue, has_found, has_found_on, addr_equiv, same_addr, link_equiv, same_link, two_hop_equiv, same_two_hop, same_row, AlikeNear, AlikeStates, contains_cases}
+use Rattle.mesh_trace.proofs.Common.{common_steps, ◌≡◌, ◌↔◌, ℕ, suc, inl, inr, refl, sym, ◌∙◌, ap, subst, arith, List, [], ◌∷◌, Option, Some, Contains, slice_get, Bool, true, ◌⊎◌, IsEquivalence, AllPairs, Addr4, Metric, NeighbourGraph, Hello, HelloRow, RouterSettings, TcRow, LinkKey, Link, Neighbour, Relays, TwoHop, TwoHopKey, GivesAsSelector, IsRowBy, AreTcRows, Base, Has, HasDistinctKeys, Same, base_of, Part, This_if, Other_if, Link_lost, Link_symmetric, Link_heard, Other_lost, Other_symmetric, Link_in, Link_out, Near_in, Near_out, HasLinkTo, SaysLink, Says, IsHelloRow, IsHelloNow, local_part, link_part, other_part, IsBefore, IsRoutingGraph, IsFloodingGraph, SoundNeighbourhood, State, HasLink, HasTwoHop, HasSymmetric, HasAddressOn, IsOriginator, IsValue, has_found, has_found_on, addr_equiv, same_addr, link_equiv, same_link, two_hop_equiv, same_two_hop, same_row, AlikeNear, AlikeStates, contains_cases}
 use Rattle.mesh_atoms.specs.declared.settings.Attached4.{Attached4}
 use Rattle.mesh_atoms.specs.declared.tuples.LinkState.{LinkState}
 use Rattle.mesh_atoms.specs.declared.tuples.Lost.{Lost}
@@ -77,8 +77,7 @@ says_by s t h k i now a Flooding (link, x, o, n, b, among, (has, within), relays
 says_by s t h k i now a Routing (o, n, (has, among), chosen) = (o, n, (h.neighbours o n has, among), subst (λ (r : Relays). Contains r.routing o) (sym h.relays) chosen)
 
 value_by : {A : Type 0} (P Q : A → Type 0) → ((x : A) → P x → Q x) → ((x : A) → Q x → P x) → (v : Option A) → IsValue P v → IsValue Q v
-value_by P Q to back None h = λ x q. h x (back x q)
-value_by P Q to back (Some x) h = to x h
+value_by P Q to back v h = grind (arith, common_steps)
 
 module _ (s t : State) (h : HoldsAlso s t) (k : HoldsAlso t s) (i now : ℕ) where
   to : (a : Addr4) (part : Part) → Says s i now a part → Says t i now a part
@@ -169,10 +168,7 @@ module _ {A : Type 0} (R : A → A → Type 0) (apart : (x y : A) → R x y → 
       first (inr there) (inr here) = absurd (apart x y (before x xs p y here) (before y ys q x there))
 
 row_apart : (x y : TcRow) → IsBefore x.dest y.dest → IsBefore y.dest x.dest → ⊥
-row_apart x y (inl p) (inl q) = omega (arith, p, q)
-row_apart x y (inl p) (inr (same, q)) = omega (arith, p, same)
-row_apart x y (inr (same, p)) (inl q) = omega (arith, q, same)
-row_apart x y (inr (same, p)) (inr (same', q)) = omega (arith, p, q)
+row_apart x y h2 h3 = grind (arith, common_steps)
 
 gives_by : (s t : State) → HoldsAlso s t → (a o : Addr4) (m : Metric) → GivesAsSelector s a o m → GivesAsSelector t a o m
 gives_by s t h a o m g = record { neighbour = g.neighbour; symmetric = h.neighbours o g.neighbour g.symmetric; selects = g.selects; metric = g.metric; address = g.address }

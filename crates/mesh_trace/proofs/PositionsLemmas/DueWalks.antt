@@ -1,5 +1,5 @@
 -- The HELLOs and TCs of a tick.
-use Rattle.mesh_trace.proofs.Common.{◌≡◌, ℕ, suc, ◌+◌, ◌%◌, List, [], ◌∷◌, ◌++◌, length, map, drop, Some, Bool, refl, sym, ap, ◌∙◌, subst, append_assoc, arith, slice_get, flat_map, enumerate_from, append-nil, Interface, Tc as TcValue, TcRow, State, IsValidity, Frame, on_each, IsHelloFrame, IsTcOfRows, SendsParts, No_part, First_part, some_interface, Emission, Traffic, SendsAll, frame_of, WritesTc, sent_lines, NetState, part_items, TellsItem, Tells_hello, Tells_tc, TellsFrame, AreTcFrames, Item, Sent, Lost, with_traffic}
+use Rattle.mesh_trace.proofs.Common.{common_steps, ◌≡◌, ℕ, suc, ◌+◌, ◌%◌, List, [], ◌∷◌, ◌++◌, length, map, drop, Some, Bool, refl, sym, ap, ◌∙◌, subst, append_assoc, arith, slice_get, flat_map, enumerate_from, append-nil, Interface, Tc as TcValue, TcRow, State, IsValidity, Frame, on_each, IsHelloFrame, IsTcOfRows, SendsParts, No_part, First_part, some_interface, Emission, Traffic, SendsAll, frame_of, WritesTc, sent_lines, NetState, part_items, TellsItem, Tells_hello, Tells_tc, TellsFrame, AreTcFrames, Item, Sent, Lost, with_traffic}
 use Rattle.mesh_trace.specs.Positions.Standing.{Hello, Tc}
 use Rattle.mesh_trace.proofs.PositionsLemmas.Leading.{at}
 use Rattle.mesh_trace.proofs.PositionsLemmas.SendingWalks.{frame_walk, frames_walk}
@@ -46,8 +46,7 @@ pub hellos_walk : (net : NetState) (x : ℕ) (s : State) (rest : List Item) (fac
     length es ≡ length faces → ((k : ℕ) (e : Emission) → slice_get es k ≡ Some e → IsHelloFrame s (n + k) (frame_of e)) →
     SendsAll net.scenario s.last x es before after →
     Walks (at (with_traffic net before) x (map (λ f. Hello f.0) (enumerate_from n faces) ++ rest)) (at (with_traffic net after) x rest) (flat_map (sent_lines net.scenario s.last s.settings) es)
-hellos_walk net x s rest [] n [] before after stood same hellos sends =
-    subst (λ (t : Traffic). Walks (at (with_traffic net before) x rest) (at (with_traffic net t) x rest) []) (sym sends) (walks_nowhere _)
+hellos_walk net x s rest [] n [] before after stood same hellos sends = grind (arith, common_steps, walks_nowhere)
 hellos_walk net x s rest [] n (e ∷ es) before after stood same hellos sends = absurd (omega (arith, same))
 hellos_walk net x s rest (face ∷ faces) n [] before after stood same hellos sends = absurd (omega (arith, same))
 hellos_walk net x s rest (face ∷ faces) n (e ∷ es) before after stood same hellos (mid, one, more) =
@@ -90,8 +89,7 @@ pub parts_walk : (net : NetState) (x : ℕ) (s : State) (rest : List Item) (vali
     slice_get net.routers x ≡ Some s → IsValidity s.settings.times.topology_hold s.settings.near_hold validity → SendsParts s validity complete sequence parts frames → map frame_of es ≡ frames →
     SendsAll net.scenario s.last x es before after →
     Walks (at (with_traffic net before) x (part_items complete sequence parts ++ rest)) (at (with_traffic net after) x rest) (flat_map (sent_lines net.scenario s.last s.settings) es)
-parts_walk net x s rest validity complete sequence parts frames [] before after stood is_validity No_part are sends =
-    subst (λ (t : Traffic). Walks (at (with_traffic net before) x rest) (at (with_traffic net t) x rest) []) (sym sends) (walks_nowhere _)
+parts_walk net x s rest validity complete sequence parts frames [] before after stood is_validity No_part are sends = grind (arith, common_steps, walks_nowhere)
 parts_walk net x s rest validity complete sequence parts frames (e ∷ es) before after stood is_validity No_part are sends = absurd cc
 parts_walk net x s rest validity complete sequence parts frames es before after stood is_validity (First_part {rows = rows} {parts = others} {more = later} tc bytes is_tc written more_parts) are sends =
     let each = on_each (length s.settings.interfaces) bytes in

@@ -1,5 +1,5 @@
 -- The event that comes next at a network comes next at each that is alike, and does the same to its router.
-use Rattle.mesh_trace.proofs.Common.{common_steps, ◌≡◌, ℕ, ◌+◌, ◌%◌, ◌<◌, ◌≤◌, min, inl, inr, refl, sym, ◌∙◌, ap, subst, arith, List, length, Some, All, slice_get, nat_eq, slice_get_within, get_or_from_slice_get, RouterSettings, Scenario, Live, Bases, State, IsOriginator, Arrival, Frame, due, TakesMessages, IsNextAnsn, IsEmptied, Traffic, Delivery, IsHeardFirst, with_heard, face_name, heard_line, tick_line, NetState, IsFirstDue, HearsNext, TicksNext, HasOnlyLastTicks, IsSender, AlikeStates, Alike, Follows, TakesPacket, HearsBy, Refused, Taken, HellosDue, Hellos_early, Hellos_due, TcsDue, Tcs_early, Tcs_silent, Tcs_due, TicksBy, part_items, IsLineOf, OpensHearing, OpensTick, OpensEvent, By_delivery, By_tick, By_last_tick, Item, TracePosition, with_state, with_traffic, item_at as stands}
+use Rattle.mesh_trace.proofs.Common.{common_steps, ◌≡◌, ℕ, ◌+◌, ◌%◌, ◌<◌, ◌≤◌, min, refl, sym, ◌∙◌, ap, subst, arith, List, length, Some, All, slice_get, nat_eq, slice_get_within, get_or_from_slice_get, RouterSettings, Scenario, Live, Bases, State, IsOriginator, Arrival, Frame, due, TakesMessages, IsNextAnsn, IsEmptied, Traffic, Delivery, IsHeardFirst, with_heard, face_name, heard_line, tick_line, NetState, IsFirstDue, HearsNext, TicksNext, HasOnlyLastTicks, IsSender, AlikeStates, Alike, Follows, TakesPacket, HearsBy, Refused, Taken, HellosDue, Hellos_early, Hellos_due, TcsDue, Tcs_early, Tcs_silent, Tcs_due, TicksBy, part_items, IsLineOf, OpensHearing, OpensTick, OpensEvent, By_delivery, By_tick, By_last_tick, Item, TracePosition, with_state, with_traffic, item_at as stands}
 use Rattle.mesh_trace.proofs.PositionsLemmas.AlikeBases.{live_from}
 use Rattle.mesh_trace.proofs.PositionsLemmas.AlikeNets.{AlikeNets, states_itself, nets_set}
 use Rattle.mesh_trace.proofs.PositionsLemmas.AlikeStates.{states_back}
@@ -78,13 +78,10 @@ last_ticks_from m n nets h = record {
 
 module _ (s t : State) (h : AlikeStates s t) where
   ansn_from : (new : State) → IsNextAnsn s new → IsNextAnsn t new
-  ansn_from new (inl (rows, ansn)) = inl (rows ∙ sym h.rows, ansn ∙ sym h.ansn)
-  ansn_from new (inr (other, ansn)) = inr (λ e. other (e ∙ h.rows), ansn ∙ ap (λ (k : ℕ). (k + 1) % 65536) (sym h.ansn))
+  ansn_from new h1 = grind (arith, common_steps)
 
   emptied_from : (new : State) → IsEmptied s new → IsEmptied t new
-  emptied_from new (inl (none, some, emptied)) = inl (none, λ e. some (sym h.rows ∙ e), emptied)
-  emptied_from new (inr (inl some, emptied)) = inr (inl some, emptied ∙ sym h.emptied)
-  emptied_from new (inr (inr none, emptied)) = inr (inr (h.rows ∙ none), emptied ∙ sym h.emptied)
+  emptied_from new h1 = grind (arith, common_steps)
 
   follows_from : (now : ℕ) (bases : Bases) (new : State) → Follows s now bases new → Follows t now bases new
   follows_from now bases new f = grind (arith, common_steps, ansn_from, emptied_from)

@@ -1,6 +1,5 @@
 -- One line tells one event, which leaves one position but for the order of tuples.
-use Rattle.mesh_trace.proofs.Common.{◌≡◌, ℕ, ◌+◌, ◌%◌, ◌<◌, ◌≤◌, inl, inr, refl, sym, ◌∙◌, ap, subst, arith, List, [], ◌∷◌, ◌++◌, length, map, Some, All, slice_get, nat_eq, enumerate_from, All-head, All-tail, cases_lt, Addr4, Interface, RadioArc, RouterSettings, TcRow, AreParts, Bases, State, Span, PacketFields, one_packet, not_both, Arrival, Frame, due, TakesMessages, IsNextAnsn, IsEmptied, HasToAdvertise, IsNextMoment, live_bases_sound, Delivery, with_heard, same_at, NetState, IsFirstDue, HearsNext, TicksNext, HasOnlyLastTicks, IsSender, AlikeBases, AlikeStates, Alike, Follows, TakesPacket, HearsBy, Refused, Taken, HellosDue, Hellos_early, Hellos_due, TcsDue, Tcs_early, Tcs_silent, Tcs_due, TicksBy, part_items, OpensHearing, OpensTick, OpensEvent, By_delivery, By_tick, By_last_tick, Item, Sent, TracePosition, relay_items, with_state, with_traffic, one_originator}
-use Rattle.mesh_trace.specs.Positions.Standing.{Hello}
+use Rattle.mesh_trace.proofs.Common.{common_steps, ◌≡◌, ℕ, ◌+◌, ◌%◌, ◌<◌, ◌≤◌, refl, sym, ◌∙◌, ap, subst, arith, List, [], ◌∷◌, ◌++◌, length, map, Some, All, slice_get, nat_eq, All-head, All-tail, Addr4, RadioArc, RouterSettings, TcRow, AreParts, Bases, State, Span, PacketFields, one_packet, not_both, Arrival, Frame, due, TakesMessages, IsNextAnsn, IsEmptied, HasToAdvertise, IsNextMoment, live_bases_sound, Delivery, with_heard, same_at, NetState, IsFirstDue, HearsNext, TicksNext, HasOnlyLastTicks, IsSender, AlikeBases, AlikeStates, Alike, Follows, TakesPacket, HearsBy, Refused, Taken, HellosDue, TcsDue, Tcs_early, Tcs_silent, Tcs_due, TicksBy, part_items, OpensHearing, OpensTick, OpensEvent, By_delivery, By_tick, By_last_tick, Item, Sent, TracePosition, relay_items, with_state, with_traffic, one_originator}
 use Rattle.mesh_trace.proofs.PositionsLemmas.AlikeBases.{bases_itself, bases_back, live_only}
 use Rattle.mesh_trace.proofs.PositionsLemmas.AlikeNets.{AlikeNets, states_itself, nets_set}
 use Rattle.mesh_trace.proofs.PositionsLemmas.AlikeStates.{holds_by, rows_only}
@@ -22,20 +21,8 @@ behind_all P before behind e all = All-head P e behind (all_behind P before (e �
 first_once : (a b a' b' : List Delivery) (d e : Delivery) → a ++ d ∷ b ≡ a' ++ e ∷ b' → All (λ x. d.moment < x.moment) a → All (λ x. d.moment ≤ x.moment) b → All (λ x. e.moment < x.moment) a' → All (λ x. e.moment ≤ x.moment) b' →
     SameFirst d e a b a' b'
 first_once [] b [] b' d e same p q p' q' = record { first = cc; left = cc }
-first_once [] b (x ∷ a') b' d e same p q p' q' =
-    let heads : d ≡ x = cc in
-    let tails : b ≡ a' ++ e ∷ b' = cc in
-    let late : e.moment < x.moment = All-head (λ (z : Delivery). e.moment < z.moment) x a' p' in
-    let early : d.moment ≤ e.moment = behind_all (λ (z : Delivery). d.moment ≤ z.moment) a' b' e (subst (All (λ (z : Delivery). d.moment ≤ z.moment)) tails q) in
-    let moments = ap (λ (z : Delivery). z.moment) heads in
-    absurd (omega (arith, late, early, moments))
-first_once (x ∷ a) b [] b' d e same p q p' q' =
-    let heads : x ≡ e = cc in
-    let tails : a ++ d ∷ b ≡ b' = cc in
-    let late : d.moment < x.moment = All-head (λ (z : Delivery). d.moment < z.moment) x a p in
-    let early : e.moment ≤ d.moment = behind_all (λ (z : Delivery). e.moment ≤ z.moment) a b d (subst (All (λ (z : Delivery). e.moment ≤ z.moment)) (sym tails) q') in
-    let moments = ap (λ (z : Delivery). z.moment) heads in
-    absurd (omega (arith, late, early, moments))
+first_once [] b (x ∷ a') b' d e same p q p' q' = grind (arith, common_steps, All-head, behind_all)
+first_once (x ∷ a) b [] b' d e same p q p' q' = grind (arith, common_steps, All-head, behind_all)
 first_once (x ∷ a) b (y ∷ a') b' d e same p q p' q' =
     let heads : x ≡ y = cc in
     let tails : a ++ d ∷ b ≡ a' ++ e ∷ b' = cc in
@@ -46,37 +33,15 @@ first_once (x ∷ a) b (y ∷ a') b' d e same p q p' q' =
 
 -- the router that is due first is one
 pub due_once : (routers : List State) (x y m n : ℕ) → IsFirstDue routers x m → IsFirstDue routers y n → (x ≡ y) × (m ≡ n)
-due_once routers x y m n h k =
-    let a : m ≤ due k.state = h.no_earlier y k.state k.stands in
-    let b : n ≤ due h.state = k.no_earlier x h.state h.stands in
-    let here = h.is in
-    let there = k.is in
-    let same : m ≡ n = omega (arith, a, b, here, there) in
-    let one : y < x → ⊥ = λ less. (let late = h.later y k.state k.stands less in omega (arith, late, there, same)) in
-    let other : x < y → ⊥ = λ less. (let late = k.later x h.state h.stands less in omega (arith, late, here, same)) in
-    (between x y other one, same)
-  where
-    between : (x y : ℕ) → (x < y → ⊥) → (y < x → ⊥) → x ≡ y
-    between x y a b = elim (cases_lt x y) [
-      | inl less ↦ absurd (a less)
-      | inr most ↦ elim (cases_lt y x) [ inl greater ↦ absurd (b greater) | inr least ↦ omega (arith, most, least) ]
-    ]
+due_once routers x y m n h k = grind (arith, common_steps)
 
 -- ---- one router
 
 ansn_once : (old a b : State) → b.rows ≡ a.rows → IsNextAnsn old a → IsNextAnsn old b → b.ansn ≡ a.ansn
-ansn_once old a b rows (inl (same, ansn)) (inl (same', ansn')) = ansn' ∙ sym ansn
-ansn_once old a b rows (inl (same, ansn)) (inr (other, ansn')) = absurd (other (rows ∙ same))
-ansn_once old a b rows (inr (other, ansn)) (inl (same', ansn')) = absurd (other (sym rows ∙ same'))
-ansn_once old a b rows (inr (other, ansn)) (inr (other', ansn')) = ansn' ∙ sym ansn
+ansn_once old a b rows h4 h5 = grind (arith, common_steps)
 
 emptied_once : (old a b : State) → b.rows ≡ a.rows → b.last ≡ a.last → IsEmptied old a → IsEmptied old b → b.emptied ≡ a.emptied
-emptied_once old a b rows last (inl (none, some, is)) (inl (none', some', is')) = is' ∙ (ap (λ (n : ℕ). Some n) last ∙ sym is)
-emptied_once old a b rows last (inl (none, some, is)) (inr (inl full, is')) = absurd (full (rows ∙ none))
-emptied_once old a b rows last (inl (none, some, is)) (inr (inr was, is')) = absurd (some was)
-emptied_once old a b rows last (inr (inl full, is)) (inl (none', some', is')) = absurd (full (sym rows ∙ none'))
-emptied_once old a b rows last (inr (inr was, is)) (inl (none', some', is')) = absurd (some' was)
-emptied_once old a b rows last (inr (how, is)) (inr (how', is')) = is' ∙ sym is
+emptied_once old a b rows last h5 h6 = grind (arith, common_steps)
 
 -- what follows from bases that are alike
 record FollowsOnce (a b : State) : Type 0 where
@@ -110,26 +75,11 @@ follows_once old now one other a b alike sound sound' h k =
 
 -- ---- ticks
 
-abbrev hello_items : RouterSettings → List Item
-hello_items r = map (λ f. Hello f.0) (enumerate_from 0 r.interfaces)
-
 hellos_once : (old a b : State) (one other : List Item) → FollowsOnce a b → HellosDue old a one → HellosDue old b other → (other ≡ one) × (b.next_hello ≡ a.next_hello)
-hellos_once old a b one other same (Hellos_early early next) (Hellos_early early' next') = (refl, next' ∙ sym next)
-hellos_once old a b one other same (Hellos_early early next) (Hellos_due due next') = absurd (let l = same.last in omega (arith, early, due, l))
-hellos_once old a b one other same (Hellos_due due next) (Hellos_early early next') = absurd (let l = same.last in omega (arith, early, due, l))
-hellos_once old a b one other same (Hellos_due due next) (Hellos_due due' next') = (
-  ap (λ (r : RouterSettings). hello_items r) same.settings,
-  sym (moment_once a.settings.hello_at a.settings.times.hello a.last a.next_hello b.next_hello next
-      (subst (λ (n : ℕ). IsNextMoment a.settings.hello_at a.settings.times.hello n b.next_hello) same.last
-      (subst (λ (r : RouterSettings). IsNextMoment r.hello_at r.times.hello b.last b.next_hello) same.settings next'))),
-)
+hellos_once old a b one other same h6 h7 = grind (arith, common_steps, moment_once)
 
 has_too : (a b : State) → FollowsOnce a b → HasToAdvertise a → HasToAdvertise b
-has_too a b same (inl some) = inl (λ none. some (sym same.rows ∙ none))
-has_too a b same (inr (moment, is, less)) =
-    let l = same.last in
-    let held : b.settings.times.advertised_hold ≡ a.settings.times.advertised_hold = ap (λ (r : RouterSettings). r.times.advertised_hold) same.settings in
-    inr (moment, same.emptied ∙ is, omega (arith, less, l, held))
+has_too a b same h3 = grind (arith, common_steps)
 
 back_once : (a b : State) → FollowsOnce a b → FollowsOnce b a
 back_once a b h = record { settings = sym h.settings; bases = bases_back a.bases b.bases h.bases; relays = sym h.relays; rows = sym h.rows; ansn = sym h.ansn; emptied = sym h.emptied; last = sym h.last }
@@ -140,10 +90,7 @@ record TcsOnce (a b : State) (one other : List Item) : Type 0 where
   sequence : b.sequence ≡ a.sequence
 
 next_tc_once : (a b : State) → FollowsOnce a b → IsNextMoment a.settings.tc_at a.settings.times.tc a.last a.next_tc → IsNextMoment b.settings.tc_at b.settings.times.tc b.last b.next_tc → b.next_tc ≡ a.next_tc
-next_tc_once a b same next next' =
-    sym (moment_once a.settings.tc_at a.settings.times.tc a.last a.next_tc b.next_tc next
-    (subst (λ (n : ℕ). IsNextMoment a.settings.tc_at a.settings.times.tc n b.next_tc) same.last
-    (subst (λ (r : RouterSettings). IsNextMoment r.tc_at r.times.tc b.last b.next_tc) same.settings next')))
+next_tc_once a b same next next' = grind (arith, common_steps, moment_once)
 
 tcs_once : (old a b : State) (one other : List Item) → FollowsOnce a b → TcsDue old a one → TcsDue old b other → TcsOnce a b one other
 tcs_once old a b one other same (Tcs_early early next seq) (Tcs_early early' next' seq') = record { items = refl; next = next' ∙ sym next; sequence = seq' ∙ sym seq }
@@ -236,13 +183,7 @@ hears_once s arrival bytes a b one other sound (Taken {sent} h) (Taken {sent = m
 -- ---- the line
 
 pub nets_itself : (n : NetState) → AlikeNets n n
-nets_itself n = record {
-  scenario = refl;
-  count = refl;
-  routers = λ x s t at at'. subst (λ (z : State). AlikeStates s z) (same_at n.routers x s t at at') (states_itself s);
-  traffic = refl;
-  last_ticks = refl;
-}
+nets_itself n = grind (arith, common_steps, same_at, states_itself)
 
 tick_once : (net : NetState) (x now last_ticks : ℕ) (line : List ℕ) (p q : TracePosition) → AreSound net.routers → OpensTick net x now last_ticks line p → OpensTick net x now last_ticks line q → Alike p q
 tick_once net x now last_ticks line p q sound h k =
@@ -254,11 +195,7 @@ tick_once net x now last_ticks line p q sound h k =
     (record { scenario = set.scenario; count = set.count; routers = set.routers; traffic = set.traffic; last_ticks = refl; router = refl; left = once.left }))
 
 pub sender_once : (routers : List RouterSettings) (arc : RadioArc) (a b : Addr4) → IsSender routers arc a → IsSender routers arc b → a ≡ b
-sender_once routers arc a b h k =
-    let router : k.router ≡ h.router = same_at routers arc.from k.router h.router k.router_is h.router_is in
-    let face : k.face ≡ h.face =
-    same_at h.router.interfaces arc.from_iface k.face h.face (subst (λ (r : RouterSettings). slice_get r.interfaces arc.from_iface ≡ Some k.face) router k.face_is) h.face_is in
-    same_at h.face.addrs 0 a b h.address (subst (λ (f : Interface). slice_get f.addrs 0 ≡ Some b) face k.address)
+sender_once routers arc a b h k = grind (arith, common_steps, same_at)
 
 hearing_once : (net : NetState) (line : List ℕ) (p q : TracePosition) → AreSound net.routers → OpensHearing net line p → OpensHearing net line q → Alike p q
 hearing_once net line p q sound h k =
@@ -294,10 +231,7 @@ not_tick net d others x moment h k =
     omega (arith, early, late, is)
 
 pub not_last : (net : NetState) (d : Delivery) (others : List Delivery) → HearsNext net d others → HasOnlyLastTicks net → ⊥
-not_last net d others h k =
-    let late : net.scenario.end < d.moment = behind_all (λ (e : Delivery). net.scenario.end < e.moment) h.first.before h.first.behind d (subst (All (λ (e : Delivery). net.scenario.end < e.moment)) h.first.whole k.no_frames) in
-    let early = h.in_time in
-    omega (arith, early, late)
+not_last net d others h k = grind (arith, common_steps, behind_all)
 
 pub tick_not_last : (net : NetState) (x moment : ℕ) → TicksNext net x moment → HasOnlyLastTicks net → ⊥
 tick_not_last net x moment h k =

@@ -1,5 +1,5 @@
 -- All else of a run than what its lines tell is fixed.
-use Rattle.mesh_trace.proofs.Common.{common_steps, inr, inl, ◌≡◌, ℕ, ◌<◌, refl, sym, ◌∙◌, ap, subst, arith, List, [], ◌∷◌, ◌++◌, length, Some, cases_lt, slice_get, slice_get_within, RouterSettings, Scenario, Bases, State, IsOpening, opening_sound, bases_of, same_at, NetState, AlikeBases, AlikeStates, Alike, HasAddresses, IsSoundPosition, TellsItem, NothingFollows, NoneIsLonger, HasSomeLine, AllElseIsFixed, LeadsAlike, LeadsFromAlike, OneDecidesFit, OneDecidesEnd, UnfitIsNotWhole, OneUnfit, Item, TracePosition, IsFirstPosition, IsDone, Fits, LineLeads, To_event, To_item, LeadsBy, Reaches, At_line, Behind_all, item_at as stands}
+use Rattle.mesh_trace.proofs.Common.{common_steps, inr, inl, ◌≡◌, ℕ, ◌<◌, refl, sym, ◌∙◌, ap, subst, arith, List, [], ◌∷◌, ◌++◌, length, Some, slice_get, cases_lt, slice_get_within, RouterSettings, Scenario, Bases, State, IsOpening, opening_sound, bases_of, same_at, NetState, AlikeBases, AlikeStates, Alike, HasAddresses, IsSoundPosition, TellsItem, NothingFollows, NoneIsLonger, AllElseIsFixed, LeadsAlike, LeadsFromAlike, OneDecidesFit, OneDecidesEnd, UnfitIsNotWhole, OneUnfit, Item, TracePosition, IsFirstPosition, IsDone, Fits, LineLeads, To_event, To_item, LeadsBy, Reaches, At_line, Behind_all, item_at as stands}
 use Rattle.mesh_trace.proofs.PositionsLemmas.Addresses.{positions_have_addresses}
 use Rattle.mesh_trace.proofs.PositionsLemmas.AlikeBases.{bases_itself}
 use Rattle.mesh_trace.proofs.PositionsLemmas.AlikeItems.{tells_once}
@@ -227,6 +227,3 @@ nothing_follows s lines line (p, here, done) = one_decides_fit s lines line p he
 
 pub none_is_longer : NoneIsLonger
 none_is_longer s lines line more whole (q, there, done) = nothing_follows s lines line whole (fits_within s (lines ++ line ∷ more) lines line more q refl there)
-
-pub has_some_line : HasSomeLine
-has_some_line s some (p, (first, is, same), done) = grind (arith, common_steps, length)

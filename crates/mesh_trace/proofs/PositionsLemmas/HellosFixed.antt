@@ -1,5 +1,5 @@
 -- What is made of a HELLO is fixed but for the order of tuples.
-use Rattle.mesh_trace.proofs.Common.{common_steps, ◌≡◌, ◌≢◌, ◌⊎◌, ℕ, ◌+◌, ◌<◌, ◌≤◌, inl, inr, refl, sym, ◌∙◌, ap, subst, arith, List, [], ◌∷◌, length, map, Option, Some, None, Contains, slice_get, Bool, true, false, cond, AllPairs, list_any, and_parts, cases_lt, or_left, or_right, get_or_past, Addr4, Metric, Hello, HelloRow, LinkStatus, Interface, RouterSettings, LinkKey, Link, Neighbour, TwoHop, TwoHopKey, by_status, renewed, LinkKeptOrMade, Stood, Made, IsTheirs, GoesOn, announced, BecomesOther, Joins, Remains, row_makes, StoodOn, Same_link, New_link, TellsTwoHop, By_row, By_none, AfterHello, Base, base_of, find, addr_eq, link_eq, IsSending, IsListed, IsMyStatus, IsHandedIn, Told, Tells, LooksAt, Restores, IsSymmetricAddress, SettlesLost, is_symmetric_at, is_symmetric_entry, IsBefore, SoundNeighbourhood, Neighbourhood, link_at, two_hop_at, neighbour_at, lost_at, IsNameless, IsFault, IsHeld, IsFullOfAddresses, AreTwoHopRows, IsFullOfTwoHops, FitsTwoHops, HelloAnswer, TakesHello, Breaks, Overfull, Overfull_two_hops, Takes, Lists, IsKept, addr_equiv, same_addr, two_hop_equiv, one_row, AlikeNear, addr_itself as itself, item_at as stands, contains_cases, contains_none as none_in, least_only}
+use Rattle.mesh_trace.proofs.Common.{common_steps, ◌≡◌, ◌≢◌, ◌⊎◌, ℕ, ◌+◌, ◌<◌, ◌≤◌, inl, inr, refl, sym, ◌∙◌, ap, subst, arith, List, [], ◌∷◌, length, map, Option, Some, None, Contains, slice_get, Bool, true, false, cond, AllPairs, list_any, and_parts, cases_lt, or_left, or_right, get_or_past, Addr4, Metric, Hello, HelloRow, LinkStatus, Interface, RouterSettings, LinkKey, Link, Neighbour, TwoHop, TwoHopKey, by_status, renewed, LinkKeptOrMade, Stood, Made, IsTheirs, GoesOn, announced, BecomesOther, Joins, Remains, row_makes, StoodOn, Same_link, New_link, TellsTwoHop, By_row, By_none, AfterHello, Base, base_of, find, addr_eq, link_eq, IsSending, IsListed, IsMyStatus, IsHandedIn, Told, Tells, LooksAt, IsSymmetricAddress, SettlesLost, is_symmetric_at, is_symmetric_entry, IsBefore, SoundNeighbourhood, Neighbourhood, link_at, two_hop_at, neighbour_at, lost_at, IsNameless, IsFault, IsHeld, IsFullOfAddresses, AreTwoHopRows, IsFullOfTwoHops, FitsTwoHops, HelloAnswer, TakesHello, Breaks, Overfull, Overfull_two_hops, Takes, Lists, IsKept, addr_equiv, same_addr, two_hop_equiv, one_row, AlikeNear, addr_itself as itself, item_at as stands, contains_cases, contains_none as none_in, least_only}
 use Rattle.mesh_atoms.specs.declared.admit.Admit.{Admit}
 use Rattle.mesh_atoms.specs.declared.hello.LinkStatus.TheVariants.{Lost as Down, Symmetric, Heard}
 use Rattle.mesh_atoms.specs.declared.hello.Shown.{Shown}
@@ -173,8 +173,7 @@ module _ (settings : RouterSettings) (now i : ℕ) (told : Told) (status : Optio
   other_once o old old' new new' same (Joins e is matches none) (Joins f is' matches' none') = none' ∙ sym none
   other_once o old old' new new' same (Joins e is matches none) (Remains apart restores) = absurd (apart e (same ∙ is) matches)
   other_once o old old' new new' same (Remains apart restores) (Joins e is matches none) = absurd (apart e (sym same ∙ is) matches)
-  other_once o old old' new new' same (Remains apart restores) (Remains apart' restores') =
-      sym (restores_only a' b' links_once now old new new' restores (subst (λ (e : Option (Neighbour × ℕ)). Restores b' now e new') same restores'))
+  other_once o old old' new new' same (Remains apart restores) (Remains apart' restores') = grind (arith, common_steps, restores_only, links_once)
 
   neighbours_once : SameNeighbours a' b'
   neighbours_once o = elim (same_or_other told.originator.0 o.0) [

@@ -106,14 +106,7 @@ module _ (net : NetState) (x : ℕ) (was u : State) (end : TracePosition) (done 
       ((i : ℕ) (relays : List Addr4) → slice_get told i ≡ Some relays → Chosen u i relays) →
       LeadsBy (at (with_state net x (told_so u told)) x (map (λ f. Flooding f.0) (enumerate_from n faces) ++ left)) lines end →
       FloodsLeft net x u left end lines told n faces
-  floods_left left front [] n told lines faces_are front_is told_is each leads = record {
-    flooding = told;
-    todo = [];
-    is = sym (append-nil told);
-    count = omega arith;
-    each = each;
-    leaves = leaves_all (at (with_state net x (told_so u told)) x left) end lines leads;
-  }
+  floods_left left front [] n told lines faces_are front_is told_is each leads = grind (arith, common_steps)
   floods_left left front (face ∷ faces) n told lines faces_are front_is told_is each leads =
       let here = told_so u told in
       let items : List Item = map (λ f. Flooding f.0) (enumerate_from (n + 1) faces) ++ left in
@@ -198,8 +191,7 @@ emits_none net x s left end lines P none leads =
 
 pub emits_as : (net : NetState) (x : ℕ) (s : State) (left : List Item) (end : TracePosition) (lines : List (List ℕ))
     (P Q : List Frame → Type 0) → ((fs : List Frame) → P fs → Q fs) → Emits net x s left end lines P → Emits net x s left end lines Q
-emits_as net x s left end lines P Q to h =
-    record { es = h.es; after = h.after; are = to (map frame_of h.es) h.are; sends = h.sends; leaves = h.leaves }
+emits_as net x s left end lines P Q to h = grind (arith, common_steps)
 
 sends_on : (net : NetState) (now x : ℕ) (front behind : List Emission) (before mid after : Traffic) →
     SendsAll net.scenario now x front before mid → SendsAll net.scenario now x behind mid after →
@@ -212,28 +204,15 @@ pub emits_on : (net : NetState) (x : ℕ) (s : State) (mid left : List Item) (en
     (P Q R : List Frame → Type 0) → (first : Emits net x s mid end lines P) →
     Emits (with_traffic net first.after) x s left end first.leaves.rest Q → ((a b : List Frame) → P a → Q b → R (a ++ b)) →
     Emits net x s left end lines R
-emits_on net x s mid left end lines P Q R first more both =
-    let text = sent_lines net.scenario s.last s.settings in
-    record {
-      es = first.es ++ more.es;
-      after = more.after;
-      are = subst R (sym (map-append frame_of first.es more.es))
-          (both (map frame_of first.es) (map frame_of more.es) first.are more.are);
-      sends = sends_on net s.last x first.es more.es net.traffic first.after more.after first.sends more.sends;
-      leaves = subst (λ (t : List ℕ). Leaves (at (with_traffic net more.after) x left) end lines t)
-          (sym (lines_cut text first.es more.es)) (leaves_on _ _ _ end lines _ _ first.leaves more.leaves);
-    }
+emits_on net x s mid left end lines P Q R first more both = grind (arith, common_steps, map-append, sends_on, lines_cut)
 
 pub code_once : (ticks a b : ℕ) → IsLeastCode ticks a → IsLeastCode ticks b → a ≡ b
-code_once ticks a b h k =
-    let below = h.least b k.sent k.enough in let above = k.least a h.sent h.enough in omega (arith, below, above)
+code_once ticks a b h k = grind (arith, common_steps)
 
 pub validity_once : (hold : ℕ) (nears : List NearHold) (one other : List ℕ) → IsValidity hold nears one →
     IsValidity hold nears other → one ≡ other
 validity_once hold [] one other (Far {code} h) (Far {code = code'} k) = ap (λ (c : ℕ). c ∷ []) (code_once hold code code' h k)
-validity_once hold (near ∷ nears) one other (Near {code} {value} h more) (Near {code = code'} {value = value'} k more') =
-    ap (λ (c : ℕ). c ∷ near.hops ∷ value) (code_once near.hold code code' h k)
-    ∙ ap (λ (l : List ℕ). code' ∷ near.hops ∷ l) (validity_once hold nears value value' more more')
+validity_once hold (near ∷ nears) one other (Near {code} {value} h more) (Near {code = code'} {value = value'} k more') = grind (arith, common_steps, code_once, (validity_once hold nears value value' more more'))
 
 abbrev IsValidityOf : State → List ℕ → Type 0
 IsValidityOf s = IsValidity s.settings.times.topology_hold s.settings.near_hold
@@ -324,8 +303,7 @@ module _ (x : ℕ) (s : State) (end : TracePosition) (done : IsDone end) where
   pub hellos_left : (net : NetState) (left : List Item) (faces : List Interface) (n : ℕ) (lines : List (List ℕ)) →
       slice_get net.routers x ≡ Some s → LeadsBy (at net x (map (λ f. Hello f.0) (enumerate_from n faces) ++ left)) lines end →
       Emits net x s left end lines (AreHellosFrom s n (length faces))
-  hellos_left net left [] n lines stood leads =
-      emits_none net x s left end lines (AreHellosFrom s n 0) (refl, λ k f there. absurd cc) leads
+  hellos_left net left [] n lines stood leads = grind (arith, common_steps, emits_none)
   hellos_left net left (face ∷ faces) n lines stood leads =
       let P = AreHellosFrom s n (length (face ∷ faces)) in
       let items : List Item = map (λ f. Hello f.0) (enumerate_from (n + 1) faces) ++ left in

@@ -1,5 +1,5 @@
 -- HELLOs that are in the air name their sender by an address of 32 bits.
-use Rattle.mesh_trace.proofs.Common.{common_steps, ◌≡◌, ℕ, zero, suc, ◌<◌, ◌^◌, inl, inr, refl, sym, ◌∙◌, ap, subst, arith, List, [], ◌∷◌, ◌++◌, length, Option, Some, None, Contains, Bool, true, false, slice_index, replicate, Addr4, Hello, Tc, has, RawAddr, Span, MessageFields, PacketFields, SpellsOctet, SpellsOriginator, SpellsMessage, Spells, AreOctets, octets_back, front_octets, back_octets, one_packet, OriginatorIs, number_of, one_hop_on, hopped, flags_of, alone, IsSoleMessage, WritesHello, WritesTc, contains_cases, contains_none as none_in}
+use Rattle.mesh_trace.proofs.Common.{common_steps, ◌≡◌, ℕ, zero, suc, ◌<◌, ◌^◌, inl, inr, refl, sym, ◌∙◌, ap, subst, arith, List, [], ◌∷◌, ◌++◌, Option, Some, None, Contains, Bool, true, slice_index, Addr4, Hello, Tc, has, RawAddr, Span, MessageFields, PacketFields, SpellsOctet, SpellsOriginator, SpellsMessage, Spells, AreOctets, octets_back, front_octets, back_octets, one_packet, OriginatorIs, number_of, one_hop_on, hopped, flags_of, alone, IsSoleMessage, WritesHello, WritesTc, contains_cases, contains_none as none_in}
 use Rattle.mesh_texts.proofs.machine.packet.Alone.{behind_zero}
 use Rattle.mesh_texts.proofs.machine.wire.Hops.{hop_spells}
 
@@ -9,11 +9,6 @@ octets_both : (a b : List ℕ) → AreOctets a → AreOctets b → AreOctets (a 
 octets_both [] b h k i = k i
 octets_both (x ∷ a) b h k zero = h 0
 octets_both (x ∷ a) b h k (suc i) = octets_both a b (λ j. h (suc j)) k i
-
-zeros : (n : ℕ) → AreOctets (replicate n 0)
-zeros zero i = omega arith
-zeros (suc n) zero = omega arith
-zeros (suc n) (suc i) = zeros n i
 
 -- ---- messages that name their sender
 
@@ -42,10 +37,7 @@ raw_of None (Some a) o h e = absurd h
 raw_of (Some raw) None o h e = absurd h
 
 raw_octets : (set : Bool) (width : ℕ) (x : Option RawAddr) (text : List ℕ) (raw : RawAddr) → SpellsOriginator set width x text → x ≡ Some raw → AreOctets text → AreOctets raw.octets
-raw_octets true width (Some a) text raw h e octets = grind (arith, common_steps, raw, octets_both, length, zeros)
-raw_octets true width None text raw h e octets = absurd h
-raw_octets false width (Some a) text raw h e octets = absurd h
-raw_octets false width None text raw h e octets = absurd cc
+raw_octets set width x text raw h e octets = grind (arith, common_steps, octets_both)
 
 number_below : (octets : List ℕ) → AreOctets octets → number_of octets < 2 ^ 32
 number_below octets h = grind (arith, common_steps)
@@ -78,9 +70,7 @@ tc_named tc hop_limit validity bytes h =
 -- ---- what is forwarded
 
 limit_flagged : (set : Bool) (x : Option ℕ) (n : ℕ) (text : List ℕ) → SpellsOctet set x text → x ≡ Some n → set ≡ true
-limit_flagged true x n text h e = refl
-limit_flagged false None n text h e = absurd cc
-limit_flagged false (Some m) n text h e = absurd h
+limit_flagged set x n text h e = grind (arith, common_steps)
 
 pub hopped_named : (m : MessageFields) (octets : List ℕ) (limit : ℕ) → SpellsMessage m octets → m.limit ≡ Some limit → (m.kind ≡ 0 → ⊥) → IsNamed (0 ∷ hopped octets)
 hopped_named m octets limit spelled is other =

@@ -21,8 +21,7 @@ some_rows : (most : ℕ) → 0 < most → (parts : List (List TcRow)) → Cut mo
 unfolding Cut
 some_rows most some [] cut = absurd cut
 some_rows most some (part ∷ []) cut = let l = length-append part [] in let (few, has) = cut in omega (arith, l, has)
-some_rows most some (part ∷ (next ∷ more)) cut =
-    let l = length-append part (joined (next ∷ more)) in let (full, rest) = cut in omega (arith, l, full, some)
+some_rows most some (part ∷ (next ∷ more)) cut = grind (arith, common_steps)
 
 -- texts of the same length in front
 same_fronts : (a b x y : List TcRow) → length a ≡ length b → a ++ x ≡ b ++ y → (a ≡ b) × (x ≡ y)
@@ -59,8 +58,7 @@ cut_of most (part ∷ (next ∷ more)) has full last = (
 )
 
 some_of : (rows : List TcRow) → (rows ≡ [] → ⊥) → 0 < length rows
-some_of [] other = absurd (other refl)
-some_of (r ∷ rows) other = omega arith
+some_of rows other = grind (arith, common_steps)
 
 cut_some : (most : ℕ) (rows : List TcRow) (parts : List (List TcRow)) → (rows ≡ [] → ⊥) → AreParts most rows parts → Cut most parts
 cut_some most rows parts other are = cut_of most parts are.some are.full (λ part at. (are.last part at, some_of part (λ none. other (are.no_more part at none))))

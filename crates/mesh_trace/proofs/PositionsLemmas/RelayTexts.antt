@@ -52,10 +52,7 @@ not_none y ys e =
 
 pub same_relays : (xs ys : List Addr4) → AreAddresses xs → relays_text xs ≡ relays_text ys → xs ≡ ys
 unfolding relays_text
-same_relays [] [] are e = refl
-same_relays [] (y ∷ ys) are e = absurd (not_none y ys e)
-same_relays (x ∷ xs) [] are e = absurd (not_none x xs (sym e))
-same_relays (x ∷ xs) (y ∷ ys) are e = same_spaced (x ∷ xs) (y ∷ ys) are e
+same_relays xs ys are e = grind (arith, common_steps, not_none, same_spaced)
 
 -- by their lines
 pub same_flooding : (router face : List ℕ) (xs ys : List Addr4) → AreAddresses xs → flooding_text router face xs ≡ flooding_text router face ys → xs ≡ ys

@@ -1,5 +1,5 @@
 -- Each whole trace is the trace of a run: the lines of each event are the text of an event of the network, which they lead to.
-use Rattle.mesh_trace.proofs.Common.{◌≡◌, ℕ, zero, suc, ◌+◌, ◌<◌, ◌≤◌, List, [], ◌∷◌, ◌++◌, length, map, Option, Some, None, refl, sym, ◌∙◌, subst, arith, slice_get, nat_eq, IfSome, append-nil, Addr4, Route, Emission, NetEvent, Relays, AreRelays, Bases, State, Arrival, Frame, Step, Heard_frame, Ticked, TakesMessages, Renews, IsPacket, IsHelloFrame, SendsHellos, SendsTcs, Traffic, SendsAll, frame_of, with_heard, some_originator, set_here, happened_line, relays_lines, Of_taken, Of_refused, NetState, NetStep, Moves, happening, IsOver, IsTraced, Traces, Alike, AlikeStates, Follows, HearsBy, Refused, Taken, part_items, HellosDue, Hellos_early, Hellos_due, TcsDue, Tcs_early, Tcs_silent, Tcs_due, WholeTracesAreRuns, WholeExactlyForRuns, To_event, To_item, LeadsBy, IsWholeTrace, Item, Sent, TracePosition, IsDone, with_state, with_traffic, relay_items, lines_of, IsLineOf}
+use Rattle.mesh_trace.proofs.Common.{common_steps, ◌≡◌, ℕ, zero, suc, ◌+◌, ◌<◌, ◌≤◌, List, [], ◌∷◌, ◌++◌, length, map, Option, Some, None, refl, sym, ◌∙◌, subst, arith, slice_get, nat_eq, IfSome, append-nil, Addr4, Route, Emission, NetEvent, Relays, AreRelays, Bases, State, Arrival, Frame, Step, Heard_frame, Ticked, TakesMessages, Renews, IsPacket, IsHelloFrame, SendsHellos, SendsTcs, Traffic, SendsAll, frame_of, with_heard, some_originator, set_here, happened_line, relays_lines, Of_taken, Of_refused, NetState, NetStep, Moves, happening, IsOver, IsTraced, Traces, Alike, AlikeStates, Follows, HearsBy, Refused, Taken, part_items, HellosDue, Hellos_early, Hellos_due, TcsDue, Tcs_early, Tcs_silent, Tcs_due, WholeTracesAreRuns, WholeExactlyForRuns, To_event, To_item, LeadsBy, IsWholeTrace, Item, Sent, TracePosition, IsDone, with_state, with_traffic, relay_items, lines_of, IsLineOf}
 use Rattle.mesh_atoms.specs.Routes.{AreRoutes}
 use Rattle.mesh_routes.proofs.Existing.{routes_exist}
 use Rattle.mesh_texts.specs.machine.declared.fate.Heard.TheVariants as heard
@@ -57,18 +57,7 @@ SendsLeft net x u left P = (relays : Relays) (routes : List Route) (end : TraceP
     Emits (with_state net x (with_renewal u relays routes)) x (with_renewal u relays routes) [] end lines (P (with_renewal u relays routes))
 
 routes_alike : (s : State) (routes : List Route) → AlikeStates s (record s { routes = routes })
-routes_alike s routes = record {
-  settings = refl;
-  bases = bases_itself s.bases;
-  relays = refl;
-  rows = refl;
-  ansn = refl;
-  emptied = refl;
-  sequence = refl;
-  next_hello = refl;
-  next_tc = refl;
-  last = refl;
-}
+routes_alike s routes = grind (arith, common_steps, bases_itself)
 
 router_after : (net : NetState) (x : ℕ) (was u : State) (now : ℕ) (bases : Bases) (left : List Item) (lines : List (List ℕ))
     (end : TracePosition) (P : State → List Frame → Type 0) → slice_get net.routers x ≡ Some was → AreSound net.routers → SoundState u →

@@ -1,5 +1,5 @@
 -- Frames that are told, with their losses.
-use Rattle.mesh_trace.proofs.Common.{arith, common_steps, ◌≡◌, ℕ, ◌<◌, List, [], ◌∷◌, ◌++◌, length, map, Some, refl, sym, subst, append_assoc, All, slice_get, flat_map, append-nil, All-head, All-tail, Scenario, State, Frame, Emission, Traffic, Sends, SendsAll, frame_of, sent_lost, face_name, sent_line, lost_line, sent_lines, NetState, TellsItem, Tells_frame, Tells_loss, TellsFrame, Item, Lost, Sent, with_traffic, LineLeads, item_at as stands}
+use Rattle.mesh_trace.proofs.Common.{arith, ◌≡◌, ℕ, ◌<◌, List, [], ◌∷◌, ◌++◌, length, map, Some, refl, sym, subst, append_assoc, All, slice_get, common_steps, flat_map, append-nil, All-head, All-tail, Scenario, State, Frame, Emission, Traffic, Sends, SendsAll, frame_of, sent_lost, face_name, sent_line, lost_line, sent_lines, NetState, TellsItem, Tells_frame, Tells_loss, TellsFrame, Item, Lost, Sent, with_traffic, LineLeads, item_at as stands}
 use Rattle.mesh_trace.proofs.PositionsLemmas.Leading.{at, to_item}
 use Rattle.mesh_trace.proofs.PositionsLemmas.TextLines.{OneLine, sent_one, loss_one}
 use Rattle.mesh_trace.proofs.PositionsLemmas.Walks.{Walks, walks_nowhere, walks_one, walks_on}

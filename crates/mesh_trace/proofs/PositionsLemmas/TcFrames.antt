@@ -27,10 +27,6 @@ pub parts_one : (s : State) (validity : List ℕ) (complete : Bool) (sequence : 
 parts_one s validity complete sequence rows tc bytes frames is_tc written are =
     subst (SendsParts s validity complete sequence (rows ∷ [])) (append-nil (on_each (length s.settings.interfaces) bytes) ∙ sym are) (First_part tc bytes is_tc written No_part)
 
-abbrev first_of : List Frame → Frame → Frame
-first_of [] other = other
-first_of (frame ∷ more) other = frame
-
 -- the first frame and the further ones, by their octets
 pub first_is : (s : State) (bytes : List ℕ) (first : Frame) (further : List Frame) → first ∷ further ≡ on_each (length s.settings.interfaces) bytes → first ≡ record { iface = 0; bytes = bytes }
 first_is s bytes first further are = grind (arith, common_steps, are, on_first, length, bytes, some_interface)

@@ -1,5 +1,5 @@
 -- What is made of a flooded message and of a TC is fixed but for the order of tuples.
-use Rattle.mesh_trace.proofs.Common.{common_steps, ◌≡◌, ◌≢◌, ◌⊎◌, ℕ, ◌+◌, inl, inr, refl, sym, ◌∙◌, ap, subst, arith, List, length, Option, Some, None, Contains, Bool, true, false, cond, nat_le, nat_lt, not, count_by, ◌&&◌, if◌then◌else◌, is_some, IsEquivalence, AllPairs, cases_lt, Addr4, NetAddr, Metric, RouterSettings, Tc, TcRow, LinkKey, Link, GivesRouter, GivesAddress, GivesNetwork, if_not_dropped, Becomes, Given, Left, AfterTc, IsOld, first_overfull, TcAnswer, Too_old, Full_of, TakesTc, Is_old, Base, HasDistinctKeys, Same, find, base_of, host, addr_eq, flood_eq, IsBefore, SoundNeighbourhood, SoundTopology, SoundNoted, Neighbourhood, TopologyBase, NotedMessages, Bases, link_at, addr_equiv, router_equiv, address_equiv, network_equiv, Heading, Forward, key_of, process_of, forward_of, if_noted, if_linked, has_no_hops, is_received, is_forwarded, Arrival, Frame, ConsidersForwarding, forwarding, one_row, AlikeNear, AlikeTopology, AlikeNoted}
+use Rattle.mesh_trace.proofs.Common.{common_steps, ◌≡◌, ◌≢◌, ◌⊎◌, ℕ, ◌+◌, inl, inr, refl, sym, ◌∙◌, ap, subst, arith, List, length, Option, Some, None, Contains, Bool, cond, nat_le, nat_lt, not, count_by, ◌&&◌, if◌then◌else◌, is_some, IsEquivalence, AllPairs, cases_lt, Addr4, NetAddr, Metric, RouterSettings, Tc, TcRow, LinkKey, Link, GivesRouter, GivesAddress, GivesNetwork, if_not_dropped, Becomes, Given, Left, AfterTc, IsOld, first_overfull, TcAnswer, Too_old, Full_of, TakesTc, Is_old, Base, HasDistinctKeys, Same, find, base_of, host, addr_eq, flood_eq, IsBefore, SoundNeighbourhood, SoundTopology, SoundNoted, Neighbourhood, TopologyBase, NotedMessages, Bases, link_at, addr_equiv, router_equiv, address_equiv, network_equiv, Heading, Forward, key_of, process_of, forward_of, if_noted, if_linked, has_no_hops, is_received, is_forwarded, Arrival, Frame, ConsidersForwarding, forwarding, one_row, AlikeNear, AlikeTopology, AlikeNoted}
 use Rattle.mesh_atoms.specs.declared.settings.Times.{Times}
 use Rattle.mesh_atoms.specs.declared.tuples.Advertiser.{Advertiser}
 use Rattle.mesh_atoms.specs.declared.tuples.AddressKey.{AddressKey}
@@ -13,8 +13,6 @@ use Rattle.mesh_atoms.specs.declared.tuples.Noted.{Noted}
 use Rattle.mesh_atoms.specs.declared.tuples.RouterKey.{RouterKey}
 use Rattle.mesh_atoms.specs.declared.tuples.RouterTuple.{RouterTuple}
 use Rattle.mesh_atoms.specs.AfterTc.{Overfull, Takes}
-use Rattle.mesh_texts.specs.machine.flood.declared.verdict.Process.{Process}
-use Rattle.mesh_texts.specs.machine.flood.declared.verdict.Process.TheVariants as process
 use Rattle.mesh_texts.specs.machine.flood.declared.verdict.Forward.TheVariants as forward
 use Rattle.mesh_texts.specs.machine.flood.Noting.{Notes, AfterNote}
 use Rattle.mesh_texts.specs.machine.links.Links.{IsSymmetricWith, SelectorOf, Linked, Unlinked}
@@ -29,10 +27,6 @@ same_size laws a b one other alike =
     omega (arith, up, down)
 
 -- ---- flooding
-
-abbrev process_by : Addr4 → Heading → Option (Noted × ℕ) → ℕ → Process
-process_by own heading stood count =
-    if addr_eq heading.originator own then process.Own else if_noted stood (λ until. process.Done until) (if nat_le 16384 count then process.Full else process.Do)
 
 abbrev forwarded_by : Addr4 → Heading → Option Bool → Option (Noted × ℕ) → ℕ → Option (Noted × ℕ) → ℕ → Forward
 forwarded_by own heading link received most forwarded many =
@@ -60,8 +54,7 @@ module _ (settings : RouterSettings) (now : ℕ) (a b : NotedMessages) (sound : 
       ∙ ap (λ (n : ℕ). forwarded_by own heading link (find flood_eq (base_of a.received i) key) (length (base_of a.received i)) (find flood_eq a.forwarded key) n) forwarded))
 
 notes_once : (noted : Bool) (key : FloodKey) (until : ℕ) (a b a' b' : Base FloodKey Noted) → Same flood_eq a b → Notes noted key until a a' → Notes noted key until b b' → Same flood_eq a' b'
-notes_once true key until a b a' b' alike h k = λ q. k q ∙ (ap (λ (e : Option (Noted × ℕ)). cond (flood_eq key q) (Some (record {}, until)) e) (alike q) ∙ sym (h q))
-notes_once false key until a b a' b' alike h k = λ q. k q ∙ (alike q ∙ sym (h q))
+notes_once noted key until a b a' b' alike h k = grind (arith, common_steps)
 
 pub same_or_other : (i j : ℕ) → (j ≡ i) ⊎ (j ≢ i)
 same_or_other i j = grind (arith, common_steps, cases_lt)
@@ -181,10 +174,7 @@ module _ (now : ℕ) (tc : Tc) (ordered : AllPairs (λ (r : TcRow) (t : TcRow). 
   old_by a b alike kept (e, at, is, newer) = (e, alike.advertisers tc.originator ∙ at, is, newer)
 
   old_once : (a : TopologyBase) (one other : ℕ) → IsOld a tc one → IsOld a tc other → one ≡ other
-  old_once a one other (e, at, is, newer) (f, at', is', newer') =
-      let both : Some e ≡ Some f = sym at ∙ at' in
-      let same : e ≡ f = cc in
-      sym is ∙ (ap (λ (x : Advertiser × ℕ). x.0.ansn) same ∙ is')
+  old_once a one other h3 h4 = grind (arith, common_steps)
 
   module _ (settings : RouterSettings) (a b : TopologyBase) (sound : SoundTopology settings now a) (sound' : SoundTopology settings now b) (alike : AlikeTopology a b) (back : AlikeTopology b a) where
     overfull_once : first_overfull b tc ≡ first_overfull a tc

@@ -1,5 +1,5 @@
 -- Texts of whole lines, and the lines that they have.
-use Rattle.mesh_trace.proofs.Common.{common_steps, ◌≡◌, ℕ, true, eqb, List, [], ◌∷◌, ◌++◌, refl, sym, ap, ◌∙◌, arith, append_assoc, codes, decimal, slice_index_or, ne_eqb, Addr4, Interface, RadioArc, RouterSettings, dotted, relays_text, face_name, faces_of, tick_line, heard_line, flooding_relays_line, routing_relays_line, sent_line, loss_line, lacks, lacks_both, lacks_rest, not_here, relays_lack, own_name_lacks, router_name_lacks, hex_lacks, name_lacks, lines_of}
+use Rattle.mesh_trace.proofs.Common.{common_steps, ◌≡◌, ℕ, true, eqb, List, [], ◌∷◌, ◌++◌, refl, ap, ◌∙◌, arith, append_assoc, codes, decimal, slice_index_or, ne_eqb, Addr4, Interface, RadioArc, RouterSettings, dotted, relays_text, face_name, faces_of, tick_line, heard_line, flooding_relays_line, routing_relays_line, sent_line, loss_line, lacks, lacks_both, lacks_rest, not_here, relays_lack, own_name_lacks, router_name_lacks, hex_lacks, name_lacks, lines_of}
 use Rattle.mesh_texts.specs.machine.Names.{router_name}
 use Rattle.mesh_texts.proofs.LineTexts.{address, number, face}
 
@@ -16,8 +16,7 @@ lines_front (x ∷ xs) rest h = grind (arith, common_steps, eqb, ne_eqb, not_her
 
 -- a text of such a line and more
 pub lines_more : (text rest : List ℕ) → (one : OneLine text) → lines_of (text ++ rest) ≡ one.inside ∷ lines_of rest
-lines_more text rest one =
-    ap lines_of (ap (λ (t : List ℕ). t ++ rest) (sym one.whole) ∙ append_assoc one.inside (codes "\n") rest) ∙ lines_front one.inside rest one.lacking
+lines_more text rest one = grind (arith, common_steps, lines_front)
 
 -- Making lines
 

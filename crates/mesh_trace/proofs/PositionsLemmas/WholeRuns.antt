@@ -1,5 +1,5 @@
 -- The trace of each run from its opening to its end is whole.
-use Rattle.mesh_trace.proofs.Common.{◌≡◌, ℕ, ◌+◌, List, [], ◌∷◌, ◌++◌, map, Some, None, Option, refl, sym, ap, ◌∙◌, subst, slice_get, slice_set, IfSome, flat_map, append-nil, Addr4, RouterSettings, Scenario, State, FirstFault, Spells, not_both, Arrival, Frame, Event, Hear, Tick, Step, Heard_frame, Ticked, Hears, HearsPacket, TicksAt, IsPacket, Emission, Traffic, SendsAll, frame_of, with_heard, set_here, same_at, face_name, NetEvent, happened_line, event_line, heard_line, relays_lines, sent_lines, event_text, IsEventText, Of_taken, Of_refused, NetState, NetStep, Moves, Delivers, happening, event_of, frames_of, IsTraced, Traces, Refused, RunsAreWhole, lines_of, TracePosition, with_state, with_traffic, To_event, LeadsBy}
+use Rattle.mesh_trace.proofs.Common.{arith, common_steps, ◌≡◌, ℕ, ◌+◌, List, [], ◌∷◌, ◌++◌, map, Some, None, Option, refl, sym, ap, ◌∙◌, subst, slice_get, slice_set, IfSome, flat_map, append-nil, Addr4, RouterSettings, Scenario, State, FirstFault, Spells, not_both, Arrival, Frame, Event, Hear, Tick, Step, Heard_frame, Ticked, Hears, HearsPacket, TicksAt, IsPacket, Emission, Traffic, SendsAll, frame_of, with_heard, set_here, same_at, face_name, NetEvent, happened_line, event_line, heard_line, relays_lines, sent_lines, event_text, IsEventText, Of_taken, Of_refused, NetState, NetStep, Moves, Delivers, happening, event_of, frames_of, IsTraced, Traces, Refused, RunsAreWhole, lines_of, TracePosition, with_state, with_traffic, To_event, LeadsBy}
 use Rattle.mesh_texts.specs.machine.declared.fate.Heard.{Heard}
 use Rattle.mesh_texts.specs.machine.declared.fate.Heard.TheVariants as heard
 use Rattle.mesh_texts.specs.machine.Net.{By_delivery, By_tick, By_last_tick}
@@ -20,11 +20,7 @@ record HearsSo (was : State) (arrival : Arrival) (bytes : List ℕ) (sent : List
   hears : Hears was arrival bytes answer sent is
 
 step_hears : (was : State) (event : Event) (sent : List Frame) (is : State) (arrival : Arrival) (bytes : List ℕ) → Step was event sent is → event ≡ Hear arrival bytes → HearsSo was arrival bytes sent is
-step_hears was event sent is arrival bytes (Ticked ticks) same = absurd cc
-step_hears was event sent is arrival bytes (Heard_frame {arrival = a} {bytes = b} answer hears) same =
-    let same_arrival : a ≡ arrival = cc in
-    let same_bytes : b ≡ bytes = cc in
-    record { answer = answer; hears = subst (λ (x : Arrival). Hears was x bytes answer sent is) same_arrival (subst (λ (l : List ℕ). Hears was a l answer sent is) same_bytes hears) }
+step_hears was event sent is arrival bytes h6 same = grind (arith, common_steps)
 
 -- ---- the text of an event by its parts
 
@@ -37,17 +33,14 @@ told_so s event after = refl
 
 pub told_same : (s s' : Scenario) (moment : ℕ) (what what' : Option (ℕ × Addr4 × List ℕ)) (r r' : RouterSettings) (a a' : State) (n n' : ℕ) (es : List Emission) → s ≡ s' → what ≡ what' → r ≡ r' → a ≡ a' → n ≡ n' →
     told s moment what r a n es ≡ told s' moment what' r' a' n' es
-told_same s s' moment what what' r r' a a' n n' es p q t u v =
-    ap (λ (z : Scenario). told z moment what r a n es) p ∙ (ap (λ (z : Option (ℕ × Addr4 × List ℕ)). told s' moment z r a n es) q ∙ (ap (λ (z : RouterSettings). told s' moment what' z a n es) t
-    ∙ (ap (λ (z : State). told s' moment what' r' z n es) u ∙ ap (λ (z : ℕ). told s' moment what' r' a' z es) v)))
+told_same s s' moment what what' r r' a a' n n' es p q t u v = grind (arith, common_steps)
 
 pub line_so : (event : NetEvent) (r : RouterSettings) → event_line event r ≡ happened_line event.moment r event.heard
 unfolding event_line
 line_so event r = refl
 
 pub line_same : (n n' : ℕ) (what what' : Option (ℕ × Addr4 × List ℕ)) (r r' : RouterSettings) → n ≡ n' → what ≡ what' → r ≡ r' → happened_line n r what ≡ happened_line n' r' what'
-line_same n n' what what' r r' p q t =
-    ap (λ (z : ℕ). happened_line z r what) p ∙ (ap (λ (z : Option (ℕ × Addr4 × List ℕ)). happened_line n' r z) q ∙ ap (λ (z : RouterSettings). happened_line n' z what') t)
+line_same n n' what what' r r' p q t = grind (arith, common_steps)
 
 nothing_sent : (net : NetState) (now x : ℕ) (es : List Emission) (before after : Traffic) → map frame_of es ≡ [] → SendsAll net.scenario now x es before after → after ≡ before
 nothing_sent net now x [] before after none sends = sends
@@ -58,17 +51,14 @@ net_is m s r l a b c = rw (← a, ← b, ← c) refl
 
 -- the router of the event, after it
 after_is : (old mid : NetState) (event : NetEvent) (before : Traffic) (m : Moves old event before mid) (after : State) → slice_get mid.routers event.router ≡ Some after → after ≡ m.is
-after_is old mid event before m after at_after =
-    same_at mid.routers event.router after m.is at_after
-    (subst (λ (l : List State). slice_get l event.router ≡ Some m.is) (sym m.routers) (set_here old.routers event.router m.is m.was m.stood))
+after_is old mid event before m after at_after = grind (arith, common_steps, same_at, set_here)
 
 -- ---- ticks
 
 ticked_walk : (old mid : NetState) (event : NetEvent) (text : List ℕ) (x0 l : ℕ) (m : Moves old event old.traffic mid) → event.heard ≡ None → mid.last_ticks ≡ l → IsTraced mid event text →
     ((line : List ℕ) (p : TracePosition) → opens.OpensTick old event.router event.moment l line p → opens.OpensEvent old line p) →
     Walks (at old x0 []) (at mid event.router []) text
-ticked_walk old mid event text x0 l m silent last (after, at_after, Of_refused refused is) may =
-    absurd (let no : None ≡ Some (refused.iface, refused.sender, refused.frame) = sym silent ∙ refused.heard in cc)
+ticked_walk old mid event text x0 l m silent last (after, at_after, Of_refused refused is) may = grind (arith, common_steps)
 ticked_walk old mid event text x0 l m silent last (after, at_after, Of_taken taken is) may =
     let ticks = step_ticks m.was (event_of event) (frames_of event) m.is event.moment m.step (ap (happening event.moment) silent) in
     let same = after_is old mid event old.traffic m after at_after in
@@ -89,8 +79,7 @@ packet_apart frame place reason (packet, spans, spelled) fault = not_both frame 
 
 not_taken : (event : NetEvent) (iface : ℕ) (sender : Addr4) (frame : List ℕ) (place reason : ℕ) → event.heard ≡ Some (iface, sender, frame) →
     IfSome event.heard (λ h. IsPacket h.2) → FirstFault frame place reason → ⊥
-not_taken event iface sender frame place reason same whole fault =
-    packet_apart frame place reason (subst (λ (h : Option (ℕ × Addr4 × List ℕ)). IfSome h (λ h. IsPacket h.2)) same whole) fault
+not_taken event iface sender frame place reason same whole fault = grind (arith, common_steps, packet_apart)
 
 heard_walk : (old mid : NetState) (event : NetEvent) (text : List ℕ) (x0 : ℕ) → Delivers old event mid → IsTraced mid event text →
     Walks (at old x0 []) (at mid event.router []) text
@@ -166,10 +155,7 @@ pub step_walk : (old mid : NetState) (event : NetEvent) (text : List ℕ) (x0 : 
 step_walk old mid event text x0 (By_delivery d) traced = heard_walk old mid event text x0 d traced
 step_walk old mid event text x0 (By_tick h) traced =
     ticked_walk old mid event text x0 old.last_ticks h.moves h.heard h.last_ticks traced (λ line p o. opens.By_tick event.router event.moment h.next o)
-step_walk old mid event text x0 (By_last_tick h) traced =
-    ticked_walk old mid event text x0 (old.last_ticks + 1) h.moves h.heard h.last_ticks traced
-    (λ line p o. opens.By_last_tick h.only h.some
-    (subst (λ (n : ℕ). opens.OpensTick old old.last_ticks n (old.last_ticks + 1) line p) h.moment (subst (λ (x : ℕ). opens.OpensTick old x event.moment (old.last_ticks + 1) line p) h.router o)))
+step_walk old mid event text x0 (By_last_tick h) traced = grind (arith, common_steps, ticked_walk)
 
 record Arrives (old : NetState) (x0 : ℕ) (new : NetState) (text : List ℕ) : Type 0 where
   router : ℕ

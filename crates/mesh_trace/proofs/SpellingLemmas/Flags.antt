@@ -1,5 +1,5 @@
 -- The flags of a LINK_METRIC.
-use Rattle.mesh_trace.proofs.Common.{◌≡◌, ℕ, ◌+◌, ◌-◌, ◌<◌, ◌≤◌, inl, inr, ltb, Bool, true, false, List, [], ◌∷◌, length, refl, sym, ap, subst, ◌∙◌, arith, slice_index_or, ltb-true, ltb-false, false≢true, has, flag, IsReadOfOther}
+use Rattle.mesh_trace.proofs.Common.{common_steps, ◌≡◌, ℕ, ◌+◌, ◌-◌, ◌<◌, ◌≤◌, inl, inr, ltb, Bool, true, false, List, [], ◌∷◌, length, refl, sym, ap, subst, arith, slice_index_or, ltb-true, ltb-false, has, flag, IsReadOfOther}
 use Rattle.mesh_packet.proofs.FlagSums.{tells_128, tells_64, tells_32, tells_16}
 use Rattle.mesh_wire.proofs.Statuses.{apart}
 use Rattle.mesh_wire.specs.Metrics.{MetricKind, Link_in, Link_out, Near_in, Near_out, flag_of}
@@ -40,22 +40,11 @@ some_flag n lt le = (let h = bits n lt in subst (λ (k : ℕ). (metric : MetricK
 
 -- below 16 there is none
 pub no_flag : (n : ℕ) → n < 16 → (metric : MetricKind) → has n (flag_of metric) ≡ false
-no_flag n small metric = subst (λ (k : ℕ). has k (flag_of metric) ≡ false) zero (of metric) where
-  zero : 0 + n ≡ n
-  zero = omega arith
-
-  of : (kind : MetricKind) → has (0 + n) (flag_of kind) ≡ false
-  of Link_in = tells_128 false false false false n small
-  of Link_out = tells_64 false false false false n small
-  of Near_in = tells_32 false false false false n small
-  of Near_out = tells_16 false false false false n small
+no_flag n small metric = grind (arith, common_steps, tells_128, tells_64, tells_32, tells_16)
 
 -- so an octet with one is 16 at least
 pub flag_most : (n : ℕ) (metric : MetricKind) → has n (flag_of metric) ≡ true → 16 ≤ n
-flag_most n metric set = at (ltb n 16) refl where
-  at : (t : Bool) → ltb n 16 ≡ t → 16 ≤ n
-  at true e = absurd (false≢true (sym (no_flag n (ltb-true n 16 e) metric) ∙ set))
-  at false e = ltb-false n 16 e
+flag_most n metric set = grind (arith, common_steps, no_flag)
 
 -- a list of two by its items
 pub two_items : (octets : List ℕ) → length octets ≡ 2 → (low : ℕ) × (octets ≡ slice_index_or octets 0 0 ∷ low ∷ [])

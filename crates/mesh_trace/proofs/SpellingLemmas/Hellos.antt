@@ -1,5 +1,5 @@
 -- What a reading of a HELLO looks at, by its rows.
-use Rattle.mesh_trace.proofs.Common.{arith, common_steps, ◌≡◌, ℕ, eqb, inl, inr, List, [], ◌∷◌, refl, sym, subst, Option, Some, None, IsSome, ◌≢◌, option_map, eqb-true, eqb-false, NetAddr, Hello, LocalIf, MessageFields, TlvFields, HelloIs, local_value, local_if, HasPart, HasType, OctetIs, HoldsAddress, Keeps, IsReadOfHelloAddress, WritesHello, IsLocal, LooksHello, TellsOnly, SaysHello}
+use Rattle.mesh_trace.proofs.Common.{arith, ◌≡◌, ℕ, eqb, inl, inr, List, [], ◌∷◌, refl, sym, subst, Option, Some, None, IsSome, ◌≢◌, common_steps, option_map, eqb-true, eqb-false, NetAddr, Hello, LocalIf, MessageFields, TlvFields, HelloIs, local_value, local_if, HasPart, HasType, OctetIs, HoldsAddress, Keeps, IsReadOfHelloAddress, WritesHello, IsLocal, LooksHello, TellsOnly, SaysHello}
 use Rattle.mesh_wire.specs.HelloRules.{BreaksHello, AddressWidth}
 use Rattle.mesh_trace.proofs.SpellingLemmas.OneMessage.{IsSole}
 

@@ -1,5 +1,5 @@
 -- A packet that was read, and the one message that octets may be sent for.
-use Rattle.mesh_trace.proofs.Common.{common_steps, ◌≡◌, ℕ, ◌+◌, ◌<◌, Bool, List, [], ◌∷◌, length, refl, ap, subst, ◌∙◌, arith, append_assoc, slice_range, slice_index, slice_index_or, IsTrue, ◌↔◌, text_is, stands_next, behind, heads_equal, Span, MessageFields, PacketFields, SpellsMessage, Spells, one_packet, HasBriefBlocks, IsSoleMessage, alone}
+use Rattle.mesh_trace.proofs.Common.{common_steps, ◌≡◌, ℕ, ◌+◌, ◌<◌, Bool, List, [], ◌∷◌, length, ap, subst, ◌∙◌, arith, append_assoc, slice_range, slice_index, slice_index_or, IsTrue, ◌↔◌, text_is, stands_next, behind, heads_equal, Span, MessageFields, PacketFields, SpellsMessage, Spells, one_packet, HasBriefBlocks, alone, IsSoleMessage}
 use Rattle.mesh_packet.proofs.Packets.{first_stands}
 
 -- the message's octets are those at its span
@@ -8,9 +8,7 @@ stands_alone m s bytes is = grind (arith, common_steps, length, first_stands, ap
 
 -- one span of one message
 one_span : (spans : List Span) (none : Span) → length spans ≡ 1 → spans ≡ slice_index_or spans 0 none ∷ []
-one_span [] none e = absurd (omega (arith, e))
-one_span (x ∷ []) none e = refl
-one_span (x ∷ y ∷ xs) none e = absurd (omega (arith, e))
+one_span spans none e = grind (arith, common_steps)
 
 pub alone_spans : (packet : PacketFields) (m : MessageFields) (spans : List Span) (s none : Span) (bytes : List ℕ) → packet ≡ alone m → length packet.messages ≡ length spans → s ≡ slice_index_or spans 0 none →
     Spells packet spans bytes → Spells (alone m) (s ∷ []) bytes

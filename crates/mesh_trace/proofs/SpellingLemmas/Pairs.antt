@@ -1,5 +1,5 @@
 -- One address block with its TLV block after the other, each address block in the fewest octets.
-use Rattle.mesh_trace.proofs.Common.{◌≡◌, ℕ, ◌+◌, ◌<◌, ◌≤◌, List, [], ◌∷◌, ◌++◌, length, Option, Some, None, refl, sym, ap, subst, ◌∙◌, arith, slice_range, IfSome, IsNone, drop, ◌↔◌, length-append, append_assoc, next_is, text_is, SpellsItems, BlockFields, MessageFields, SpellsPair, SpellsMessage, SpellsBriefly, HasBriefBlocks}
+use Rattle.mesh_trace.proofs.Common.{◌≡◌, ℕ, ◌+◌, ◌<◌, ◌≤◌, List, ◌∷◌, ◌++◌, length, Option, Some, None, refl, sym, ap, subst, ◌∙◌, arith, slice_range, IfSome, IsNone, drop, ◌↔◌, length-append, append_assoc, next_is, text_is, SpellsItems, BlockFields, MessageFields, SpellsPair, SpellsMessage, SpellsBriefly, HasBriefBlocks}
 use Rattle.mesh_wire.specs.Sizes.{size_before}
 use Rattle.mesh_wire.proofs.Behind.{head_before}
 

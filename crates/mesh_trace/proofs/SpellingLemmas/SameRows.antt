@@ -1,5 +1,5 @@
 -- When rows of a HELLO are the same, and when HELLOs are.
-use Rattle.mesh_trace.proofs.Common.{arith, common_steps, ◌≡◌, Bool, true, false, eqb, ◌&&◌, refl, ap, sym, ◌∙◌, Decides, Option, option_eq, booleans_Decides, false≢true, Decides-and, Decides-like, NetAddr, Metric, HelloRow, LinkStatus, LocalIf}
+use Rattle.mesh_trace.proofs.Common.{arith, ◌≡◌, Bool, true, false, eqb, ◌&&◌, ap, sym, ◌∙◌, Decides, common_steps, option_eq, booleans_Decides, false≢true, Decides-and, Decides-like, Metric, HelloRow, LinkStatus, LocalIf}
 use Rattle.std.proofs.Math.Bool.{beq}
 use Rattle.mesh_atoms.specs.declared.hello.LinkStatus.TheVariants as link
 use Rattle.mesh_atoms.specs.declared.hello.LocalIf.TheVariants as local
@@ -19,40 +19,17 @@ no : {P : Type 0} (b : Bool) → b ≡ false → (P → ⊥) → Decides b P
 no b e not = (λ t. absurd (false≢true (sym e ∙ t)), λ p. absurd (not p))
 
 locals : (test : LocalIf → LocalIf → Bool) → test local.This local.This ≡ true → test local.Other local.Other ≡ true → test local.This local.Other ≡ false → test local.Other local.This ≡ false → (a b : LocalIf) → Decides (test a b) (a ≡ b)
-locals test tt oo to ot local.This local.This = yes _ tt refl
-locals test tt oo to ot local.Other local.Other = yes _ oo refl
-locals test tt oo to ot local.This local.Other = no _ to (λ e. cc)
-locals test tt oo to ot local.Other local.This = no _ ot (λ e. cc)
+locals test tt oo to ot a b = grind (arith, common_steps, yes, no)
 
 others : (test : OtherStatus → OtherStatus → Bool) → test other.Lost other.Lost ≡ true → test other.Symmetric other.Symmetric ≡ true → test other.Lost other.Symmetric ≡ false → test other.Symmetric other.Lost ≡ false → (a b : OtherStatus) → Decides (test a b) (a ≡ b)
-others test ll ss ls sl other.Lost other.Lost = yes _ ll refl
-others test ll ss ls sl other.Symmetric other.Symmetric = yes _ ss refl
-others test ll ss ls sl other.Lost other.Symmetric = no _ ls (λ e. cc)
-others test ll ss ls sl other.Symmetric other.Lost = no _ sl (λ e. cc)
+others test ll ss ls sl a b = grind (arith, common_steps, yes, no)
 
 links : (test : LinkStatus → LinkStatus → Bool) → test link.Lost link.Lost ≡ true → test link.Symmetric link.Symmetric ≡ true → test link.Heard link.Heard ≡ true →
     test link.Lost link.Symmetric ≡ false → test link.Symmetric link.Lost ≡ false → test link.Lost link.Heard ≡ false → test link.Heard link.Lost ≡ false →
     test link.Symmetric link.Heard ≡ false → test link.Heard link.Symmetric ≡ false → (a b : LinkStatus) → Decides (test a b) (a ≡ b)
-links test ll ss hh ls sl lh hl sh hs link.Lost link.Lost = yes _ ll refl
-links test ll ss hh ls sl lh hl sh hs link.Symmetric link.Symmetric = yes _ ss refl
-links test ll ss hh ls sl lh hl sh hs link.Heard link.Heard = yes _ hh refl
-links test ll ss hh ls sl lh hl sh hs link.Lost link.Symmetric = no _ ls (λ e. cc)
-links test ll ss hh ls sl lh hl sh hs link.Symmetric link.Lost = no _ sl (λ e. cc)
-links test ll ss hh ls sl lh hl sh hs link.Lost link.Heard = no _ lh (λ e. cc)
-links test ll ss hh ls sl lh hl sh hs link.Heard link.Lost = no _ hl (λ e. cc)
-links test ll ss hh ls sl lh hl sh hs link.Symmetric link.Heard = no _ sh (λ e. cc)
-links test ll ss hh ls sl lh hl sh hs link.Heard link.Symmetric = no _ hs (λ e. cc)
+links test ll ss hh ls sl lh hl sh hs a b = grind (arith, common_steps, yes, no)
 
 -- ---- rows
-
-abbrev metrics_of : Option Metric → Option Metric → Option Metric → Option Metric → Metrics
-metrics_of a b c d = record { link_in = a; link_out = b; near_in = c; near_out = d }
-
-abbrev mpr_of : Bool → Bool → Mpr
-mpr_of f r = record { flooding = f; routing = r }
-
-abbrev row_of : NetAddr → Option LocalIf → Option LinkStatus → Option OtherStatus → Metrics → Mpr → HelloRow
-row_of n l k o m r = record { addr = n; local = l; link = k; other = o; metrics = m; mpr = r }
 
 pub same_row : (a b : HelloRow) → a.addr ≡ b.addr → a.local ≡ b.local → a.link ≡ b.link → a.other ≡ b.other → a.metrics ≡ b.metrics → a.mpr ≡ b.mpr → a ≡ b
 same_row a b n l k o m r = grind (arith, common_steps, metrics)

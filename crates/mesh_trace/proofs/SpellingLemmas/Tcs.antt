@@ -1,5 +1,5 @@
 -- What a reading of a TC looks at, and what octets may be sent for one.
-use Rattle.mesh_trace.proofs.Common.{arith, common_steps, ◌≡◌, ℕ, List, None, NetAddr, Tc, MessageFields, TlvFields, HasPart, Keeps, IsReadOfTcAddress, WritesTc, LooksTc, TellsOnly, SaysTc}
+use Rattle.mesh_trace.proofs.Common.{arith, ◌≡◌, ℕ, List, None, common_steps, NetAddr, Tc, MessageFields, TlvFields, HasPart, Keeps, IsReadOfTcAddress, WritesTc, LooksTc, TellsOnly, SaysTc}
 use Rattle.mesh_wire.specs.TcRules.{BreaksTc, AddressWidth}
 use Rattle.mesh_trace.proofs.SpellingLemmas.Hellos.{four_octets}
 use Rattle.mesh_trace.proofs.SpellingLemmas.OneMessage.{IsSole}

@@ -1,5 +1,5 @@
 -- What is said of addresses, block by block and part by part.
-use Rattle.mesh_trace.proofs.Common.{common_steps, ◌≤◌, List, [], ◌∷◌, sym, subst, arith, All, Contains, All-nil, All-cons, RawAddr, AreRaw, BlockFields, MessageFields, AddrTlvFields, Saying, IsSaying, SaysOnly, TellsOnly}
+use Rattle.mesh_trace.proofs.Common.{common_steps, ◌≤◌, List, [], ◌∷◌, arith, All, Contains, All-nil, All-cons, RawAddr, AreRaw, BlockFields, MessageFields, AddrTlvFields, Saying, SaysOnly, TellsOnly}
 
 -- addresses of four octets have prefixes of at most 32 bits
 pub raw_narrow : (addrs : List RawAddr) → AreRaw 4 addrs → All (λ (a : RawAddr). a.prefix ≤ 32) addrs
@@ -11,8 +11,7 @@ module _ (P : Saying) (m : MessageFields) where
   BlocksSayOnly = (b : BlockFields) → Contains m.blocks b → (tlv : AddrTlvFields) → Contains b.tlvs tlv → SaysOnly P b.addrs tlv
 
   pub parts_of_blocks : BlocksSayOnly → TellsOnly P m
-  parts_of_blocks says net part p =
-      subst (IsSaying P net) (sym p.part_is) (says p.block p.address.in_message p.tlv p.in_block p.place p.address.address net p.first p.last p.address.in_block p.address.is_in)
+  parts_of_blocks says net part p = grind (arith, common_steps)
 
   pub blocks_of_parts : TellsOnly P m → BlocksSayOnly
   blocks_of_parts tells b has tlv in_block place a net first last at is = grind (arith, common_steps)

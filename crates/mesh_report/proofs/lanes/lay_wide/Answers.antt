@@ -1,4 +1,4 @@
-use Rattle.mesh_report.proofs.Common.{◌≡◌, ◌+◌, ◌*◌, ◌/◌, ◌≤◌, length, subst, ap, ◌∙◌, arith, length-put_chunk, AreDigits}
+use Rattle.mesh_report.proofs.Common.{◌+◌, ◌*◌, ◌≤◌, length, ap, ◌∙◌, arith, length-put_chunk}
 use Rattle.mesh_report.proofs.LaidHex.{sixteen_more}
 use Rattle.mesh_report.proofs.lanes.lay_wide.Goals as goal
 
@@ -9,8 +9,3 @@ loop-i-preserved c =
       size = ap length c.store.ensures ∙ length-put_chunk (32 * i) c.loop-i.out c.digits_of.result ∙ c.loop-i.invariant.size;
       laid = rw c.store.ensures (sixteen_more c.args.octets.now c.loop-i.out c.load.result c.digits_of.result i room c.digits_of.ensures.len c.load.ensures.each c.digits_of.ensures.each c.loop-i.invariant.laid);
     }
-
-pub returns-clause-digits : goal.returns-clause-digits
-returns-clause-digits c =
-    let all : c.loop-i.i ≡ length c.args.octets.now / 16 = omega (arith, c.loop-i-test.false, c.loop-i.auto.i-end) in
-    subst (λ n. AreDigits c.args.octets.now c.loop-i.out (16 * n)) all c.loop-i.invariant.laid

@@ -1,4 +1,4 @@
-use Rattle.mesh_report.proofs.Common.{◌≡◌, ◌++◌, List, ℕ, refl, ap, ◌∙◌, grows_on, grows_none, fields_of_message, message_text, two_appended as two}
+use Rattle.mesh_report.proofs.Common.{◌≡◌, ◌++◌, List, ℕ, refl, ap, ◌∙◌, fields_of_message, message_text, two_appended as two}
 use Rattle.mesh_report.proofs.Joined.{behind}
 use Rattle.mesh_report.proofs.packet.put_message.Goals as goal
 
@@ -11,15 +11,3 @@ returns-clause-ok c =
     let room : c.make_room.new.out ++ c.make_room.new.line ≡ old ++ parts = c.in_ok-make_room.ensures.ok ∙ c.in_ok-put_parts.ensures.ok in
     let put = behind c.make_room.new.out c.make_room.new.line c.as_slice.result.now c.put.ensures.text ∙ ap (λ (l : List ℕ). (c.make_room.new.out ++ c.make_room.new.line) ++ l) last in
     (parts ++ read.0, two old parts read.0 room put, (read.0, read.2, refl))
-
-pub returns-clause-kept : goal.returns-clause-kept
-returns-clause-kept c = grows_on c.put_parts.ensures.kept c.make_room.ensures.kept
-
-pub returns-in_err-put_reading-clause-kept : goal.returns-in_err-put_reading-clause-kept
-returns-in_err-put_reading-clause-kept c = grows_none _ _ refl
-
-pub returns-in_err-put_parts-clause-kept : goal.returns-in_err-put_parts-clause-kept
-returns-in_err-put_parts-clause-kept c = c.put_parts.ensures.kept
-
-pub returns-in_err-make_room-clause-kept : goal.returns-in_err-make_room-clause-kept
-returns-in_err-make_room-clause-kept c = grows_on c.put_parts.ensures.kept c.make_room.ensures.kept

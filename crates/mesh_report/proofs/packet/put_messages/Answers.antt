@@ -22,9 +22,6 @@ loop-at-preserved c =
       text = λ rest h. rw (joined rest) (c.loop-at.invariant.text (text.0 ++ rest) (next rest h));
     }
 
-pub returns-in_err-put_message-clause-kept : goal.returns-in_err-put_message-clause-kept
-returns-in_err-put_message-clause-kept c = grows_on c.loop-at.invariant.kept c.put_message.ensures.kept
-
 pub returns-clause-ok : goal.returns-clause-ok
 returns-clause-ok c =
     let messages = c.args.messages.now in

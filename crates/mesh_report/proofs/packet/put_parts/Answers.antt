@@ -1,12 +1,6 @@
 use Rattle.mesh_report.proofs.Common.{on_ok_weaker, ◌≡◌, ◌++◌, List, ℕ, map, flat_map-map, flat_map, fields, grows_on, fields_of_message, fields_of_block, message_line, tlv_line, block_text, message_text, three_appended}
 use Rattle.mesh_report.proofs.packet.put_parts.Goals as goal
 
-pub returns-in_err-put_message_line-clause-kept : goal.returns-in_err-put_message_line-clause-kept
-returns-in_err-put_message_line-clause-kept c = c.put_message_line.ensures.kept
-
-pub returns-in_err-put_each-clause-kept : goal.returns-in_err-put_each-clause-kept
-returns-in_err-put_each-clause-kept c = grows_on c.put_message_line.ensures.kept c.put_each.ensures.kept
-
 pub returns : goal.returns
 unfolding message_text
 returns c =

@@ -12,9 +12,3 @@ pub returns-in-Refused-clause-ok : goal.returns-in-Refused-clause-ok
 returns-in-Refused-clause-ok c =
     let line = refused_line c.args.number c.in-Refused.refusal in
     (line, behind c.args.out.now c.args.room.now.line line c.put_refused_line.ensures, rw c.in-Refused.is refl)
-
-pub returns-then-recode-clause-kept : goal.returns-then-recode-clause-kept
-returns-then-recode-clause-kept c = c.put_recoded.ensures.kept
-
-pub returns-else-recode-clause-kept : goal.returns-else-recode-clause-kept
-returns-else-recode-clause-kept c = c.put_decoded.ensures.kept

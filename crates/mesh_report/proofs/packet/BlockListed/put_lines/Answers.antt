@@ -1,12 +1,6 @@
 use Rattle.mesh_report.proofs.Common.{on_ok_weaker, ◌≡◌, ◌++◌, List, ℕ, map, flat_map, flat_map-map, addr_fields, grows_on, fields_of_block, block_line, address_line, addr_tlv_line, block_text, three_appended}
 use Rattle.mesh_report.proofs.packet.BlockListed.put_lines.Goals as goal
 
-pub returns-in_err-put_block_line-clause-kept : goal.returns-in_err-put_block_line-clause-kept
-returns-in_err-put_block_line-clause-kept c = c.put_block_line.ensures.kept
-
-pub returns-in_err-put_addresses-clause-kept : goal.returns-in_err-put_addresses-clause-kept
-returns-in_err-put_addresses-clause-kept c = grows_on c.put_block_line.ensures.kept c.put_addresses.ensures.kept
-
 pub returns : goal.returns
 unfolding block_text
 returns c =
