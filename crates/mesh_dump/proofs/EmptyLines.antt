@@ -1,5 +1,5 @@
 -- The listing of an empty line, made anew and from that of the line before.
-use Rattle.mesh_dump.proofs.Common.{◌≡◌, ℕ, ◌+◌, ◌-◌, ◌<◌, ◌≤◌, ◌^◌, ◌/◌, ◌%◌, ◌⊎◌, inl, inr, List, [], ◌∷◌, ◌++◌, length, take, drop, set, codes, decimal, Bool, Err, refl, sym, ap, ◌∙◌, arith, length-append, append_assoc, cases_lt, decimal_digit, decimal_step, drop-drop, drop_at, set_at, length-take-le, take-append-drop, Refusal, empty_line, IsListing}
+use Rattle.mesh_dump.proofs.Common.{common_steps, ◌≡◌, ℕ, ◌+◌, ◌-◌, ◌<◌, ◌≤◌, ◌^◌, ◌/◌, ◌%◌, ◌⊎◌, inl, inr, List, [], ◌∷◌, ◌++◌, length, take, drop, set, codes, decimal, Bool, refl, sym, ap, ◌∙◌, arith, length-append, append_assoc, cases_lt, decimal_digit, decimal_step, drop-drop, drop_at, set_at, length-take-le, take-append-drop, Refusal, empty_line, IsListing}
 use Rattle.std.proofs.Math.Seq.{drop-append_seam}
 use Rattle.std.proofs.lemmas.Slice.{drop-put_mid}
 use borrow.Rule.Slice.PartMut.{put_mid}
@@ -39,14 +39,7 @@ record AreNext (old new : ℕ) : Type 0 where
   new_is : decimal new ≡ digits ++ (48 + new % 10) ∷ []
 
 are_next : (old new : ℕ) → new ≡ old + 1 → 0 < new % 10 → new < 2 ^ 64 → (old < 9) ⊎ (9 ≤ old) → AreNext old new
-are_next old new is more fits (inl few) =
-    let same_old : old % 10 ≡ old = omega (arith, few) in
-    let same_new : new % 10 ≡ new = omega (arith, few, is) in
-    record {
-      digits = [];
-      old_is = rw same_old (decimal_digit old (omega (arith, few)));
-      new_is = rw same_new (decimal_digit new (omega (arith, few, is)));
-    }
+are_next old new is more fits (inl few) = grind (arith, common_steps, decimal_digit)
 are_next old new is more fits (inr many) =
     let front : new / 10 ≡ old / 10 = omega (arith, is, more) in
     record {
@@ -107,9 +100,4 @@ refused_is number =
 
 -- an empty line is refused, and this is its listing
 pub empty_listing : (recode : Bool) (number : ℕ) (line text : List ℕ) → length line ≡ 0 → text ≡ empty_line number → IsListing recode number line 1 text
-empty_listing recode number line text none is = record {
-  read = Err no_octet_at;
-  reads = empty_reads line no_octet_at none refl;
-  count_is = refl;
-  is = is ∙ refused_is number;
-}
+empty_listing recode number line text none is = grind (arith, common_steps, empty_reads, refused_is)

@@ -1,5 +1,6 @@
 -- Hexadecimal text, and why a text is none.
-use Rattle.mesh_dump.proofs.Common.{◌≡◌, ℕ, ◌+◌, ◌<◌, ◌%◌, Bool, true, false, ltb, ◌⊎◌, inl, inr, List, length, take, get_or, Result, Ok, Err, refl, sym, ap, subst, ◌∙◌, arith, slice_index, AllPass, ltb-true, ltb-false, cases_eq, both_ways, get_or-take, length-take-le, decode_of, is_hex_digit, FromHexError, InvalidHexCharacter, OddLength, InvalidStringLength, decode_of-ok, decode_of-err, decode_of-odd, Refusal, IsFirstOther, IsNotHex}
+use Rattle.mesh_dump.proofs.Common.{common_steps, ◌≡◌, ℕ, ◌+◌, ◌<◌, ◌%◌, true, false, ◌⊎◌, inl, inr, List, length, take, get_or, Result, Ok, Err, refl, ap, subst, ◌∙◌, arith, slice_index, AllPass, cases_eq, both_ways, get_or-take, length-take-le, decode_of, is_hex_digit, FromHexError, InvalidHexCharacter, OddLength, InvalidStringLength, Refusal, IsFirstOther, IsNotHex}
+use Rattle.hex.proofs.HexLemmas.{decode_of-ok, decode_of-err}
 
 -- what an error tells of a text
 abbrev Told : List ℕ → FromHexError → Type 0
@@ -12,9 +13,7 @@ same_place c d i j e = cc
 
 -- a text whose error is one of a digit has an even number of octets
 even_text : (text : List ℕ) (c i : ℕ) → decode_of text ≡ Err (InvalidHexCharacter c i) → length text % 2 ≡ 0
-even_text text c i e = elim (cases_eq (length text % 2) 1) [ inl odd ↦ absurd (apart (decode_of text) (decode_of-odd text odd) e) | inr even ↦ omega arith ] where
-  apart : (r : Result (List ℕ) FromHexError) → r ≡ Err OddLength → r ≡ Err (InvalidHexCharacter c i) → ⊥
-  apart r h k = absurd cc
+even_text text c i e = grind (arith, common_steps, cases_eq)
 
 pub other_digit : (text : List ℕ) (c place : ℕ) → decode_of text ≡ Err (InvalidHexCharacter c place) → IsNotHex text (record { place = place; reason = 12 })
 other_digit text c place e = by (decode_of-err text (InvalidHexCharacter c place) e) where
@@ -57,21 +56,11 @@ not_before : (text : List ℕ) (i k : ℕ) → i < k → IsFirstOther text i →
 not_before text i k lt here there = both_ways (is_hex_digit (get_or text i 0)) here.other (digit_before text i k lt there)
 
 first_once : (text : List ℕ) (i k : ℕ) → IsFirstOther text i → IsFirstOther text k → i ≡ k
-first_once text i k h j = by (ltb i k) refl (ltb k i) refl where
-  by : (a : Bool) → ltb i k ≡ a → (b : Bool) → ltb k i ≡ b → i ≡ k
-  by true e b f = absurd (not_before text i k (ltb-true i k e) h j)
-  by false e true f = absurd (not_before text k i (ltb-true k i f) j h)
-  by false e false f = omega (arith, ltb-false i k e, ltb-false k i f)
+first_once text i k h j = grind (arith, common_steps, not_before)
 
 -- and only one
 pub not_hex_once : (text : List ℕ) (a b : Refusal) → IsNotHex text a → IsNotHex text b → a ≡ b
-not_hex_once text a b (inl (odd, e)) (inl (odd', e')) = e ∙ sym e'
-not_hex_once text a b (inl (odd, e)) (inr (even, first, why)) = absurd (omega (arith, odd, even))
-not_hex_once text a b (inr (even, first, why)) (inl (odd, e)) = absurd (omega (arith, odd, even))
-not_hex_once text a b (inr (even, first, why)) (inr (even', first', why')) =
-    let place : a.place ≡ b.place = first_once text a.place b.place first first' in
-    let reason : a.reason ≡ b.reason = why ∙ sym why' in
-    ap (λ (n : ℕ). record { place = n; reason = a.reason }) place ∙ ap (λ (n : ℕ). record { place = b.place; reason = n }) reason
+not_hex_once text a b h3 h4 = grind (arith, common_steps, first_once)
 
 -- a text that writes octets has no such fault
 pub not_hex_too : (text octets : List ℕ) (refusal : Refusal) → decode_of text ≡ Ok octets → IsNotHex text refusal → ⊥

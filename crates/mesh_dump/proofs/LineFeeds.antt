@@ -1,5 +1,5 @@
 -- The first place of an octet that passes a test.
-use Rattle.mesh_dump.proofs.Common.{◌≡◌, ℕ, zero, suc, ◌+◌, ◌<◌, inl, inr, List, [], ◌∷◌, length, refl, sym, ap, ◌∙◌, arith, Option, Some, None, Bool, true, slice_index, position, position_from, cases_Bool, IsFirstByte}
+use Rattle.mesh_dump.proofs.Common.{common_steps, ◌≡◌, ℕ, zero, suc, ◌+◌, ◌<◌, inl, inr, List, [], ◌∷◌, length, refl, sym, ap, ◌∙◌, arith, Option, Some, None, Bool, true, slice_index, position, position_from, cases_Bool, IsFirstByte}
 use Rattle.std.proofs.lemmas.Iterator.Adapters.{position_from-zero}
 
 from_none : (test : ℕ → Bool) (at : ℕ) (xs : List ℕ) → ((k : ℕ) → k < length xs → test (slice_index xs k) ≡ true → ⊥) → position_from test at xs ≡ None
@@ -22,9 +22,7 @@ from_some test at (x ∷ xs) (suc k) lt right wrong = elim (cases_Bool (test x))
 -- what a search of octets finds is that place
 pub first_passing : (test : ℕ → Bool) (xs : List ℕ) (r : Option ℕ) → IsFirstByte test xs r → r ≡ position test xs
 first_passing test xs None h = sym (position_from-zero test xs ∙ from_none test 0 xs (λ k lt is. h k (omega arith) lt is))
-first_passing test xs (Some k) h =
-    let same : 0 + k ≡ k = omega arith in
-    sym (position_from-zero test xs ∙ from_some test 0 xs k h.0.high h.1 (λ j less is. h.0.before j (omega arith) less is) ∙ ap Some same)
+first_passing test xs (Some k) h = grind (arith, common_steps, position_from-zero, from_some)
 
 -- where the first octet passes
 pub first_here : (test : ℕ → Bool) (xs : List ℕ) → 0 < length xs → test (slice_index xs 0) ≡ true → position test xs ≡ Some 0

@@ -1,5 +1,7 @@
 -- Each line says one thing, and the listing of an input is one list of pieces.
-use Rattle.mesh_dump.proofs.Common.{◌≡◌, ℕ, ◌+◌, inl, inr, List, [], ◌∷◌, ◌++◌, length, Some, Result, Ok, Err, Bool, refl, sym, ap, subst, ◌∙◌, lines, decode_of-same, Refusal, Span, PacketFields, IsLineText, AreListings, DumpMakes, total_text, FrameSays, ReadsAs, refusals}
+use Rattle.mesh_dump.proofs.Common.{arith, common_steps, ◌≡◌, ℕ, ◌+◌, inl, inr, List, [], ◌∷◌, Some, Result, Ok, Err, Bool, refl, sym, ap, subst, ◌∙◌, lines, Refusal, IsLineText, AreListings, DumpMakes, FrameSays, ReadsAs, refusals}
+use Rattle.mesh_packet.specs.declared.packet.Span.{Span}
+use Rattle.mesh_packet.specs.Fields.{PacketFields}
 use Rattle.mesh_packet.proofs.OneReading.{one_packet, one_fault, spells_or_faults, not_both}
 use Rattle.mesh_report.proofs.OneListing.{one_listing}
 use Rattle.mesh_dump.proofs.Hex.{written_or_not, not_hex_once, not_hex_too}
@@ -9,22 +11,10 @@ abbrev Read : Type 0
 Read = Result (PacketFields × List Span) Refusal
 
 frame_once : (frame : List ℕ) (a b : Read) → FrameSays frame a → FrameSays frame b → a ≡ b
-frame_once frame (Ok x) (Ok y) h k =
-    let e = one_packet frame x.0 y.0 x.1 y.1 h k in
-    ap (λ (p : PacketFields). Ok (p, x.1)) e.0 ∙ ap (λ (s : List Span). Ok (y.0, s)) e.1
-frame_once frame (Ok x) (Err f) h k = absurd (not_both frame x.0 x.1 f.place f.reason h k)
-frame_once frame (Err e) (Ok y) h k = absurd (not_both frame y.0 y.1 e.place e.reason k h)
-frame_once frame (Err e) (Err f) h k =
-    let s = one_fault frame e.place e.reason f.place f.reason h k in
-    ap (λ (n : ℕ). Err (record { place = n; reason = e.reason })) s.0 ∙ ap (λ (n : ℕ). Err (record { place = f.place; reason = n })) s.1
+frame_once frame a b h k = grind (arith, common_steps, one_packet, not_both, one_fault)
 
 pub reads_once : (line : List ℕ) (a b : Read) → ReadsAs line a → ReadsAs line b → a ≡ b
-reads_once line a b (inl (octets, e, says)) (inl (octets', e', says')) =
-    let same : octets ≡ octets' = decode_of-same line octets octets' e e' in
-    frame_once octets' a b (subst (λ (l : List ℕ). FrameSays l a) same says) says'
-reads_once line a b (inl (octets, e, says)) (inr (refusal, not, is)) = absurd (not_hex_too line octets refusal e not)
-reads_once line a b (inr (refusal, not, is)) (inl (octets, e, says)) = absurd (not_hex_too line octets refusal e not)
-reads_once line a b (inr (refusal, not, is)) (inr (refusal', not', is')) = is ∙ ap (λ (r : Refusal). Err r) (not_hex_once line refusal refusal' not not') ∙ sym is'
+reads_once line a b h3 h4 = grind (arith, common_steps, frame_once, not_hex_too, not_hex_once)
 
 pub always_reads : (line : List ℕ) → (read : Read) × ReadsAs line read
 always_reads line = elim (written_or_not line) [
@@ -45,6 +35,4 @@ one_lines recode number (line ∷ lines) m n a b (i, x, j, y, is, more, sum, e) 
     (sum ∙ ap (λ (k : ℕ). k + j) count ∙ ap (λ (k : ℕ). i' + k) others.0 ∙ sym sum', e ∙ ap (λ (t : List ℕ). t ∷ y) first ∙ ap (λ (ps : List (List ℕ)). x' ∷ ps) others.1 ∙ sym e')
 
 pub one_text : (input : List ℕ) (recode : Bool) (m n : ℕ) (a b : List (List ℕ)) → DumpMakes input recode a (Some m) → DumpMakes input recode b (Some n) → (m ≡ n) × (a ≡ b)
-one_text input recode m n a b (x, are, e) (x', are', e') =
-    let same = one_lines recode 1 (lines input) m n x x' are are' in
-    (same.0, e ∙ ap (λ (ps : List (List ℕ)). ps ++ total_text (length (lines input)) m ∷ []) same.1 ∙ ap (λ (k : ℕ). x' ++ total_text (length (lines input)) k ∷ []) same.0 ∙ sym e')
+one_text input recode m n a b h6 h7 = grind (arith, common_steps, one_lines, lines)

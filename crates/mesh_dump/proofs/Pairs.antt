@@ -1,5 +1,5 @@
 -- Octets by pairs of hexadecimal digits.
-use Rattle.mesh_dump.proofs.Common.{◌≡◌, ℕ, suc, ◌+◌, ◌*◌, ◌<◌, ◌≤◌, inl, inr, List, [], ◌∷◌, length, refl, sym, ap, subst, ◌∙◌, arith, Option, Some, None, Ok, ◌%◌, Bool, true, false, ◌&&◌, ◌||◌, nat_le, nat_lt, nat_eq, slice_index, slice_set, bit_or, option_eq, option_map, cases_eq, le-ltb, leb-true, eqb-true, and_parts as both, get_or-set_same, get_or-set_other, le_or_l, le_or_r, hex_digit_value, decode_pairs, decode_of, decode_of-even, HIGH, LOW, IsPair, AreHexPairs, all_below, below}
+use Rattle.mesh_dump.proofs.Common.{common_steps, ◌≡◌, ℕ, suc, ◌+◌, ◌*◌, ◌<◌, ◌≤◌, inl, inr, List, [], ◌∷◌, length, refl, sym, subst, ◌∙◌, arith, Option, Some, None, Ok, ◌%◌, Bool, true, false, ◌&&◌, ◌||◌, nat_le, nat_lt, nat_eq, slice_index, slice_set, bit_or, option_eq, option_map, cases_eq, le-ltb, leb-true, and_parts as both, get_or-set_same, get_or-set_other, le_or_l, le_or_r, hex_digit_value, decode_pairs, HIGH, LOW, IsPair, AreHexPairs, all_below, below}
 
 -- ---- the tables
 
@@ -18,12 +18,10 @@ unfolding is_low
 all_low = refl
 
 pub one_of : (a b : Bool) → a ≡ false → (a || b) ≡ true → b ≡ true
-one_of true b e h = cc
-one_of false b e h = h
+one_of a b e h = grind (arith, common_steps)
 
 pub same_value : (o : Option ℕ) (n : ℕ) → option_eq nat_eq o (Some n) ≡ true → o ≡ Some n
-same_value None n e = cc
-same_value (Some m) n e = ap Some (eqb-true m n e)
+same_value o n e = grind (arith, common_steps)
 
 pub high_is : (x : ℕ) → x < 256 → slice_index HIGH x < 256 → option_map (λ (value : ℕ). value * 16) (hex_digit_value x) ≡ Some (slice_index HIGH x)
 unfolding is_high
@@ -57,9 +55,6 @@ pairs_decode at (c ∷ d ∷ text) (o ∷ octets) size are =
     subst (λ (n : ℕ). IsPair (slice_index text (2 * k)) (slice_index (c ∷ d ∷ text) n) (slice_index octets k)) second
     (subst (λ (n : ℕ). IsPair (slice_index (c ∷ d ∷ text) n) (slice_index (c ∷ d ∷ text) (2 * suc k + 1)) (slice_index octets k)) first (are (suc k) (omega (arith, lt)))) in
     rw (p.first_is, p.second_is, pairs_decode (at + 2) text octets (omega (arith, size)) rest, p.octet_is) refl
-
-pub text_decodes : (text octets : List ℕ) → length text ≡ 2 * length octets → decode_pairs 0 text ≡ Ok octets → decode_of text ≡ Ok octets
-text_decodes text octets size e = decode_of-even text (omega (arith, size)) ∙ e
 
 sixteenfold : (o : Option ℕ) (n : ℕ) → option_map (λ (value : ℕ). value * 16) o ≡ Some n → (value : ℕ) × (o ≡ Some value) × (n ≡ value * 16)
 sixteenfold None n e = cc

@@ -1,5 +1,5 @@
 -- Digits and their octets in the lanes of vectors.
-use Rattle.mesh_dump.proofs.Common.{◌≡◌, ℕ, ◌+◌, ◌-◌, ◌*◌, ◌%◌, ◌<◌, ◌≤◌, Bool, true, inl, inr, List, [], ◌∷◌, length, refl, ap, subst, ◌∙◌, arith, ◌||◌, ◌&&◌, nat_eq, nat_lt, slice_index, Some, bit_or, option_eq, put_chunk, cases_lt, le-ltb, eqb-true, and_parts as both, le_or_l, le_or_r, get_or-put_chunk_below, get_or-put_chunk_at, hex_digit_value, all_below, below, IsPair, AreHexPairs}
+use Rattle.mesh_dump.proofs.Common.{common_steps, ◌≡◌, ℕ, ◌+◌, ◌-◌, ◌*◌, ◌%◌, ◌<◌, ◌≤◌, Bool, true, inl, inr, List, [], ◌∷◌, length, refl, ap, subst, ◌∙◌, arith, ◌||◌, ◌&&◌, nat_eq, nat_lt, slice_index, Some, bit_or, option_eq, put_chunk, cases_lt, le-ltb, eqb-true, and_parts as both, le_or_l, le_or_r, get_or-put_chunk_below, get_or-put_chunk_at, hex_digit_value, all_below, below, IsPair, AreHexPairs}
 use Rattle.mesh_dump.specs.Values.{digit_value}
 use Rattle.mesh_dump.proofs.Pairs.{one_of, same_value}
 
@@ -55,10 +55,7 @@ abbrev pub AreLow : List ℕ → Type 0
 AreLow v = (k : ℕ) → k < 32 → slice_index v k < 16
 
 pub both_low : (a b c : List ℕ) → ((k : ℕ) → k < 32 → slice_index c k ≡ bit_or (slice_index a k) (slice_index b k)) → AreLow c → AreLow a × AreLow b
-both_low a b c is low = (
-  λ k lt. omega (arith, low k lt, is k lt, le_or_l (slice_index a k) (slice_index b k)),
-  λ k lt. omega (arith, low k lt, is k lt, le_or_r (slice_index a k) (slice_index b k)),
-)
+both_low a b c is low = grind (arith, common_steps, le_or_l, le_or_r)
 
 pub sixteen_more : (text octets loaded digits v : List ℕ) (i : ℕ) → 16 * i + 16 ≤ length octets → length v ≡ 16 → ((k : ℕ) → slice_index text k < 256)
     → ((k : ℕ) → k < 32 → slice_index loaded k ≡ slice_index text (32 * i + k)) → ((k : ℕ) → k < 32 → slice_index digits k ≡ digit_value (slice_index loaded k))

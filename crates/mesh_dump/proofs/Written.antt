@@ -1,5 +1,5 @@
 -- The listings of some first lines, of one line more, and of all with the line that counts.
-use Rattle.mesh_dump.proofs.Common.{◌≡◌, ℕ, ◌+◌, ◌≤◌, Bool, List, [], ◌∷◌, ◌++◌, length, take, Option, Some, None, Result, Ok, Err, refl, sym, ap, subst, ◌∙◌, arith, append_assoc, length-append, option_map, lines, append-nil, take_all, take_at, Refusal, Span, PacketFields, MakesOne, AreListings, AreFirstListings, LinesMake, DumpMakes, total_text, IsListing, refusals, LineCounts}
+use Rattle.mesh_dump.proofs.Common.{common_steps, ◌≡◌, ℕ, ◌+◌, ◌≤◌, Bool, List, [], ◌∷◌, ◌++◌, length, take, Option, Some, None, refl, sym, ap, subst, ◌∙◌, arith, append_assoc, length-append, option_map, lines, append-nil, take_all, take_at, MakesOne, AreListings, AreFirstListings, LinesMake, DumpMakes, total_text, IsListing, LineCounts}
 
 -- these are the listings of so many lines, after which the rest comes
 pub record Listed (recode : Bool) (all rest : List (List ℕ)) (number refused : ℕ) (pieces : List (List ℕ)) : Type 0 where
@@ -25,10 +25,7 @@ lines_more recode number at (l ∷ done) refused count line pieces last e (first
 )
 
 pub at_most_one : (recode : Bool) (number : ℕ) (line : List ℕ) (count : ℕ) (text : List ℕ) → IsListing recode number line count text → count ≤ 1
-at_most_one recode number line count text is = omega (arith, is.count_is, by is.read) where
-  by : (read : Result (PacketFields × List Span) Refusal) → refusals read ≤ 1
-  by (Ok x) = omega arith
-  by (Err e) = omega arith
+at_most_one recode number line count text is = grind (arith, common_steps)
 
 -- one line more
 pub one_more_line : (recode : Bool) (all rest more : List (List ℕ)) (number refused count : ℕ) (line : List ℕ) (pieces : List (List ℕ)) (last : List ℕ) → rest ≡ line ∷ more
@@ -65,6 +62,5 @@ lines_first input recode pieces None are = are
 pub total_more : (input : List ℕ) (recode : Bool) (counts : LineCounts) (listings : List (List ℕ)) → LinesMake input recode listings (Some counts)
     → (pieces : List (List ℕ)) (x : Option (Unit {0})) → MakesOne (λ (u : Unit {0}) (text : List ℕ). text ≡ total_text counts.lines counts.refused) pieces x
     → DumpMakes input recode (listings ++ pieces) (option_map (λ (u : Unit {0}). counts.refused) x)
-total_more input recode counts listings (all, are) pieces (Some u) (text, is, same) =
-    (listings, are, ap (λ (ps : List (List ℕ)). listings ++ ps) (same ∙ ap (λ (t : List ℕ). t ∷ []) (is ∙ ap (λ (n : ℕ). total_text n counts.refused) all)))
+total_more input recode counts listings (all, are) pieces (Some u) (text, is, same) = grind (arith, common_steps)
 total_more input recode counts listings made pieces None none = rw (none, append-nil) (lines_first input recode listings (Some counts) made)

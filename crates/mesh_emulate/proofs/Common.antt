@@ -1,7 +1,7 @@
 -- The names that the proofs of this crate cite of its definitions and of the crates below, passed on from one place.
 pub use Rattle.mesh_atoms.proofs.Options.{none_not, same_ok, same_some}
 pub use Rattle.mesh_atoms.specs.Radio.{IsRadioGraph, RadioLeast, Router}
-pub use Rattle.mesh_atoms.specs.Settings.{AreArcs, Ends, IsName, are_distinct, ends_eq, is_name_octet, joins_routers, name_eq}
+pub use Rattle.mesh_atoms.specs.Settings.{AreArcs, Ends, IsName, are_distinct, ends_eq, joins_routers, name_eq}
 pub use Rattle.mesh_atoms.specs.Settled.{At, Settled}
 pub use Rattle.mesh_atoms.specs.Sound.{Sound}
 pub use Rattle.mesh_atoms.specs.State.{State}
@@ -17,13 +17,12 @@ pub use Rattle.mesh_atoms.specs.declared.settings.Scenario.{Scenario}
 pub use Rattle.mesh_config.proofs.Builds.{all_have, each_more}
 pub use Rattle.mesh_config.proofs.Sounds.{counts_same, lists_same, sound_routers}
 pub use Rattle.mesh_config.specs.Checks.Compared.{all_addrs, attaches_no_host, ends_of, router_addrs, same_attached, same_interface, same_router, stated_duplicates, stated_identifiers, stated_lists}
-pub use Rattle.mesh_config.specs.Keys.Faults.{FailsAt, Fault, IfSettingRefused, fault, first, listed}
+pub use Rattle.mesh_config.specs.Keys.Faults.{FailsAt, IfSettingRefused, fault, first, listed}
 pub use Rattle.mesh_config.specs.Senders.{AddressLists, HaveAllQualities, HaveAllSenders, addr_lists, with_steps}
 pub use Rattle.mesh_config.specs.Settings.{RouterSays, refusals}
-pub use Rattle.mesh_config.specs.Stated.Router.{ArePlainFields, InterfaceFields, name, stated_interface_fields}
+pub use Rattle.mesh_config.specs.Stated.Router.{ArePlainFields, name, stated_interface_fields}
 pub use Rattle.mesh_config.specs.declared.keys.fault.ConfigFault.{ConfigFault}
 pub use Rattle.mesh_config.specs.declared.stated.stated.StatedRouter.{StatedRouter}
-pub use Rattle.mesh_data.specs.Text.{end_name, hop_end, hop_line, hop_start, interface_in, interface_name, text_of, trip_end, trip_start}
 pub use Rattle.mesh_emulate.specs.Emulation.{AreEventTexts, But_the_probe, But_the_trip, By_name, By_settings, Emulation, EmulationMakes, IsEndSummary, IsFirstPart, IsPacketSent, IsProbed, IsRefused, Of_first_events, Of_nothing, States, TellsEvents, TellsWanted, piece_if, without_both}
 pub use Rattle.mesh_emulate.specs.Laws.{EmulatedProbesSendOnce, PrintsLeastRoutes, PrintsNextHops, ProbesReachJoined, ProbesTellAll, ReachesJoined, RunsMachines, TellsAllReached, TellsSettled, TripsAreOnly, TripsNeverStray, TripsReachNetworks, TripsReachRouters, probing, reached_counts, sending}
 pub use Rattle.mesh_emulate.specs.Making.Made.{AreRadioRoutes, IsEndText, IsMadeText, MadeEmulation, MadeNetworksRunMachines, MadeNetworksTellSettled, Reached, TellsLeastRoutes}
@@ -61,8 +60,9 @@ pub use Rattle.mesh_texts.specs.Runs.{IsRunText, IsTrace, IsTraced, TellsWhether
 pub use Rattle.mesh_texts.specs.machine.Names.{router_name}
 pub use Rattle.mesh_texts.specs.machine.Net.{NetState, NetStep}
 pub use Rattle.mesh_texts.specs.machine.NetRun.{IsOfPackets, IsOpeningNet, IsOver, NetRun}
-pub use Rattle.std.proofs.Common.{All, Bool, Contains, Err, IsSome, List, None, Ok, OnOk, Option, Result, Some, [], ap, append_assoc, arith, codes, decimal, false, filter, get_or, inl, inr, length, length-append, length-set, length-take, ltb, map, max, nat_eq, nat_le, nat_lt, not, refl, slice_get, slice_index, subst, suc, sym, take, true, zero, ℕ, ◌%◌, ◌&&◌, ◌*◌, ◌++◌, ◌+◌, ◌-◌, ◌/◌, ◌<◌, ◌^◌, ◌↔◌, ◌∙◌, ◌∷◌, ◌≡◌, ◌≢◌, ◌≤◌}
-pub use Rattle.std.proofs.lemmas.Bool.{and_from, and_left, and_parts, and_right, cases_Bool, cases_lt, eq-eqb, eqb-false, eqb-true, le-leb, ltb-false, ltb-true, ne_eqb, not-true, not_from_false, or_from, or_parts, or_right, true≢false}
+pub use Rattle.std.proofs.Common.{All, Bool, Contains, Err, IsSome, List, None, Ok, OnOk, Option, Result, Some, [], ap, append_assoc, arith, codes, decimal, false, filter, get_or, inl, inr, length, length-append, length-take, ltb, map, max, nat_eq, nat_lt, not, refl, slice_get, slice_index, subst, suc, sym, take, true, zero, ℕ, ◌%◌, ◌&&◌, ◌*◌, ◌++◌, ◌+◌, ◌-◌, ◌/◌, ◌<◌, ◌^◌, ◌↔◌, ◌∙◌, ◌∷◌, ◌≡◌, ◌≢◌, ◌≤◌}
+pub use Rattle.std.proofs.lemmas.Bool.{and_from, and_left, and_parts, and_right, cases_Bool, cases_lt, eq-eqb, eqb-false, eqb-true, ltb-false, ltb-true, ne_eqb, not-true, not_from_false, or_from, or_parts, true≢false}
+pub use Rattle.std.proofs.lemmas.Grind.{common_steps, flat_map-append}
 pub use Rattle.std.proofs.lemmas.List.{append-nil, append_cancel_left, flat_map_more, get_or-map, length-map, map-append, map-id, map_more, take_all, take_more}
 pub use Rattle.std.proofs.lemmas.List.Elements.{All-append, All-from_recursion, All-push, All-weaker, Contains-append_cases, Contains-append_left, Contains-append_right, Contains-get_or, recursion_from_All}
 pub use Rattle.std.proofs.lemmas.List.Folds.{concat-append, flat_map-map, list_any-append}

@@ -1,6 +1,5 @@
 -- The pieces of an emulation, from the pieces of its parts.
-use Rattle.mesh_emulate.proofs.Common.{◌≡◌, ℕ, Bool, List, [], ◌∷◌, ◌++◌, Option, Some, None, Result, Err, refl, sym, ap, ◌∙◌, subst, append_assoc, concat, IsSome, append-nil, Addr4, State, text_of, Stop, IsPacketSent, IsProbed, TellsWanted, piece_if, TellsEvents, IsEndSummary, Emulation, IsRefused, without_both, IsFirstPart, Of_nothing, Of_first_events, But_the_trip, But_the_probe, EmulationMakes, In_first, In_next, MakesWanted, RunWithPieces, EventsMake, IsTripText, EndMakes, WholeRunMakes, IsProbedText, ErrandMakes, Unopened, Opened, MakesOne, PutsPieces, WantedPacket, Wants, IsNamed, Agree, Departs, Departure, NetState, IsOpeningNet, IfSettingRefused, ConfigFault}
-use Rattle.mesh_data.specs.Trips.{IsTrip}
+use Rattle.mesh_emulate.proofs.Common.{arith, common_steps, ◌≡◌, ℕ, Bool, List, [], ◌∷◌, ◌++◌, Option, Some, None, Result, Err, refl, sym, ap, ◌∙◌, subst, append_assoc, IsSome, concat, append-nil, State, Stop, IsPacketSent, IsProbed, TellsWanted, piece_if, TellsEvents, IsEndSummary, Emulation, IsRefused, without_both, IsFirstPart, Of_nothing, Of_first_events, But_the_trip, But_the_probe, EmulationMakes, In_first, In_next, MakesWanted, RunWithPieces, EventsMake, IsTripText, EndMakes, WholeRunMakes, IsProbedText, ErrandMakes, Unopened, Opened, MakesOne, PutsPieces, WantedPacket, Wants, IsNamed, Agree, Departs, Departure, NetState, IsOpeningNet, IfSettingRefused, ConfigFault}
 use Rattle.mesh_io.specs.declared.stop.Stop.TheVariants as stop
 use Rattle.mesh_emulate.specs.Prepared.{IsPrepared, IsUnbegun}
 use Rattle.mesh_emulate.specs.declared.emulation.EmulateFault.{EmulateFault}
@@ -25,18 +24,14 @@ unbegun_refused input wants (faults.Memory a) ends is refused number key e = let
 
 pub unbegun_written : (fault : ConfigFault) (ends : EmulateFault) → IsUnbegun fault ends →
     ◌≡◌ {A = Result (Unit {0}) EmulateFault} (Err ends) (Err (Stopped stop.Write)) → ⊥
-unbegun_written (faults.Refused n k) ends is e = cc
-unbegun_written (faults.Memory a) ends is e = cc
+unbegun_written fault ends is e = grind (arith, common_steps)
 
 -- From numbers to names
 
 -- a text is wanted, and no piece is there yet
 unmade : {A B : Type 0} (R : A → B → Type 0) (IsText : B → List ℕ → Type 0) (x : Option A) (y : Option B) (pieces : List (List ℕ)) → Agree R x y →
     MakesWanted IsText y pieces None → IsSome x × (pieces ≡ [])
-unmade R IsText (Some a) (Some b) pieces is none = (refl, none)
-unmade R IsText None None pieces is made = absurd made
-unmade R IsText None (Some b) pieces is made = absurd is
-unmade R IsText (Some a) None pieces is made = absurd is
+unmade R IsText x y pieces is none = grind (arith, common_steps)
 
 -- the text that is wanted by number is wanted by name
 made_wanted : {A B : Type 0} (R : A → B → Type 0) (IsText : B → List ℕ → Type 0) (IsText' : A → List ℕ → Type 0) (x : Option A) (y : Option B) (pieces : List (List ℕ)) →
@@ -55,18 +50,11 @@ joined pieces first next events end one trips trip probe summary a b c d e f = r
 module _ (input : List ℕ) (wants : Wants) (p : Prepared) (ready : IsPrepared input wants p) where
   trip_named : (states : List State) (packet : WantedPacket) (departure : Departure) (text : List ℕ) → Departs p.scenario packet departure →
       IsTripText p.scenario states departure text → IsPacketSent p.scenario states packet text
-  trip_named states packet departure text departs (trip, is, text_is) = record {
-    from = departure.from;
-    named = departs.0;
-    trip = trip;
-    is_trip = subst (λ (a : Addr4). IsTrip p.scenario states departure.from a trip) departs.1 is;
-    is_text = text_is ∙ ap (λ (a : Addr4). text_of p.scenario departure.from a trip) departs.1;
-  }
+  trip_named states packet departure text departs h5 = grind (arith, common_steps)
 
   probe_named : (states : List State) (name : List ℕ) (origin : ℕ) (text : List ℕ) → IsNamed p.scenario name origin → IsProbedText p.scenario states origin text →
       IsProbed p.scenario states name text
-  probe_named states name origin text is (probe, is_probe, text_is) =
-      record { origin = origin; named = is; probe = probe; is_probe = is_probe; is_text = text_is }
+  probe_named states name origin text is h5 = grind (arith, common_steps)
 
   module _ (opening : NetState) (opens : IsOpeningNet p.scenario opening) where
     -- some first events

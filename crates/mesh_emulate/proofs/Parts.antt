@@ -1,5 +1,5 @@
 -- A run from its parts, before its first event and at its end.
-use Rattle.mesh_emulate.proofs.Common.{◌≡◌, Bool, true, false, List, [], ℕ, Some, refl, Scenario, NetState, IsOpeningNet, IsOver, WholeRun, RunWithPieces, EventsMake, EndMakes, WholeRunMakes}
+use Rattle.mesh_emulate.proofs.Common.{arith, common_steps, ◌≡◌, Bool, List, [], ℕ, Some, refl, Scenario, NetState, IsOpeningNet, IsOver, WholeRun, RunWithPieces, EventsMake, EndMakes, WholeRunMakes}
 use Rattle.mesh_emulate.specs.declared.wanted.Errand.{Errand}
 use Rattle.mesh_emulate.proofs.Putting.{both_made}
 
@@ -18,5 +18,4 @@ run_over s e opening final pieces opens made =
 
 -- before the first event
 pub told_untold : (trace : Bool) (net : NetState) → RunWithPieces trace net net []
-told_untold true net = record { events = []; runs = refl; are_told = (refl, refl) }
-told_untold false net = record { events = []; runs = refl; are_told = refl }
+told_untold trace net = grind (arith, common_steps)

@@ -1,6 +1,5 @@
 -- Texts of lines that are neither headings nor routes, nor `settled yes`, and the parts of such lines.
-use Rattle.mesh_emulate.proofs.Common.{◌≡◌, ℕ, true, false, ltb, List, [], ◌∷◌, ◌++◌, length, get_or, nat_eq, codes, sym, ap, ◌∙◌, arith, AllByRecursion as Each, flat_map, All-append, Scenario, router_name, IsLine, IsPlain, ArePlain, lacks, lacks_both, begins_otherwise, router_name_lacks}
-use Rattle.std.proofs.lemmas.Grind.{flat_map-append}
+use Rattle.mesh_emulate.proofs.Common.{◌≡◌, ℕ, true, false, ltb, List, [], ◌∷◌, ◌++◌, length, get_or, nat_eq, codes, sym, ap, ◌∙◌, arith, AllByRecursion as Each, flat_map, All-append, Scenario, router_name, IsLine, IsPlain, ArePlain, lacks, lacks_both, begins_otherwise, router_name_lacks, flat_map-append}
 
 -- Parts without a line feed
 

@@ -1,7 +1,6 @@
 -- What is known before the first event, from its parts.
-use Rattle.mesh_emulate.proofs.Common.{◌≡◌, refl, ◌<◌, ℕ, true, false, List, length, get_or, Option, Some, None, sym, ap, ◌∙◌, subst, codes, bytes_decides, slice_get_read, RouterSettings, Scenario, name_eq, same_some, Departure, States, IsRefused, By_name, WantedPacket, Wants, HasName, IsNamed, Agree, Departs, IsUnknownName, NamesUnknown, NamesKnown, start_of, FirstUnknown, Of_probe, Fault, fault, FailsAt, IfSettingRefused, ConfigFault}
+use Rattle.mesh_emulate.proofs.Common.{arith, common_steps, ◌≡◌, refl, ◌<◌, ℕ, true, false, List, length, get_or, Option, Some, None, sym, ap, ◌∙◌, subst, codes, bytes_decides, slice_get_read, RouterSettings, Scenario, name_eq, same_some, Departure, States, IsRefused, By_name, WantedPacket, Wants, HasName, IsNamed, Agree, Departs, IsUnknownName, NamesUnknown, NamesKnown, start_of, FirstUnknown, Of_probe, fault, FailsAt, IfSettingRefused, ConfigFault}
 use Rattle.mesh_emulate.proofs.Names.{unknown_as}
-use Rattle.mesh_config.specs.declared.keys.fault.ConfigFault.TheVariants as faults
 
 -- What is wanted, by numbers
 
@@ -17,20 +16,12 @@ start_known s (Some packet) None is name e = absurd is
 -- Refusals
 
 refused_by : (P Q : ℕ → List ℕ → Type 0) → ((number : ℕ) (key : List ℕ) → P number key → Q number key) → (e : ConfigFault) → IfSettingRefused P e → IfSettingRefused Q e
-refused_by P Q by (faults.Refused number key) is = by number key is
-refused_by P Q by (faults.Memory a) is = tt
+refused_by P Q by e is = grind (arith, common_steps)
 
 -- no router has the name
 pub is_unknown : (s : Scenario) (name option : List ℕ) (e : ConfigFault) → ((x : ℕ) → IsNamed s name x → ⊥) → FailsAt e (Some (fault 45 option)) →
     IfSettingRefused (IsUnknownName s name option) e
-is_unknown s name option (faults.Refused number key) none is = record {
-  none = none;
-  is_number = ap (λ (f : Fault). f.number) same;
-  is_key = ap (λ (f : Fault). f.key) same;
-} where
-  same : fault number key ≡ fault 45 option
-  same = cc
-is_unknown s name option (faults.Memory a) none is = tt
+is_unknown s name option e none is = grind (arith, common_steps)
 
 pub probe_refused : (s : Scenario) (wants : Wants) (e : ConfigFault) → NamesKnown s (start_of wants.send) → IfSettingRefused (NamesUnknown s wants.probe (codes "probe")) e → IfSettingRefused (FirstUnknown s wants) e
 probe_refused s wants e known is = refused_by (NamesUnknown s wants.probe (codes "probe")) (FirstUnknown s wants) (λ number key u. Of_probe known u) e is

@@ -1,5 +1,5 @@
 -- The lines of a probe are neither headings nor routes, nor `settled yes`.
-use Rattle.mesh_emulate.proofs.Common.{◌≡◌, ℕ, true, List, [], ◌∷◌, ◌++◌, length, map, Option, Some, None, not, refl, sym, ap, ◌∙◌, subst, append_assoc, codes, decimal, filter, flat_map, append-nil, All-from_recursion, flat_map-map, Scenario, State, IsProbed, TellsWanted, router_name, Coverage, Probe, NoNumber, Done, is_reached, probe_start, probe_counts, probe_end, unreached_line, IsLine, IsPlain, ArePlain, lacks, each_map, line_end, line_after, number, nothing_plain}
+use Rattle.mesh_emulate.proofs.Common.{arith, common_steps, ◌≡◌, ℕ, true, List, [], ◌∷◌, ◌++◌, length, map, Option, not, refl, sym, ap, ◌∙◌, append_assoc, codes, decimal, filter, flat_map, append-nil, All-from_recursion, flat_map-map, Scenario, State, IsProbed, TellsWanted, router_name, Coverage, Probe, NoNumber, Done, is_reached, probe_start, probe_counts, probe_end, unreached_line, IsLine, IsPlain, ArePlain, lacks, each_map, line_end, line_after, number, nothing_plain}
 use Rattle.mesh_emulate.proofs.PlainLines.{router_lacks, behind, behind_lacks, plain_line}
 
 start_lacks : (s : Scenario) (origin : ℕ) → lacks 10 (probe_start s origin) ≡ true
@@ -45,7 +45,4 @@ text_is_plain s origin peers (Done c) =
     }
 
 pub probe_is_plain : (s : Scenario) (states : List State) (probe : Option (List ℕ)) (text : List ℕ) → TellsWanted (IsProbed s states) probe text → ArePlain text
-probe_is_plain s states None text none = nothing_plain text none
-probe_is_plain s states (Some name) text told =
-    let (peers, are, is) = told.is_text in
-    subst ArePlain (sym is) (text_is_plain s told.origin peers told.probe)
+probe_is_plain s states probe text none = grind (arith, common_steps, nothing_plain, text_is_plain)

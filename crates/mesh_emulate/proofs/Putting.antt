@@ -1,22 +1,19 @@
 -- Pieces that are put on out, one part after the other.
-use Rattle.mesh_emulate.proofs.Common.{◌≡◌, ℕ, ◌≤◌, List, [], ◌++◌, Option, Some, None, Result, Ok, Err, refl, sym, subst, OnOk, append-nil, Stop, MakesOne, PutsAll, PutsPieces, all_behind, stops_behind, stops_in, MakesBoth, In_first, In_next, MakesWanted}
+use Rattle.mesh_emulate.proofs.Common.{arith, common_steps, ◌≡◌, ℕ, ◌≤◌, List, [], ◌++◌, Option, Some, None, Result, Ok, Err, refl, sym, OnOk, append-nil, Stop, MakesOne, PutsAll, PutsPieces, all_behind, stops_behind, stops_in, MakesBoth, In_first, In_next, MakesWanted}
 
 -- the same pieces, by a weaker relation
 pub puts_as : (Makes Makes' : List (List ℕ) → Option (Unit {0}) → Type 0) (a b : Option (List ℕ)) (f g : ℕ) (r : Result (Unit {0}) Stop) →
     ((pieces : List (List ℕ)) (x : Option (Unit {0})) → Makes pieces x → Makes' pieces x) → PutsPieces Makes a b f g r → PutsPieces Makes' a b f g r
-puts_as Makes Makes' a b f g (Ok u) turn (pieces, made, stands) = (pieces, turn pieces (Some u) made, stands)
-puts_as Makes Makes' a b f g (Err e) turn left = stops_in Makes Makes' (λ x. x) a b f g e refl left turn
+puts_as Makes Makes' a b f g r turn h8 = grind (arith, common_steps, stops_in)
 
 -- the text that was put into a buffer is such
 one_made : {E : Type 0} (IsText : List ℕ → Type 0) (put : Result (Unit {0}) E) (text : List ℕ) → OnOk put (IsText text) → (pieces : List (List ℕ)) (x : Option (Unit {0})) →
     MakesOne (λ (u : Unit {0}) t. (put ≡ Ok tt) × (t ≡ text)) pieces x → MakesOne (λ (u : Unit {0}). IsText) pieces x
-one_made IsText put text is pieces (Some u) (t, (ok, same), whole) = (t, subst IsText (sym same) (rw ok at is), whole)
-one_made IsText put text is pieces None none = none
+one_made IsText put text is pieces x h6 = grind (arith, common_steps)
 
 pub puts_made : {E : Type 0} (IsText : List ℕ → Type 0) (put : Result (Unit {0}) E) (text : List ℕ) (a b : Option (List ℕ)) (f g : ℕ) (r : Result (Unit {0}) Stop) → OnOk put (IsText text) →
     PutsPieces (MakesOne (λ (u : Unit {0}) t. (put ≡ Ok tt) × (t ≡ text))) a b f g r → PutsPieces (MakesOne (λ (u : Unit {0}). IsText)) a b f g r
-puts_made IsText put text a b f g r is left =
-    puts_as (MakesOne (λ (u : Unit {0}) t. (put ≡ Ok tt) × (t ≡ text))) (MakesOne (λ (u : Unit {0}). IsText)) a b f g r (one_made IsText put text is) left
+puts_made IsText put text a b f g r is left = grind (arith, common_steps, puts_as, one_made)
 
 module _ (First Next : List (List ℕ) → Option (Unit {0}) → Type 0) (a b : Option (List ℕ)) (f g : ℕ) where
   -- the next part was put behind the first, which was put whole

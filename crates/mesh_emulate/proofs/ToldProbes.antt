@@ -1,13 +1,12 @@
 -- What the text of an emulation tells of the probe of its network.
-use Rattle.mesh_emulate.proofs.Common.{◌≡◌, ℕ, ◌≤◌, true, not, List, [], ◌∷◌, ◌++◌, length, get_or, refl, sym, ap, ◌∙◌, subst, filter, Bool, AllByRecursion as Each, flat_map, append-nil, Contains-get_or, recursion_from_All, RouterSettings, Scenario, probing, ReachesJoined, reached_counts, TellsAllReached, ProbesReachJoined, ProbesTellAll, EmulatedProbesSendOnce, Coverage, Probe, NoNumber, Done, IfDone, ProbesReach, ArePeers, is_reached, probe_start, unreached_line, IsProbeText, run_states}
+use Rattle.mesh_emulate.proofs.Common.{arith, common_steps, ◌≡◌, ℕ, ◌≤◌, true, not, List, [], ◌∷◌, ◌++◌, length, get_or, refl, sym, ap, ◌∙◌, subst, filter, Bool, AllByRecursion as Each, flat_map, append-nil, Contains-get_or, recursion_from_All, RouterSettings, Scenario, probing, ReachesJoined, reached_counts, TellsAllReached, ProbesReachJoined, ProbesTellAll, EmulatedProbesSendOnce, Coverage, Probe, NoNumber, Done, IfDone, ProbesReach, ArePeers, is_reached, probe_start, unreached_line, IsProbeText, run_states}
 use Rattle.std.proofs.lemmas.Cmp.{nat_eq_equiv}
 use Rattle.std.proofs.lemmas.Map.Views.{list_any-from_Contains}
 use Rattle.mesh_emulate.proofs.ToldRoutes.{network, state_of}
 use Rattle.mesh_probe.specs.Probes as probes
 
 if_done : (P Q : Coverage → Type 0) → ((c : Coverage) → P c → Q c) → (probe : Probe) → IfDone P probe → IfDone Q probe
-if_done P Q turn NoNumber is = tt
-if_done P Q turn (Done c) is = turn c is
+if_done P Q turn probe is = grind (arith, common_steps)
 
 pub probes_reach_joined : ProbesReach → ProbesReachJoined
 probes_reach_joined law input trace send name e says freely =
@@ -54,6 +53,4 @@ probes_tell_all law input trace send name e says freely =
 -- Whatever the network
 
 pub probes_send_once : probes.ProbesSendOnce → EmulatedProbesSendOnce
-probes_send_once law input trace send name e =
-    let told = e.is_probe.is_probe in
-    law e.scenario e.run.final.routers told.after e.scenario.end e.is_probe.origin e.is_probe.probe (run_states e.scenario e.run) told.flood
+probes_send_once law input trace send name e = grind (arith, common_steps, run_states)

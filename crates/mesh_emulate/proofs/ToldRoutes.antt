@@ -1,5 +1,5 @@
 -- What the text of an emulation tells: each router a run of the machine, whether the network is settled, and then its routes.
-use Rattle.mesh_emulate.proofs.Common.{◌≡◌, ℕ, ◌<◌, ◌^◌, ◌↔◌, List, ◌++◌, Some, sym, ap, subst, arith, slice_get, Contains, Addr4, NetAddr, Route, Interface, RouterSettings, Router, RadioLeast, At, State, IsSettledNetwork, LeadsOn, settled_rows, settled_next_hops, SaysSettled, ArePlain, Prints, PrintsBy, LeadsOnwards, Arrives, Goes_on, At_gateway, LeadsThere, TellsWhetherSettled, ends_settled, tells_whether, prints_rows, prints_rows_by, run_states, routers_are_runs, end_is_settled, Emulation, RunsMachines, TellsSettled, PrintsLeastRoutes, PrintsNextHops, sending, TripsAreOnly, TripsReachRouters, TripsReachNetworks, TripsNeverStray, Wants}
+use Rattle.mesh_emulate.proofs.Common.{common_steps, ◌≡◌, ℕ, ◌<◌, ◌^◌, ◌↔◌, List, ◌++◌, Some, sym, ap, subst, arith, slice_get, Contains, Addr4, NetAddr, Route, Interface, RouterSettings, Router, RadioLeast, At, State, IsSettledNetwork, LeadsOn, settled_rows, settled_next_hops, SaysSettled, ArePlain, Prints, PrintsBy, LeadsOnwards, Arrives, Goes_on, At_gateway, LeadsThere, TellsWhetherSettled, ends_settled, tells_whether, prints_rows, prints_rows_by, run_states, routers_are_runs, end_is_settled, Emulation, RunsMachines, TellsSettled, PrintsLeastRoutes, PrintsNextHops, sending, TripsAreOnly, TripsReachRouters, TripsReachNetworks, TripsNeverStray, Wants}
 use Rattle.mesh_data.specs.Laws.{OfEachTrip, IsOnly, ReachesRouter, ReachesNetwork, NeverStrays}
 use Rattle.mesh_paths.specs.SettledRoutes as rows
 use Rattle.mesh_settled.proofs.GapsLemmas.FaceLemmas.{end_has_least}
@@ -17,9 +17,7 @@ runs_machines input wants e = routers_are_runs e.scenario e.run
 
 -- what stands behind the text of the run
 plain : (input : List ℕ) (wants : Wants) (e : Emulation input wants) → ArePlain (e.trip ++ e.probe)
-plain input wants e =
-    both_plain e.trip e.probe (trip_is_plain e.scenario e.run.final.routers wants.send e.trip e.is_trip)
-    (probe_is_plain e.scenario e.run.final.routers wants.probe e.probe e.is_probe)
+plain input wants e = grind (arith, common_steps, both_plain, trip_is_plain, probe_is_plain)
 
 pub tells_settled : TellsSettled
 tells_settled input wants e =

@@ -1,5 +1,5 @@
 -- Traces of the network of a scenario, event by event.
-use Rattle.mesh_emulate.proofs.Common.{◌≡◌, ℕ, ◌<◌, ◌≤◌, true, List, [], ◌∷◌, ◌++◌, length, get_or, map, Option, Some, None, Result, Ok, Err, refl, sym, ap, ◌∙◌, subst, arith, length-set, Appends, concat, slice_get, OnOk, append-nil, length-map, get_or-map, slice_get_within, slice_get-get_or, Scenario, State, Stop, MakesOne, PutsAll, PutsPieces, pieces_more, stops_behind, NetEvent, moves_of, NetState, NetStep, IsOfPackets, IsTraced, IsLastEvent, RunWithPieces, EventsMake}
+use Rattle.mesh_emulate.proofs.Common.{common_steps, ◌≡◌, ℕ, ◌<◌, ◌≤◌, true, List, [], ◌∷◌, ◌++◌, length, get_or, map, Option, Some, None, Result, Ok, Err, refl, sym, ap, ◌∙◌, subst, arith, slice_get, OnOk, Appends, concat, append-nil, length-map, get_or-map, slice_get_within, slice_get-get_or, Scenario, State, Stop, MakesOne, PutsAll, PutsPieces, pieces_more, stops_behind, NetEvent, moves_of, NetState, NetStep, IsOfPackets, IsTraced, IsLastEvent, RunWithPieces, EventsMake}
 use Rattle.mesh_texts.specs.machine.packet.Least.{Wrote}
 use Rattle.mesh_texts.proofs.TraceSteps.{traces_run}
 use Rattle.mesh_texts.specs.Trace.{IsEventText}
@@ -8,11 +8,7 @@ use Rattle.mesh_emulate.proofs.EventTexts.{texts_more, joined_trace}
 -- a step that the network takes is one whose text can be told
 pub last_event : (s : Scenario) (old new : NetState) (event : NetEvent) → old.scenario ≡ s → NetStep old event new → IsOfPackets event →
     IsLastEvent s new event
-last_event s old new event same step packets =
-    let moves = (moves_of old new event step).1 in
-    let within = slice_get_within old.routers event.router moves.was moves.stood in
-    let count : length new.routers ≡ length old.routers = ap length moves.routers ∙ length-set old.routers event.router moves.is in
-    record { scenario = moves.scenario ∙ same; router = omega (arith, within, count); packet = packets.heard }
+last_event s old new event same step packets = grind (arith, common_steps, moves_of, slice_get_within)
 
 -- one event more
 told_more : (old mid new : NetState) (pieces : List (List ℕ)) (event : NetEvent) (last : List ℕ) → RunWithPieces true old mid pieces →

@@ -1,7 +1,7 @@
 -- The lines of a trip are neither headings nor routes, nor `settled yes`.
-use Rattle.mesh_emulate.proofs.Common.{◌≡◌, ℕ, ◌/◌, ◌%◌, true, List, [], ◌∷◌, ◌++◌, length, map, Option, Some, None, refl, sym, ap, subst, arith, codes, decimal, slice_get, All-from_recursion, flat_map-map, Addr4, Interface, RouterSettings, Scenario, State, interface_name, interface_in, end_name, hop_start, hop_end, hop_line, trip_start, trip_end, text_of, IsPacketSent, TellsWanted, WantedPacket, router_name, IsLine, IsPlain, ArePlain, lacks, each_map, line_end, line_after, number, nothing_plain, name_lacks}
+use Rattle.mesh_emulate.proofs.Common.{common_steps, ◌≡◌, ℕ, ◌/◌, ◌%◌, true, List, [], ◌∷◌, ◌++◌, length, map, Option, refl, sym, ap, arith, codes, decimal, All-from_recursion, flat_map-map, Addr4, Interface, RouterSettings, Scenario, State, IsPacketSent, TellsWanted, WantedPacket, router_name, IsLine, IsPlain, ArePlain, lacks, each_map, line_end, line_after, number, nothing_plain, name_lacks}
+use Rattle.mesh_data.specs.Text.{interface_name, interface_in, end_name, hop_start, hop_end, hop_line, trip_start, trip_end, text_of}
 use Rattle.mesh_data.specs.declared.trip.End.{End}
-use Rattle.mesh_data.specs.declared.trip.End.TheVariants.{Arrived, NoRoute, NoArc, TooFar}
 use Rattle.mesh_data.specs.declared.trip.Hop.{Hop}
 use Rattle.mesh_data.specs.declared.trip.Trip.{Trip}
 use Rattle.mesh_data.specs.Dotted.{dotted}
@@ -10,18 +10,13 @@ use Rattle.mesh_emulate.proofs.PlainLines.{router_lacks, behind, behind_lacks, p
 -- Parts without a line feed
 
 face_lacks : (i : Option Interface) → lacks 10 (interface_name i) ≡ true
-face_lacks None = refl
-face_lacks (Some i) = name_lacks 10 (omega arith) i.name i.sound.named
+face_lacks i = grind (arith, common_steps, name_lacks)
 
 interface_lacks : (r : Option RouterSettings) (i : ℕ) → lacks 10 (interface_in r i) ≡ true
-interface_lacks None i = refl
-interface_lacks (Some r) i = face_lacks (slice_get r.interfaces i)
+interface_lacks r i = grind (arith, common_steps, face_lacks)
 
 end_lacks : (end : End) → lacks 10 (end_name end) ≡ true
-end_lacks Arrived = refl
-end_lacks NoRoute = refl
-end_lacks NoArc = refl
-end_lacks TooFar = refl
+end_lacks end = grind (arith, common_steps)
 
 dotted_lacks : (a : Addr4) → lacks 10 (dotted a) ≡ true
 unfolding dotted
@@ -34,8 +29,7 @@ dotted_lacks a =
 -- Lines
 
 start_lacks : (s : Scenario) (from : ℕ) (a : Addr4) → lacks 10 (trip_start s from a) ≡ true
-start_lacks s from a =
-    behind_lacks (codes "send ") (router_name s.routers from ∷ codes " " ∷ dotted a ∷ []) refl (router_lacks s from, (refl, (dotted_lacks a, tt)))
+start_lacks s from a = grind (arith, common_steps, behind_lacks, router_lacks, dotted_lacks)
 
 end_is_line : (s : Scenario) (trip : Trip) → IsLine (trip_end s trip)
 end_is_line s trip =
@@ -50,10 +44,7 @@ trip_plain s from a trip =
     (refl, refl) (refl, refl) (refl, refl)
 
 hop_lacks : (s : Scenario) (hop : Hop) → lacks 10 (hop_start s hop) ≡ true
-hop_lacks s hop =
-    let face = interface_in (slice_get s.routers hop.from) hop.iface in
-    behind_lacks (codes " hop ") (router_name s.routers hop.from ∷ codes " " ∷ face ∷ []) refl
-    (router_lacks s hop.from, (refl, (interface_lacks (slice_get s.routers hop.from) hop.iface, tt)))
+hop_lacks s hop = grind (arith, common_steps, behind_lacks, router_lacks, interface_lacks)
 
 hop_is_line : (s : Scenario) (hop : Hop) → IsLine (hop_end s hop)
 hop_is_line s hop =
@@ -77,5 +68,4 @@ text_is_plain s from a trip =
     }
 
 pub trip_is_plain : (s : Scenario) (states : List State) (send : Option WantedPacket) (text : List ℕ) → TellsWanted (IsPacketSent s states) send text → ArePlain text
-trip_is_plain s states None text none = nothing_plain text none
-trip_is_plain s states (Some packet) text sent = subst ArePlain (sym sent.is_text) (text_is_plain s sent.from packet.dest sent.trip)
+trip_is_plain s states send text none = grind (arith, common_steps, nothing_plain, text_is_plain)

@@ -1,11 +1,9 @@
 -- What a run leaves by its answer, part by part.
-use Rattle.mesh_run.proofs.Common.{◌≡◌, ℕ, ◌^◌, ◌<◌, ◌≤◌, List, map, take, length, Option, Some, None, Result, Ok, Err, refl, sym, ap, subst, arith, inl, inr, OnOk, Port, RunSetup, Sound, State, IsKeptOf, keeps_same, stops_in, Report, TellsMore, Completes, FinishesTurns, Spends, ToldNothing, RouterMakes, RouterEnds, EndsRun, StatesSetup, ToldInCall, told, ArePortsAttached, IsTold, WholeRouterRun, SpendsTurns, RunsShort, RouterRunMakes, IsReport, RunFault, attached_report, moment_of, DoesTurns, StopsTurns, Ended}
-use Rattle.std.proofs.Math.Seq.{take-length}
+use Rattle.mesh_run.proofs.Common.{common_steps, ◌≡◌, ℕ, ◌^◌, ◌<◌, ◌≤◌, List, map, take, length, Option, Some, None, Result, Ok, Err, refl, sym, ap, subst, arith, inl, inr, OnOk, RunSetup, Sound, State, IsKeptOf, keeps_same, stops_in, Report, TellsMore, Completes, FinishesTurns, Spends, ToldNothing, RouterMakes, RouterEnds, EndsRun, StatesSetup, ToldInCall, told, ArePortsAttached, IsTold, WholeRouterRun, SpendsTurns, RunsShort, RouterRunMakes, IsReport, RunFault, attached_report, moment_of, DoesTurns, StopsTurns, Ended}
 use Rattle.mesh_config.specs.RunSettings.{run_refusals}
 use Rattle.mesh_io.specs.Faults.{Rose, RoseByOne}
 use Rattle.mesh_io.specs.Pieces.{MakesOne, PutsAll, PutsPieces}
 use Rattle.mesh_io.specs.declared.stop.Stop.{Stop}
-use Rattle.mesh_io.specs.declared.stop.Stop.TheVariants as stop
 use Rattle.mesh_run.specs.Run.RunsShort.{Before_turns, In_turns}
 use Rattle.mesh_run.specs.declared.fault.RunFault.TheVariants as fault
 use Rattle.mesh_run.proofs.Moments.{below_end, reaches_end}
@@ -90,11 +88,7 @@ module _ (input : List ℕ) (setup : RunSetup) (stated : StatesSetup input setup
     (ports_told : TellsMore a b (map attached_report setup.ports)) (attached : n ≡ length setup.ports) where
   -- the attaches, and then what was told in the turns
   is_told : (moments : List ℕ) (reports : List Report) → TellsMore k l moments → TellsMore b c reports → IsTold setup moments reports (told k l a c n)
-  is_told moments reports clock air = record {
-    clock = clock;
-    air = tells_more a b c (map attached_report setup.ports) reports ports_told air;
-    attached = attached;
-  }
+  is_told moments reports clock air = grind (arith, common_steps, tells_more)
 
   whole_run : (text : List ℕ) → FinishesTurns setup most k l b c text → WholeRouterRun input most (told k l a c n)
   whole_run text f = record {
@@ -125,12 +119,7 @@ module _ (input : List ℕ) (setup : RunSetup) (stated : StatesSetup input setup
   }
 
   attached_alone : ToldNothing k l b c → ArePortsAttached setup (length setup.ports) (told k l a c n)
-  attached_alone (clock, air) = record {
-    moments = clock;
-    reports = subst (λ (ports : List Port). TellsMore a c (map attached_report ports)) (sym (take-length setup.ports))
-        (subst (λ (now : Option (List Report)). TellsMore a now (map attached_report setup.ports)) (sym air) ports_told);
-    attached = attached;
-  }
+  attached_alone h0 = grind (arith, common_steps)
 
   stops_short : StopsTurns setup most k l b c → RunsShort input most (told k l a c n)
   stops_short s = In_turns setup s.moments s.reports stated (is_told s.moments s.reports s.clock_tells s.air_tells) s.within s.stops
@@ -165,18 +154,11 @@ attach_left input setup most k a b o n f af af' i stated fewer number tells rose
 
 module _ (input : List ℕ) (most : ℕ) (t : ToldInCall) (o o' : Option (List ℕ)) (f f' af af' : ℕ) where
   pub done_left : (r : Result (Unit {0}) RunFault) → EndsRun input most t o o' f f' af af' r → OnOk r (PutsAll (RouterRunMakes input most t) o o' tt)
-  done_left (Ok u) h = h
-  done_left (Err e) h = tt
+  done_left r h = grind (arith, common_steps)
 
   pub by_answer : (r s : Result (Unit {0}) RunFault) → r ≡ s → EndsRun input most t o o' f f' af af' r → EndsRun input most t o o' f f' af af' s
   by_answer r s e h = subst (λ (x : Result (Unit {0}) RunFault). EndsRun input most t o o' f f' af af' x) e h
 
   pub completes : (r : Result (Unit {0}) RunFault) → EndsRun input most t o o' f f' af af' r → first (run_refusals input) ≡ None →
       ((setup : RunSetup) → StatesSetup input setup → t.attached' ≡ length setup.ports) → (Rose f f' → ⊥) → Completes r
-  completes (Ok u) h clear attached whole = tt
-  completes (Err (fault.Refused number key)) (refused, untold, keeps) clear attached whole = absurd cc
-  completes (Err (fault.Attach interface)) (fails, rose, keeps) clear attached whole =
-      absurd (omega (arith, fails.fewer, fails.is_attached.attached, attached fails.setup fails.stated))
-  completes (Err (fault.Turns turns greatest end)) h clear attached whole = tt
-  completes (Err (fault.Stopped stop.Write)) h clear attached whole = absurd (whole h.0)
-  completes (Err (fault.Stopped stop.Memory)) h clear attached whole = tt
+  completes r h clear attached whole = grind (arith, common_steps)

@@ -1,5 +1,5 @@
 -- Pairs of routers of which none stands twice.
-use Rattle.mesh_emulate.proofs.Common.{◌≡◌, ℕ, zero, suc, ◌+◌, ◌-◌, ◌*◌, ◌%◌, ◌<◌, ◌≤◌, ◌≢◌, Bool, true, false, not, List, [], ◌∷◌, ◌++◌, map, length, inl, inr, refl, sym, ◌∙◌, subst, arith, length-append, append_assoc, nat_eq, nat_lt, ◌&&◌, AllByRecursion as Each, flat_map, list_any, range_with_len, and_parts, and_left, and_right, cases_Bool, eqb-false, eqb-true, eq-eqb, ne_eqb, ltb-true, ltb-false, not-true, or_parts, map-range_with_len_more, list_any-append, append-nil, are_distinct, RouterPair, pair, pair_if, grid_pairs_of, ring_pairs, tree_pairs, same_pair, joined_with, more_pairs, word, ArePairs, Kind, each_both, each_weaker}
+use Rattle.mesh_emulate.proofs.Common.{common_steps, ◌≡◌, ℕ, zero, suc, ◌+◌, ◌-◌, ◌*◌, ◌%◌, ◌<◌, ◌≤◌, ◌≢◌, Bool, true, false, not, List, [], ◌∷◌, ◌++◌, map, length, inl, inr, refl, sym, ◌∙◌, subst, arith, append_assoc, nat_eq, nat_lt, ◌&&◌, AllByRecursion as Each, flat_map, list_any, range_with_len, and_parts, and_left, and_right, cases_Bool, eqb-false, eqb-true, ne_eqb, ltb-true, ltb-false, not-true, or_parts, map-range_with_len_more, list_any-append, are_distinct, RouterPair, pair, pair_if, grid_pairs_of, ring_pairs, tree_pairs, same_pair, joined_with, more_pairs, word, ArePairs, Kind, each_both, each_weaker}
 use Rattle.std.proofs.lemmas.Nat.{mod_below}
 use Rattle.mesh_emulate.proofs.MakingLemmas.Growing.{flat_more}
 use Rattle.mesh_emulate.proofs.MakingLemmas.Rows.{two_or_more}
@@ -14,8 +14,7 @@ pub record AreApart (n most : ℕ) (pairs : List RouterPair) : Type 0 where
 -- One pair more
 
 each_if : (P : RouterPair → Type 0) (pairs : List RouterPair) (p : RouterPair) (t : Bool) → Each P pairs → P p → Each P (pairs ++ pair_if t p)
-each_if P pairs p true all one = each_both P pairs (p ∷ []) all (one, tt)
-each_if P pairs p false all one = subst (Each P) (sym (append-nil pairs)) all
+each_if P pairs p t all one = grind (arith, common_steps, each_both)
 
 -- none of the pairs is this one
 abbrev Lack : List RouterPair → RouterPair → Type 0
@@ -31,24 +30,17 @@ distinct_more (q ∷ pairs) p d lack =
 
 apart_more : (n most : ℕ) (pairs : List RouterPair) (p : RouterPair) → AreApart n most pairs → p.low < p.high → p.high < n → Lack pairs p →
     AreApart n (most + 1) (pairs ++ p ∷ [])
-apart_more n most pairs p a order below lack = record {
-  within = each_both (λ (q : RouterPair). (q.low < q.high) × (q.high < n)) pairs (p ∷ []) a.within ((order, below), tt);
-  distinct = distinct_more pairs p a.distinct lack;
-  few = omega (arith, length-append pairs (p ∷ []), a.few);
-}
+apart_more n most pairs p a order below lack = grind (arith, common_steps, each_both, distinct_more)
 
 apart_if : (n most : ℕ) (pairs : List RouterPair) (p : RouterPair) (t : Bool) → AreApart n most pairs →
     (t ≡ true → (p.low < p.high) × (p.high < n) × Lack pairs p) → AreApart n (most + 1) (pairs ++ pair_if t p)
 apart_if n most pairs p true a so = let is = so refl in apart_more n most pairs p a is.0 is.1 is.2
-apart_if n most pairs p false a so =
-    subst (AreApart n (most + 1)) (sym (append-nil pairs)) (record { within = a.within; distinct = a.distinct; few = omega (arith, a.few) })
+apart_if n most pairs p false a so = grind (arith, common_steps)
 
 -- In rows
 
 lower_lack : (pairs : List RouterPair) (p : RouterPair) → Each (λ q. q.low < p.low) pairs → Lack pairs p
-lower_lack pairs p lower =
-    each_weaker (λ (q : RouterPair). q.low < p.low) (λ (q : RouterPair). same_pair q p ≡ false)
-    (λ q less. and_left (nat_eq q.low p.low) (nat_eq q.high p.high) (ne_eqb q.low p.low (λ e. omega (arith, less, e)))) pairs lower
+lower_lack pairs p lower = grind (arith, common_steps, each_weaker)
 
 record IsRowsFront (n m : ℕ) (pairs : List RouterPair) : Type 0 where
   apart : AreApart n (2 * m) pairs
@@ -161,13 +153,7 @@ tree_front seed n (suc m) within =
 
 -- the test for a pair looks at both alike
 same_pair-sym : (p q : RouterPair) → same_pair p q ≡ same_pair q p
-same_pair-sym p q = rw (eqb-sym p.low q.low, eqb-sym p.high q.high) refl
-  where
-    eqb-sym : (a b : ℕ) → nat_eq a b ≡ nat_eq b a
-    eqb-sym a b = elim (cases_Bool (nat_eq b a)) [
-      | inl same ↦ eq-eqb a b (sym (eqb-true b a same)) ∙ sym same
-      | inr other ↦ ne_eqb a b (λ e. eqb-false b a other (sym e)) ∙ sym other
-    ]
+same_pair-sym p q = grind (arith, common_steps, cases_Bool)
 
 pub none_of : (p : RouterPair) (pairs : List RouterPair) → list_any (same_pair p) pairs ≡ false → Each (λ q. same_pair p q ≡ false) pairs
 none_of p [] none = tt
@@ -209,8 +195,7 @@ more_apart seed n k (suc times) most pairs two apart =
 -- All kinds
 
 pub pairs_apart : (k : Kind) (n seed : ℕ) (pairs : List RouterPair) → 2 ≤ n → ArePairs k n seed pairs → AreApart n (2 * n) pairs
-pairs_apart kind.Grid n seed pairs two (c, row, is) =
-    subst (AreApart n (2 * n)) (sym is) (rows_front c n n (two_or_more n c two row.enough)).apart
+pairs_apart kind.Grid n seed pairs two (c, row, is) = grind (arith, common_steps, rows_front, two_or_more)
 pairs_apart kind.Ring n seed pairs two is = subst (AreApart n (2 * n)) (sym is) (ring_apart n two)
 pairs_apart kind.Random n seed pairs two is =
     let tree = (tree_front seed n (n - 1) (omega (arith, two))).apart in

@@ -1,5 +1,5 @@
 -- The arcs of pairs of which none stands twice.
-use Rattle.mesh_emulate.proofs.Common.{◌≡◌, ℕ, ◌+◌, ◌*◌, ◌<◌, ◌≤◌, true, false, not, List, [], ◌∷◌, map, length, inl, inr, refl, sym, ap, ◌∙◌, arith, nat_eq, slice_index, AllByRecursion as Each, list_all, list_any, and_parts, not-true, cases_Bool, eq-eqb, eqb-true, ne_eqb, true≢false, length-map, RadioArc, Ends, AreArcs, are_distinct, ends_eq, joins_routers, ends_of, RouterPair, same_pair, IsMadeArc, AreMadeArcs, Kind, each_weaker}
+use Rattle.mesh_emulate.proofs.Common.{common_steps, ◌≡◌, ℕ, ◌+◌, ◌*◌, ◌<◌, ◌≤◌, true, false, not, List, [], ◌∷◌, map, length, refl, sym, ap, ◌∙◌, arith, slice_index, AllByRecursion as Each, list_all, list_any, and_parts, not-true, cases_Bool, eq-eqb, ne_eqb, true≢false, RadioArc, Ends, AreArcs, are_distinct, ends_eq, joins_routers, ends_of, RouterPair, same_pair, IsMadeArc, AreMadeArcs, Kind, each_weaker}
 use Rattle.mesh_emulate.proofs.MakingLemmas.Apart.{AreApart, none_of}
 
 -- from a router to another
@@ -27,10 +27,7 @@ abbrev InOrder : RouterPair → Type 0
 InOrder p = p.low < p.high
 
 ways_differ : (a b c d : ℕ) → (a ≡ c → b ≡ d → ⊥) → ends_eq (way a b) (way c d) ≡ false
-ways_differ a b c d differ = elim (cases_Bool (nat_eq a c)) [
-  | inl same ↦ rw (same, ne_eqb b d (differ (eqb-true a c same))) refl
-  | inr other ↦ rw other refl
-]
+ways_differ a b c d differ = grind (arith, common_steps, cases_Bool)
 
 -- none of the ways of pairs is a way of another pair
 no_way : (p : RouterPair) (pairs : List RouterPair) → InOrder p → Each InOrder pairs → Each (λ q. same_pair p q ≡ false) pairs →
@@ -76,17 +73,10 @@ length-ways (p ∷ pairs) = omega (arith, length-ways pairs)
 
 module _ (k : Kind) (n seed : ℕ) (pairs : List RouterPair) (arcs : List RadioArc) (few : n ≤ 64) (apart : AreApart n (2 * n) pairs) (made : AreMadeArcs k n seed 0 pairs arcs) where
   pub arcs_few : length arcs ≤ 4096
-  arcs_few =
-      let size : length (map ends_of arcs) ≡ length arcs = length-map arcs ends_of in
-      let ends : length (map ends_of arcs) ≡ length (ways pairs) = ap (λ (l : List Ends). length l) (ways_of k n seed 0 pairs arcs made) in
-      omega (arith, size, ends, length-ways pairs, apart.few, few)
+  arcs_few = grind (arith, common_steps, ways_of, length-ways)
 
   pub arcs_distinct : are_distinct ends_eq (map ends_of arcs) ≡ true
   arcs_distinct = ap (are_distinct ends_eq) (ways_of k n seed 0 pairs arcs made) ∙ distinct_ways pairs (each_weaker (λ (p : RouterPair). (p.low < p.high) × (p.high < n)) InOrder (λ p is. is.0) pairs apart.within) apart.distinct
 
   pub arcs_sound : (counts : List ℕ) → ((x : ℕ) → x < n → slice_index counts x ≡ 1) → AreArcs counts (map ends_of arcs)
-  arcs_sound counts one = record {
-    few = rw length-map arcs_few;
-    join_routers = ap (list_all (joins_routers counts)) (ways_of k n seed 0 pairs arcs made) ∙ joining counts n pairs one apart.within;
-    distinct = arcs_distinct;
-  }
+  arcs_sound counts one = grind (arith, common_steps, arcs_few, ways_of, joining, arcs_distinct)

@@ -1,17 +1,13 @@
 -- The greatest metric of routes.
-use Rattle.mesh_emulate.proofs.Common.{◌≡◌, ℕ, ◌+◌, ◌<◌, ◌≤◌, List, [], ◌∷◌, ◌++◌, map, length, take, get_or, max, Some, refl, sym, ap, ◌∙◌, arith, inl, inr, cases_lt, flat_map_more, map_more, All-push, All-weaker, Contains-append_left, Contains-append_right, State, metrics_of, IsGreatest}
+use Rattle.mesh_emulate.proofs.Common.{common_steps, ◌≡◌, ℕ, ◌+◌, ◌<◌, ◌≤◌, List, [], ◌∷◌, ◌++◌, map, length, take, get_or, max, Some, sym, ap, ◌∙◌, arith, inl, inr, cases_lt, flat_map_more, map_more, All-push, All-weaker, Contains-append_left, Contains-append_right, State, metrics_of, IsGreatest}
 
 greatest_same : (metrics : List ℕ) (greatest metric : ℕ) → IsGreatest metrics (Some greatest) → metric ≤ greatest →
     IsGreatest (metrics ++ metric ∷ []) (Some greatest)
-greatest_same metrics greatest metric is le =
-    (Contains-append_left metrics (metric ∷ []) greatest is.0, All-push (λ m. m ≤ greatest) metrics metric is.1 le)
+greatest_same metrics greatest metric is le = grind (arith, common_steps, Contains-append_left, All-push)
 
 greatest_more : (metrics : List ℕ) (greatest metric : ℕ) → IsGreatest metrics (Some greatest) → greatest ≤ metric →
     IsGreatest (metrics ++ metric ∷ []) (Some metric)
-greatest_more metrics greatest metric is le = (
-  Contains-append_right metrics (metric ∷ []) metric (0, omega arith, refl),
-  All-push (λ m. m ≤ metric) metrics metric (All-weaker (λ m. m ≤ greatest) (λ m. m ≤ metric) (λ m h. omega (arith, h, le)) metrics is.1) (omega arith),
-)
+greatest_more metrics greatest metric is le = grind (arith, common_steps, Contains-append_right, All-push, All-weaker)
 
 pub greatest_max : (metrics : List ℕ) (greatest metric : ℕ) → IsGreatest metrics (Some greatest) →
     IsGreatest (metrics ++ metric ∷ []) (Some (max greatest metric))

@@ -1,5 +1,5 @@
 -- One pair more, and one router more.
-use Rattle.mesh_emulate.proofs.Common.{◌≡◌, ℕ, suc, ◌+◌, ◌-◌, ◌*◌, ◌%◌, ◌<◌, List, [], ◌∷◌, ◌++◌, length, refl, sym, ap, ◌∙◌, subst, arith, flat_map, range_with_len, flat_map_more, map-id, map-range_with_len_more, RadioArc, RouterPair, joined_with, more_pairs, word, IsMadeArc, AreMadeArcs, Kind}
+use Rattle.mesh_emulate.proofs.Common.{common_steps, ◌≡◌, ℕ, ◌+◌, ◌-◌, ◌*◌, ◌%◌, ◌<◌, List, [], ◌∷◌, ◌++◌, length, sym, ap, ◌∙◌, arith, flat_map, range_with_len, flat_map_more, map-id, map-range_with_len_more, RadioArc, RouterPair, joined_with, more_pairs, word, IsMadeArc, AreMadeArcs, Kind}
 
 -- Numbers in order
 
@@ -15,11 +15,7 @@ flat_more f n = ap (flat_map f) (range_more 0 n n (omega arith)) ∙ sym (flat_m
 pub drawn_more : (seed n times : ℕ) (pairs : List RouterPair) → times < n →
     more_pairs seed n (n - 1 + 2 * times) (n - times) pairs
     ≡ more_pairs seed n (n - 1 + 2 * (times + 1)) (n - (times + 1)) (joined_with pairs (word seed (n - 1 + 2 * times) % n) (word seed (n - 1 + 2 * times + 1) % n))
-drawn_more seed n times pairs within =
-    let left : n - times ≡ suc (n - (times + 1)) = omega (arith, within) in
-    let place : n - 1 + 2 * times + 2 ≡ n - 1 + 2 * (times + 1) = omega arith in
-    let next = joined_with pairs (word seed (n - 1 + 2 * times) % n) (word seed (n - 1 + 2 * times + 1) % n) in
-    ap (λ (k : ℕ). more_pairs seed n (n - 1 + 2 * times) k pairs) left ∙ ap (λ (k : ℕ). more_pairs seed n k (n - (times + 1)) next) place
+drawn_more seed n times pairs within = grind (arith, common_steps)
 
 -- Arcs
 
@@ -27,12 +23,7 @@ pub arcs_more : (k : Kind) (n seed from : ℕ) (pairs : List RouterPair) (p : Ro
     from + 2 * length pairs ≡ at → AreMadeArcs k n seed from pairs arcs →
     IsMadeArc k n seed at p.low p.high there → IsMadeArc k n seed (at + 1) p.high p.low back →
     AreMadeArcs k n seed from (pairs ++ p ∷ []) (arcs ++ there ∷ back ∷ [])
-arcs_more k n seed from [] p [] there back at e all one two =
-    let here : at ≡ from = omega (arith, e) in (
-      subst (λ (i : ℕ). IsMadeArc k n seed i p.low p.high there) here one,
-      subst (λ (i : ℕ). IsMadeArc k n seed (i + 1) p.high p.low back) here two,
-      refl,
-    )
+arcs_more k n seed from [] p [] there back at e all one two = grind (arith, common_steps)
 arcs_more k n seed from [] p (a ∷ arcs) there back at e all one two = absurd cc
 arcs_more k n seed from (q ∷ pairs) p [] there back at e all one two = absurd all
 arcs_more k n seed from (q ∷ pairs) p (a ∷ []) there back at e all one two = absurd all

@@ -1,5 +1,5 @@
 -- The settings of the routers of a made scenario.
-use Rattle.mesh_emulate.proofs.Common.{◌≡◌, ℕ, zero, suc, ◌+◌, ◌*◌, ◌≤◌, List, [], ◌∷◌, map, length, Some, sym, ap, ◌∙◌, subst, arith, slice_get, length-map, RadioArc, RouterSettings, AreArcs, ends_of, stated_lists, AddressLists, HaveAllSenders, HaveAllQualities, addr_lists, all_have, counts_same, lists_same, RouterPair, name_of, IsMadeRouter, AreMadeArcs, IsStated, AreStated, StatedRouter, ArePlainFields, Kind, no_members}
+use Rattle.mesh_emulate.proofs.Common.{common_steps, ◌≡◌, ℕ, zero, suc, ◌+◌, ◌*◌, ◌≤◌, List, [], ◌∷◌, map, length, Some, sym, ap, ◌∙◌, subst, arith, slice_get, RadioArc, RouterSettings, AreArcs, ends_of, stated_lists, AddressLists, HaveAllSenders, HaveAllQualities, addr_lists, all_have, counts_same, lists_same, RouterPair, name_of, IsMadeRouter, AreMadeArcs, IsStated, AreStated, StatedRouter, ArePlainFields, Kind, no_members}
 use Rattle.mesh_atoms.specs.declared.admit.QualityStep.{QualityStep}
 use Rattle.mesh_atoms.specs.declared.settings.Times.{Times}
 use Rattle.mesh_config.specs.Fields.{RouterParts, settings_parts, stated_parts, thresholds_of, threshold_pair}
@@ -24,11 +24,7 @@ module _ (times : Times) (default : TimesIs no_members times) where
       (x n : ℕ) (r : RouterSettings) → i + x ≡ n → slice_get ss x ≡ Some r → IsMadeRouter n r
   made_from i [] ds same all x n r place at = absurd cc
   made_from i (s ∷ ss) [] same all x n r place at = absurd cc
-  made_from i (s ∷ ss) (d ∷ ds) same all zero n r place at =
-      let head : settings_parts s ≡ stated_parts times d = cc in
-      let is : s ≡ r = cc in
-      let here : i ≡ n = omega (arith, place) in
-      subst (IsMadeRouter n) is (subst (λ (k : ℕ). IsMadeRouter k s) here (one_made i s d head all.0))
+  made_from i (s ∷ ss) (d ∷ ds) same all zero n r place at = grind (arith, common_steps, one_made)
   made_from i (s ∷ ss) (d ∷ ds) same all (suc x) n r place at =
       let rest : map settings_parts ss ≡ map (stated_parts times) ds = cc in
       made_from (i + 1) ss ds rest all.1 x n r (omega (arith, place)) at
@@ -40,9 +36,7 @@ module _ (times : Times) (default : TimesIs no_members times) where
 
 module _ (times : Times) (ss : List RouterSettings) (ds : List StatedRouter) (same : map settings_parts ss ≡ map (stated_parts times) ds) where
   pub made_count : length ss ≡ length ds
-  made_count =
-      let parts : length (map settings_parts ss) ≡ length (map (stated_parts times) ds) = ap (λ (l : List RouterParts). length l) same in
-      sym (length-map ss settings_parts) ∙ parts ∙ length-map ds (stated_parts times)
+  made_count = grind (arith, common_steps)
 
   pub made_arcs : (k : Kind) (n seed : ℕ) (pairs : List RouterPair) (arcs : List RadioArc) → n ≤ 64 → AreApart n (2 * n) pairs →
       AreMadeArcs k n seed 0 pairs arcs →

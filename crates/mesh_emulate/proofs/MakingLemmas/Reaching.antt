@@ -1,5 +1,5 @@
 -- The least routes of the routers of a settled network, one behind the other.
-use Rattle.mesh_emulate.proofs.Common.{◌≡◌, ◌≢◌, ℕ, zero, suc, ◌+◌, List, [], ◌∷◌, ◌++◌, map, Some, inl, inr, refl, sym, ap, ◌∙◌, subst, arith, Contains, slice_get, AllPairs, map-append, Contains-append_cases, Contains-append_left, Contains-append_right, NetAddr, Route, State, Reached, metrics_of}
+use Rattle.mesh_emulate.proofs.Common.{common_steps, ◌≡◌, ◌≢◌, ℕ, zero, suc, ◌+◌, List, [], ◌∷◌, ◌++◌, map, Some, inl, inr, refl, sym, ap, ◌∙◌, arith, Contains, slice_get, AllPairs, map-append, Contains-append_cases, Contains-append_left, Contains-append_right, NetAddr, Route, State, Reached, metrics_of}
 use Rattle.std.proofs.lemmas.Simd.{map-map}
 use Rattle.mesh_atoms.specs.Nodes.{IsBefore}
 use Rattle.mesh_atoms.proofs.Lists.{contains_map_cases as from_map, all_pairs_cons, all_pairs_tail, contains_map, all_pairs_head}
@@ -46,15 +46,8 @@ where_from i (p ∷ ps) q within = elim (Contains-append_cases (map (reached_by 
 pub is_there : (i n : ℕ) (ps : List State) (j : ℕ) (p : State) (r : Route) → i + j ≡ n → slice_get ps j ≡ Some p → Contains p.routes r →
     Contains (all_reached i ps) (reached_by n r)
 is_there i n [] j p r place at within = absurd cc
-is_there i n (s ∷ ps) zero p r place at within =
-    let same : s ≡ p = cc in
-    let here : i ≡ n = omega (arith, place) in
-    Contains-append_left (map (reached_by i) s.routes) (all_reached (i + 1) ps) (reached_by n r)
-    (subst (λ (x : ℕ). Contains (map (reached_by i) s.routes) (reached_by x r)) here
-    (contains_map (reached_by i) s.routes r (subst (λ (q : State). Contains q.routes r) (sym same) within)))
-is_there i n (s ∷ ps) (suc j) p r place at within =
-    Contains-append_right (map (reached_by i) s.routes) (all_reached (i + 1) ps) (reached_by n r)
-    (is_there (i + 1) n ps j p r (omega (arith, place)) at within)
+is_there i n (s ∷ ps) zero p r place at within = grind (arith, common_steps, Contains-append_left, contains_map)
+is_there i n (s ∷ ps) (suc j) p r place at within = grind (arith, common_steps, Contains-append_right, (is_there (i + 1) n ps j p r (omega (arith, place)) at within))
 
 -- Each once
 
@@ -70,8 +63,7 @@ apart_both {A} (x ∷ xs) ys one two cross =
     ]) rest
 
 not_before : (a b : NetAddr) → IsBefore a b → a ≢ b
-not_before a b (inl less) same = let e = ap (λ (n : NetAddr). n.addr.0) same in omega (arith, less, e)
-not_before a b (inr less) same = let e = ap (λ (n : NetAddr). n.prefix) same in omega (arith, less.1, e)
+not_before a b h2 same = grind (arith, common_steps)
 
 one_router_apart : (x : ℕ) (rows : List Route) → AllPairs (λ r t. IsBefore r.dest t.dest) rows →
     AllPairs (λ a b. a ≢ b) (map (reached_by x) rows)

@@ -1,5 +1,5 @@
 -- What is told of a run of a made network.
-use Rattle.mesh_emulate.proofs.Common.{◌≡◌, ℕ, ◌≤◌, List, length, refl, sym, ap, ◌∙◌, subst, arith, length-map, RadioGraph, Scenario, IsRadioGraph, State, IsEndText, IsMadeText, MadeEmulation, IsMade, NetEvent, NetState, IsOpeningNet, IsOver, NetRun, IsNetwork, end_is_network, final_count, WholeRun, Kind}
+use Rattle.mesh_emulate.proofs.Common.{common_steps, ◌≡◌, ℕ, ◌≤◌, List, length, refl, sym, ap, ◌∙◌, subst, arith, RadioGraph, Scenario, IsRadioGraph, State, IsEndText, IsMadeText, MadeEmulation, IsMade, NetEvent, NetState, IsOpeningNet, IsOver, NetRun, IsNetwork, end_is_network, final_count, WholeRun, Kind}
 use Rattle.mesh_atoms.specs.declared.network.Counts.{Counts}
 
 -- a run of the network of a scenario that ends with this one
@@ -19,9 +19,7 @@ module _ (s : Scenario) (net : NetState) (ends : EndsWith s net) (states : List 
   at_end g graph = subst (λ (l : List State). IsNetwork s g l s.end) its_states (end_is_network s g ends.0 graph)
 
   pub few_states : length states ≤ 64
-  few_states =
-      let count : length ends.0.final.routers ≡ length states = ap (λ (l : List State). length l) its_states in
-      omega (arith, count, final_count s ends.0, length-map s.routers (λ r. r.name), s.sound_routers.routers.at_most)
+  few_states = grind (arith, common_steps, its_states, final_count)
 
   pub made_text_is : (k : Kind) (counts : Counts) → counts ≡ net.traffic.counts → (text : List ℕ) → IsEndText k s states counts text → (run : WholeRun s) × IsMadeText k s run text
   made_text_is k counts are text is = (

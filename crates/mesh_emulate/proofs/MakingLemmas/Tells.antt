@@ -1,9 +1,8 @@
 -- What holds of every made network, and what its text tells.
-use Rattle.mesh_emulate.proofs.Common.{◌≡◌, ℕ, ◌+◌, List, [], ◌∷◌, ◌++◌, length, map, Option, None, Some, refl, sym, ap, ◌∙◌, subst, arith, append_assoc, codes, decimal, Contains, slice_get, append-nil, length-map, NetAddr, RouterSettings, Scenario, Router, RadioLeast, At, Settled, MadeNetworksRunMachines, MadeNetworksTellSettled, Reached, AreRadioRoutes, TellsLeastRoutes, metrics_of, IsGreatest, settled_rows, IsSettledNetwork, line_after, line_end, begins_otherwise, number, counts_plain, nothing_plain, says_exactly, tells_whether, run_states, routers_are_runs, end_is_settled, IsLine, BeginsWith, WholeRun, Kind}
+use Rattle.mesh_emulate.proofs.Common.{common_steps, ◌≡◌, ℕ, ◌+◌, List, [], ◌∷◌, ◌++◌, length, map, Option, None, Some, refl, sym, ap, ◌∙◌, subst, arith, codes, decimal, Contains, slice_get, length-map, NetAddr, RouterSettings, Scenario, Router, RadioLeast, At, Settled, MadeNetworksRunMachines, MadeNetworksTellSettled, Reached, AreRadioRoutes, TellsLeastRoutes, metrics_of, IsGreatest, settled_rows, IsSettledNetwork, line_after, line_end, begins_otherwise, number, counts_plain, nothing_plain, says_exactly, tells_whether, run_states, routers_are_runs, end_is_settled, IsLine, BeginsWith, WholeRun, Kind}
 use Rattle.mesh_emulate.specs.Making.Lines.{kind_text, made_line, greatest_text, routes_line}
 use Rattle.mesh_emulate.proofs.MakingLemmas.Reaching.{all_reached, metrics_same, where_from, is_there, all_apart}
 use Rattle.mesh_texts.specs.Network.{counts_line, settled_text}
-use Rattle.mesh_emulate.specs.declared.making.kind.Kind.TheVariants as kind
 
 pub run_as_machines : MadeNetworksRunMachines
 run_as_machines k n seed m = routers_are_runs m.scenario m.run
@@ -11,9 +10,7 @@ run_as_machines k n seed m = routers_are_runs m.scenario m.run
 -- Lines
 
 kind_line : (k : Kind) (l : List ℕ) → IsLine l → IsLine (kind_text k ++ l)
-kind_line kind.Grid l is = line_after (codes "grid") l refl is
-kind_line kind.Ring l is = line_after (codes "ring") l refl is
-kind_line kind.Random l is = line_after (codes "random") l refl is
+kind_line k l is = grind (arith, common_steps, line_after)
 
 made_is_line : (k : Kind) (s : Scenario) → IsLine (made_line k s)
 unfolding made_line
@@ -42,11 +39,7 @@ routes_begins count greatest b = begins_otherwise (codes "settled yes\n") (route
 
 -- three lines, and what stands behind them
 three : (a b c d : List ℕ) → a ++ (b ++ (c ++ d)) ≡ (a ++ (b ++ (c ++ []))) ++ (d ++ [])
-three a b c d =
-    let e = d ++ [] in
-    let f = c ++ [] in
-    ap (λ (l : List ℕ). a ++ (b ++ (c ++ l))) (sym (append-nil d)) ∙ ap (λ (l : List ℕ). a ++ (b ++ (l ++ e))) (sym (append-nil c))
-    ∙ ap (λ (l : List ℕ). a ++ l) (sym (append_assoc b f e)) ∙ sym (append_assoc a (b ++ f) e)
+three a b c d = grind (arith, common_steps)
 
 -- Whether it is settled
 

@@ -1,5 +1,5 @@
 -- The next event: its line, and what follows it.
-use Rattle.mesh_replay.proofs.Common.{◌≡◌, ℕ, List, [], ◌++◌, refl, sym, ◌∙◌, subst, Bool, true, false, ◌<◌, map, length, get_or, arith, ◌∷◌, append-nil, set-set, Some, inl, inr, Relays, AreRelays, State, HasAddresses, Item, relay_items, TracePosition, with_state, with_traffic, Case, CheckedEvent, Progress, EventLines, MayBeIn, IsProgress, LeadsPast, TellsItems, BeginsEvent, HasLines, IsSoundRouter, event_items, sent_items, with_relays, AreAtRest, IsAtRest, HasRelays, IsBegun, StopsRelays, slice_get, slice_set, length-map, slice_get_read, slice_get_within, RouterSettings, Scenario, rows_stay, NetState, Traffic, Reader, Reaches, mapped_at, same_at, set_at, leads_on as walks_on, ComingFrame, NextEvent, at, FitsOrStops, EventBy, IsComing, IsNextEvent, OpensAlone, opening_text, IsReachedNet, net_of, TakesText}
+use Rattle.mesh_replay.proofs.Common.{common_steps, ◌≡◌, ℕ, List, [], ◌++◌, refl, sym, ◌∙◌, subst, Bool, true, false, ◌<◌, map, length, get_or, arith, ◌∷◌, append-nil, set-set, Some, inl, inr, slice_get, slice_set, Relays, AreRelays, State, HasAddresses, Item, relay_items, TracePosition, with_state, with_traffic, Case, CheckedEvent, Progress, EventLines, MayBeIn, IsProgress, LeadsPast, TellsItems, BeginsEvent, IsSoundRouter, event_items, sent_items, with_relays, AreAtRest, IsAtRest, HasRelays, IsBegun, StopsRelays, length-map, slice_get_read, slice_get_within, RouterSettings, Scenario, rows_stay, NetState, Traffic, Reader, Reaches, mapped_at, same_at, set_at, leads_on as walks_on, ComingFrame, NextEvent, at, FitsOrStops, EventBy, IsComing, IsNextEvent, OpensAlone, opening_text, IsReachedNet, net_of, TakesText}
 use Rattle.mesh_replay.specs.Checking.Ending.{EndsEvent, MayBegin, TellsWholeEvent, KeepsRouters}
 use Rattle.mesh_replay.proofs.CheckingLemmas.Telling.{leads_before, leads_not, leads_nowhere, leads_on, went_one, stops_here, goes_on, goes_not}
 use Rattle.mesh_trace.proofs.PositionsLemmas.Addresses.{positions_have_addresses}
@@ -80,10 +80,7 @@ module _ {case : Case} {net : NetState} {flights : Traffic} {next : NextEvent} (
   next_within = slice_get_within case.scenario.now.routers next.router is.settings is.settings_are
 
   pub next_comes : {event : CheckedEvent} → slice_get case.scenario.now.routers next.router ≡ Some event.settings.now → (heard : ComingFrame) → next.heard ≡ Some heard → event.moment ≡ next.moment → IsComing event heard
-  next_comes there heard is_heard now = record {
-    now = (is.comes heard is_heard).0 ∙ sym now;
-    iface = subst (λ (r : RouterSettings). heard.arrival.iface < length r.interfaces) (same_at case.scenario.now.routers next.router is.settings _ is.settings_are there) (is.comes heard is_heard).1;
-  }
+  next_comes there heard is_heard now = grind (arith, common_steps, same_at)
 
 module _ (case : Case) (old : Progress) (next : NextEvent) {routers : List State} {was : State} {settings : RouterSettings} {reader : Reader} {reads : Bool} (kept : AreAtRest case.scenario.now routers)
     (there : slice_get case.scenario.now.routers next.router ≡ Some settings) (stands : slice_get routers next.router ≡ Some was)
@@ -126,9 +123,6 @@ in_again {event} is_in t_is = subst (MayBeIn event) (sym t_is) (record { setting
 pub sound_again : {s t : State} {relays : Relays} → IsSoundRouter s → t ≡ with_relays s relays → IsSoundRouter t
 sound_again {s} {relays = relays} sound t_is = subst IsSoundRouter (sym t_is) (sound_with s relays sound)
 
-pub lines_again : {s t : State} {relays : Relays} {lines : EventLines} → HasLines s lines → t ≡ with_relays s relays → HasLines t lines
-lines_again {lines = lines} has t_is = subst (λ (u : State). HasLines u lines) (sym t_is) (record { within = has.within; faces = has.faces })
-
 -- and what is sent
 pub event_told : {case : Case} {old mid new : Progress} {event : CheckedEvent} {s t : State} {relays : Relays} {fits : Bool} (lines : EventLines) → MayBeIn event s → IsSoundRouter s → HasRelays case old mid event.router s relays →
     t ≡ with_relays s relays → TellsItems case mid new event (λ u. u ≡ t) (λ u. sent_items t lines) (λ u. []) fits → TellsWholeEvent case old new event s (event_items s lines) t fits
@@ -144,13 +138,7 @@ event_told {case} {old} {mid} {new} {event} {s} {t} {fits = fits} lines is_in so
 -- an event that begins
 pub begun_by : {event : CheckedEvent} {was is : State} {now : ℕ} {By : State → List Item → Type 0} {lines : EventLines} → MayBegin event was By → BeginsEvent was now is lines → now ≡ event.moment → HasAddresses is →
     IsBegun event is lines.before
-begun_by may begins moment addresses = record {
-  is_in = record { settings = begins.follows.settings ∙ may.settings; last = begins.follows.last ∙ moment };
-  sound = begins.sound;
-  addresses = addresses;
-  none = begins.follows.relays;
-  stand = begins.stand;
-}
+begun_by may begins moment addresses = grind (arith, common_steps)
 
 -- a frame with a fault changes nothing, and nothing is told behind its line
 pub refused_ends : {case : Case} {progress : Progress} {event : CheckedEvent} {was : State} {By : State → List Item → Type 0} → MayBegin event was By → IsProgress case progress → By was [] →

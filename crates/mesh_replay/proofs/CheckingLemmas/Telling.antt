@@ -1,5 +1,5 @@
 -- Lines that are read lead on, and so items of an event are told.
-use Rattle.mesh_replay.proofs.Common.{ℕ, List, [], ◌∷◌, ◌++◌, refl, sym, ◌∙◌, ap, append_assoc, length-append, arith, Bool, true, false, ◌≡◌, zero, suc, subst, set-set, Reader, LineLeads, TracePosition, IsDone, Item, with_state, with_traffic, lines_from, IsReaderOf, leads_on as walks_on, Went, NothingLeadsOn, StopsBefore, FitsOrStops, at, IsStill, TookText, slice_get, slice_set, Some, State, Traffic as Flights, Case, CheckedEvent, Progress, MayBeIn, IsProgress, LeadsPast, TellsItems, set_here}
+use Rattle.mesh_replay.proofs.Common.{ℕ, List, [], ◌∷◌, ◌++◌, refl, sym, ◌∙◌, ap, append_assoc, length-append, arith, Bool, true, false, ◌≡◌, zero, suc, subst, set-set, slice_get, slice_set, Some, Reader, LineLeads, TracePosition, IsDone, Item, with_state, with_traffic, lines_from, IsReaderOf, leads_on as walks_on, Went, NothingLeadsOn, StopsBefore, FitsOrStops, at, IsStill, TookText, State, Traffic as Flights, Case, CheckedEvent, Progress, MayBeIn, IsProgress, LeadsPast, TellsItems, set_here}
 
 -- ---- Lines that are read lead on, one after the other.
 

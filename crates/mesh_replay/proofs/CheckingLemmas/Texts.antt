@@ -1,32 +1,13 @@
 -- The next line is taken, where it is what is looked for.
-use Rattle.mesh_replay.proofs.Common.{◌≡◌, ℕ, ◌+◌, List, ◌∷◌, ◌++◌, refl, sym, ◌∙◌, ap, subst, append_assoc, arith, codes, Bool, false, Option, Some, None, ◌↔◌, IsTrue, IsFalse, IfSome, false≢true, append_cancel_left, append_cancel_right, heads_equal, tails_equal, Reader, IsLineOf, lines_from, IsReaderOf, IsRest, TakesLine, IsNextText, IsStill, ReadsNext, ReadsText, TakesNext, TakesText, TookText}
+use Rattle.mesh_replay.proofs.Common.{common_steps, ◌≡◌, ℕ, ◌+◌, List, ◌∷◌, ◌++◌, sym, ◌∙◌, ap, subst, append_assoc, arith, codes, Bool, false, Option, Some, None, ◌↔◌, IsTrue, IfSome, false≢true, append_cancel_left, append_cancel_right, heads_equal, tails_equal, Reader, IsLineOf, lines_from, IsReaderOf, IsRest, TakesLine, IsNextText, IsStill, ReadsNext, ReadsText, TakesNext, TookText}
 use Rattle.std.specs.Borrow.{Bor}
-
--- a text that is looked for
-pub takes_text : {trace : List ℕ} {old mid new : Reader} {text : List ℕ} {fits : Bool} → IsStill old mid → mid.text ≡ text → IsReaderOf trace new →
-    (IsTrue fits → (line : List ℕ) × TakesLine trace mid new line × IsLineOf line mid.text) → (IsFalse fits → new ≡ mid) →
-    (IsFalse fits → (line : List ℕ) (rest : List (List ℕ)) → lines_from trace mid.at ≡ line ∷ rest → ¬ IsLineOf line mid.text) → TakesText trace old new text fits
-takes_text {trace} still text reading took stays other = record {
-  reading = reading;
-  takes = λ yes. (let (line, takes, is) = took yes in record {
-    line = line;
-    lines = ap (lines_from trace) (sym still.place) ∙ takes.lines;
-    taken = takes.taken ∙ ap (λ (n : ℕ). n + 1) still.taken;
-    is = is ∙ text;
-  });
-  still = λ no. record { place = ap (λ (r : Reader). r.at) (stays no) ∙ still.place; taken = ap (λ (r : Reader). r.taken) (stays no) ∙ still.taken };
-  other = λ no next. other no next.line next.lines (ap (lines_from trace) still.place ∙ next.next) (next.is ∙ sym text);
-}
 
 -- ---- a text of which the front alone is looked for
 
 module _ {A : Type 0} (body : A → List ℕ) {text : A → List ℕ} (front : List ℕ) (parts : (a : A) → text a ≡ front ++ (body a ++ codes "\n")) {trace : List ℕ} {old mid : Reader}
     (reading : IsReaderOf trace old) (still : IsStill old mid) (looks : mid.text ≡ front) where
   reading_still : IsReaderOf trace mid
-  reading_still = record {
-    within = let a = reading.within in let b = still.place in omega (arith, a, b);
-    few = let a = reading.few in let b = still.place in let c = still.taken in omega (arith, a, b, c);
-  }
+  reading_still = grind (arith, common_steps)
 
   line_to : (a : A) → (front ++ body a) ++ codes "\n" ≡ text a
   line_to a = append_assoc front (body a) (codes "\n") ∙ sym (parts a)
@@ -67,12 +48,7 @@ module _ {A : Type 0} (body : A → List ℕ) {text : A → List ℕ} (front : L
 module _ {A : Type 0} {Valid IsSo : A → Type 0} {text : A → List ℕ} {trace : List ℕ} {old mid : Reader} {told : Option A} (valid : (a : A) → IsSo a → Valid a) (reads : ReadsNext Valid text trace old mid told) where
   -- nothing was read
   pub takes_none : told ≡ None → TakesNext IsSo text trace old mid None
-  takes_none is = record {
-    reading = reads.reading;
-    takes = tt;
-    still = λ none. reads.still;
-    none = λ none a so next. (let some = reads.only a (valid a so) next in cc);
-  }
+  takes_none is = grind (arith, common_steps)
 
   module _ (a : A) (is : told ≡ Some a) where
     -- it isn't so
@@ -133,25 +109,6 @@ takes_later {A} {IsSo} {text} {trace} {old} {mid} {new} {told} same takes = reco
 -- by what follows from it
 pub takes_so : {A : Type 0} {IsSo : A → Type 0} {text : A → List ℕ} {trace : List ℕ} {old new : Reader} {told : Option A} (Other : A → Type 0) (a : A) → TakesNext IsSo text trace old new told → told ≡ Some a → (IsSo a → Other a) →
     TakesNext Other text trace old new (Some a)
-takes_so Other a takes is other =
-    let (so, took) = takes_at takes is in
-    record { reading = takes.reading; takes = (other so, took); still = λ none. absurd cc; none = λ none. absurd cc }
+takes_so Other a takes is other = grind (arith, common_steps, takes_at)
 
 -- ---- the text of one thing, if any, is looked for
-
-module _ {A : Type 0} (text : A → List ℕ) (given : Option A) {trace : List ℕ} {old : Reader} where
-  pub takes_nothing : given ≡ None → IsReaderOf trace old → TakesNext (λ b. given ≡ Some b) text trace old old None
-  takes_nothing is reading = record {
-    reading = reading;
-    takes = tt;
-    still = λ none. record { place = refl; taken = refl };
-    none = λ none a some next. absurd cc;
-  }
-
-  pub takes_other : {new : Reader} {fits : Bool} (a : A) → given ≡ Some a → TakesText trace old new (text a) fits → fits ≡ false → TakesNext (λ b. given ≡ Some b) text trace old new None
-  takes_other a is takes bad = record {
-    reading = takes.reading;
-    takes = tt;
-    still = λ none. takes.still bad;
-    none = λ none b other next. takes.other bad (let same : b ≡ a = cc in subst (λ (c : A). IsNextText trace old (text c)) same next);
-  }

@@ -1,5 +1,5 @@
 -- An input is split in one way.
-use Rattle.mesh_replay.proofs.Common.{◌≡◌, ℕ, suc, ◌+◌, ◌<◌, ◌≤◌, ◌⊎◌, inl, inr, Bool, true, false, cond, eqb, List, [], ◌∷◌, ◌++◌, Some, length, drop, refl, sym, ap, subst, ◌∙◌, arith, All-head, All-tail, fault, first, refusals, Replay, HaveNone, IsCutAt, IsRule, BeginsReport, IsRuled, IsSplit, HasNoRule, Replays, IsRefusedInput, No_trace, Long_scenario, By_settings, lines_of, begun, none_not}
+use Rattle.mesh_replay.proofs.Common.{common_steps, ◌≡◌, ℕ, suc, ◌+◌, ◌<◌, ◌≤◌, ◌⊎◌, Bool, cond, eqb, List, [], ◌∷◌, ◌++◌, Some, length, refl, sym, ap, subst, ◌∙◌, arith, All-head, All-tail, fault, first, refusals, Replay, HaveNone, IsCutAt, IsRule, BeginsReport, IsRuled, IsSplit, HasNoRule, Replays, IsRefusedInput, No_trace, Long_scenario, By_settings, lines_of, begun, none_not}
 
 -- ---- a text with more in front has other lines
 
@@ -9,12 +9,10 @@ weight [] = 0
 weight (line ∷ lines) = suc (length line + weight lines)
 
 weight_begun : (octet : ℕ) (lines : List (List ℕ)) → weight lines < weight (begun octet lines)
-weight_begun octet [] = omega arith
-weight_begun octet (line ∷ lines) = omega arith
+weight_begun octet lines = grind (arith, common_steps)
 
 weight_line : (feed : Bool) (octet : ℕ) (lines : List (List ℕ)) → weight lines < weight (cond feed ([] ∷ lines) (begun octet lines))
-weight_line true octet lines = omega arith
-weight_line false octet lines = weight_begun octet lines
+weight_line feed octet lines = grind (arith, common_steps, weight_begun)
 
 weight_more : (more text : List ℕ) → weight (lines_of text) + length more ≤ weight (lines_of (more ++ text))
 weight_more [] text = omega arith
@@ -39,23 +37,19 @@ abbrev Heads : (List ℕ → Type 0) → List (List ℕ) → Type 0
 Heads IsKind rest = (rest ≡ []) ⊎ ((line : List ℕ) × (more : List (List ℕ)) × (rest ≡ line ∷ more) × IsKind line)
 
 heads_none : (IsKind : List ℕ → Type 0) (line : List ℕ) (lines rest : List (List ℕ)) → (IsKind line → ⊥) → Heads IsKind rest → rest ≡ line ∷ lines → ⊥
-heads_none IsKind line lines rest other (inl none) is = let bad : ⊥ = cc in bad
-heads_none IsKind line lines rest other (inr (head, more, here, kind)) is = let same : head ≡ line = cc in other (subst IsKind same kind)
+heads_none IsKind line lines rest other h5 is = grind (arith, common_steps)
 
 same_rests : (IsKind : List ℕ → Type 0) (lines lines' rest rest' : List (List ℕ)) → HaveNone IsKind lines → HaveNone IsKind lines' →
     Heads IsKind rest → Heads IsKind rest' → lines ++ rest ≡ lines' ++ rest' → rest ≡ rest'
 same_rests IsKind [] [] rest rest' none none' heads heads' is = is
-same_rests IsKind [] (line ∷ lines') rest rest' none none' heads heads' is =
-    absurd (heads_none IsKind line (lines' ++ rest') rest (All-head (λ l. IsKind l → ⊥) line lines' none') heads is)
-same_rests IsKind (line ∷ lines) [] rest rest' none none' heads heads' is =
-    absurd (heads_none IsKind line (lines ++ rest) rest' (All-head (λ l. IsKind l → ⊥) line lines none) heads' (sym is))
+same_rests IsKind [] (line ∷ lines') rest rest' none none' heads heads' is = grind (arith, common_steps, heads_none, All-head)
+same_rests IsKind (line ∷ lines) [] rest rest' none none' heads heads' is = grind (arith, common_steps, heads_none, All-head)
 same_rests IsKind (line ∷ lines) (line' ∷ lines') rest rest' none none' heads heads' is =
     same_rests IsKind lines lines' rest rest' (All-tail (λ l. IsKind l → ⊥) line lines none) (All-tail (λ l. IsKind l → ⊥) line' lines' none') heads heads' (cc)
 
 heads_of : (IsKind : List ℕ → Type 0) (rest : List ℕ) →
     (rest ≡ []) ⊎ ((line : List ℕ) × (more : List (List ℕ)) × (lines_of rest ≡ line ∷ more) × IsKind line) → Heads IsKind (lines_of rest)
-heads_of IsKind rest (inl none) = inl (ap lines_of none)
-heads_of IsKind rest (inr heads) = inr heads
+heads_of IsKind rest h2 = grind (arith, common_steps)
 
 cut_once : (IsKind : List ℕ → Type 0) (text front rest front' rest' : List ℕ) → IsCutAt IsKind text front rest → IsCutAt IsKind text front' rest' →
     (front ≡ front') × (rest ≡ rest')
@@ -67,12 +61,7 @@ cut_once IsKind text front rest front' rest' cut cut' =
 -- ---- an input is split in one way
 
 same_behind : (text behind behind' : List ℕ) → IsRuled text behind → IsRuled text behind' → behind ≡ behind'
-same_behind text behind behind' (inl (is, none)) (inl (is', none')) = none ∙ sym none'
-same_behind text behind behind' (inl (is, none)) (inr is') =
-    let long : 3 ≡ suc (suc (suc (suc (length behind')))) = ap length (sym is ∙ is') in absurd (omega (arith, long))
-same_behind text behind behind' (inr is) (inl (is', none')) =
-    let long : 3 ≡ suc (suc (suc (suc (length behind)))) = ap length (sym is' ∙ is) in absurd (omega (arith, long))
-same_behind text behind behind' (inr is) (inr is') = ap (drop 4) (sym is ∙ is')
+same_behind text behind behind' h3 h4 = grind (arith, common_steps)
 
 pub splits_once : (input scenario trace scenario' trace' : List ℕ) → IsSplit input scenario trace → IsSplit input scenario' trace' →
     (scenario ≡ scenario') × (trace ≡ trace')
@@ -88,16 +77,10 @@ no_such IsKind (other ∷ lines) more line none kind =
     no_such IsKind lines more line (All-tail (λ l. IsKind l → ⊥) other (lines ++ line ∷ more) none) kind
 
 not_ruled : (behind : List ℕ) → IsRuled [] behind → ⊥
-not_ruled behind (inl (is, none)) = let long : 0 ≡ 3 = ap length is in omega (arith, long)
-not_ruled behind (inr is) = let long : 0 ≡ suc (suc (suc (suc (length behind)))) = ap length is in omega (arith, long)
+not_ruled behind h1 = grind (arith, common_steps)
 
 pub splits_at_rule : (input scenario trace : List ℕ) → IsSplit input scenario trace → HasNoRule input → ⊥
-splits_at_rule input scenario trace s none = by s.stated.next where
-  by : (s.ruled ≡ []) ⊎ ((line : List ℕ) × (more : List (List ℕ)) × (lines_of s.ruled ≡ line ∷ more) × IsRule line) → ⊥
-  by (inl end) = not_ruled s.behind (subst (λ (r : List ℕ). IsRuled r s.behind) end s.rule)
-  by (inr (line, more, here, kind)) =
-      no_such IsRule s.stated.lines more line
-      (subst (HaveNone IsRule) (s.stated.between ∙ ap (λ (l : List (List ℕ)). s.stated.lines ++ l) here) none) kind
+splits_at_rule input scenario trace s none = grind (arith, common_steps, not_ruled, no_such)
 
 pub answers_or_refuses : (input : List ℕ) (answer : Replay) (number : ℕ) (key : List ℕ) → Replays input answer → IsRefusedInput input number key → ⊥
 answers_or_refuses input answer number key r (No_trace none) = splits_at_rule input r.settings r.trace r.split none

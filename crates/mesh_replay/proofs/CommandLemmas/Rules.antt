@@ -1,5 +1,5 @@
 -- Lines of an input: the first line of a text, the rule, and how a text is cut in front of a line.
-use Rattle.mesh_replay.proofs.Common.{◌≡◌, ℕ, suc, ◌≤◌, ◌⊎◌, inl, inr, eqb, List, [], ◌∷◌, ◌++◌, codes, length, refl, sym, ap, ◌∙◌, arith, take, drop, append_assoc, false, cases_Bool, eqb-true, IsRuled, HaveNone, IsCutAt, lines_of, begun, drop_all, take-append-drop, append-nil, All-nil, All-push, IsMarkLine, word_of, TellsNext, Reader, lines_from}
+use Rattle.mesh_replay.proofs.Common.{common_steps, ◌≡◌, ℕ, ◌≤◌, ◌⊎◌, inl, inr, eqb, List, [], ◌∷◌, ◌++◌, length, refl, sym, ap, ◌∙◌, arith, drop, append_assoc, false, append-nil, cases_Bool, eqb-true, IsRuled, HaveNone, lines_of, begun, All-push, IsMarkLine, word_of, TellsNext, Reader, lines_from}
 use Rattle.mesh_replay.specs.Command.Split.{BeginsWithRule}
 use Rattle.mesh_replay.specs.declared.command.marks.Mark.{Mark}
 use Rattle.mesh_replay.specs.declared.command.marks.Mark.TheVariants as mark
@@ -14,18 +14,11 @@ pub data FirstLine (text line : List ℕ) (more : List (List ℕ)) : Type 0 wher
 -- the lines of a text with an octet more in front, by those of the text
 begun_first : (octet : ℕ) (lines : List (List ℕ)) (line : List ℕ) (more : List (List ℕ)) → begun octet lines ≡ line ∷ more →
     ((lines ≡ []) × (line ≡ octet ∷ []) × (more ≡ [])) ⊎ ((rest : List ℕ) × (lines ≡ rest ∷ more) × (line ≡ octet ∷ rest))
-begun_first octet [] line more is = inl (refl, cc, cc)
-begun_first octet (rest ∷ lines) line more is = inr (rest, cc, cc)
+begun_first octet lines line more is = grind (arith, common_steps)
 
 pub no_lines : (text : List ℕ) → lines_of text ≡ [] → text ≡ []
 no_lines [] is = refl
-no_lines (octet ∷ text) is = elim (cases_Bool (eqb octet 10)) [
-  | inl feed ↦ let bad : [] ∷ lines_of text ≡ [] = rw feed at is in absurd (cc)
-  | inr other ↦ absurd (no_begun octet (lines_of text) (rw other at is))
-] where
-  no_begun : (octet : ℕ) (lines : List (List ℕ)) → begun octet lines ≡ [] → ⊥
-  no_begun octet [] is = cc
-  no_begun octet (line ∷ lines) is = cc
+no_lines (octet ∷ text) is = grind (arith, common_steps, cases_Bool)
 
 more_first : (octet : ℕ) (text rest : List ℕ) (line : List ℕ) (more : List (List ℕ)) → FirstLine text rest more → line ≡ octet ∷ rest → FirstLine (octet ∷ text) line more
 more_first octet text rest line more (Is_last is none) same = Is_last (ap (λ (t : List ℕ). octet ∷ t) is ∙ sym same) none
@@ -52,10 +45,7 @@ first_line (octet ∷ text) line more is = elim (cases_Bool (eqb octet 10)) [
 -- ---- the line `---`
 
 pub rule_alone : (text : List ℕ) → BeginsWithRule text → length text ≤ 3 → IsRuled text []
-rule_alone text (more, begins) short = by (first_line text (codes "---") more begins) where
-  by : FirstLine text (codes "---") more → IsRuled text []
-  by (Is_last is none) = inl (is, refl)
-  by (Is_followed behind is lines) = let long : length text ≡ suc (suc (suc (suc (length behind)))) = ap length is in absurd (omega (arith, long, short))
+rule_alone text h1 short = grind (arith, common_steps, first_line)
 
 -- ---- How a text is cut in front of a line.
 
@@ -65,9 +55,6 @@ pub record Passed (IsKind : List ℕ → Type 0) (text : List ℕ) (at : ℕ) : 
   pub between : lines_of text ≡ lines ++ lines_of (drop at text)
   pub none : HaveNone IsKind lines
 
-pub pass_none : (IsKind : List ℕ → Type 0) (text : List ℕ) (at : ℕ) → at ≡ 0 → Passed IsKind text at
-pass_none IsKind text at start = record { lines = []; between = rw start refl; none = All-nil (λ line. IsKind line → ⊥) }
-
 -- one line more
 pub pass_line : (IsKind : List ℕ → Type 0) (text line : List ℕ) (at at' : ℕ) → Passed IsKind text at →
     lines_of (drop at text) ≡ line ∷ lines_of (drop at' text) → (IsKind line → ⊥) → Passed IsKind text at'
@@ -76,23 +63,6 @@ pass_line IsKind text line at at' passed here other = record {
   between = passed.between ∙ (ap (λ (l : List (List ℕ)). passed.lines ++ l) here ∙ sym (append_assoc passed.lines (line ∷ []) (lines_of (drop at' text))));
   none = All-push (λ l. IsKind l → ⊥) passed.lines line passed.none other;
 }
-
--- a place where a text is cut
-pub cut_there : (IsKind : List ℕ → Type 0) (text : List ℕ) (at : ℕ) → Passed IsKind text at →
-    (drop at text ≡ []) ⊎ ((line : List ℕ) × (more : List (List ℕ)) × (lines_of (drop at text) ≡ line ∷ more) × IsKind line) →
-    IsCutAt IsKind text (take at text) (drop at text)
-cut_there IsKind text at passed next = record {
-  whole = sym (take-append-drop at text);
-  lines = passed.lines;
-  between = passed.between;
-  none = passed.none;
-  next = next;
-}
-
--- nothing is behind the end
-pub cut_at_end : (IsKind : List ℕ → Type 0) (text : List ℕ) (at : ℕ) → Passed IsKind text at → length text ≡ at →
-    IsCutAt IsKind text (take at text) (drop at text)
-cut_at_end IsKind text at passed end = cut_there IsKind text at passed (inl (drop_all at text (omega (arith, end))))
 
 -- ---- Lines that end a part of an input.
 

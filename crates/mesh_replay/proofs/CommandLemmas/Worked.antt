@@ -1,5 +1,5 @@
 -- Inputs and their parts, worked by hand.
-use Rattle.mesh_replay.proofs.Common.{◌≡◌, ℕ, ◌<◌, ◌≤◌, inl, inr, List, [], ◌∷◌, ◌++◌, codes, length, refl, sym, ap, ◌∙◌, arith, length-append, append-nil, All-nil, All-cons, HaveNone, IsRule, BeginsReport, IsCutAt, lines_of}
+use Rattle.mesh_replay.proofs.Common.{common_steps, ◌≡◌, ℕ, ◌<◌, ◌≤◌, inl, inr, List, [], ◌∷◌, ◌++◌, codes, length, refl, sym, ap, ◌∙◌, arith, length-append, append-nil, All-nil, All-cons, HaveNone, IsRule, BeginsReport, IsCutAt, lines_of}
 use Rattle.mesh_replay.specs.Command.Worked.{ManyLines, NoRules, Reports, EmptyTraces, EmptyScenarios}
 
 -- lines of other lengths
@@ -42,12 +42,7 @@ many_lines = record {
 }
 
 pub none_ruled : NoRules
-none_ruled = (
-  no_rules,
-  no_rule (codes "a") (codes "b" ∷ []) (λ is. omega (arith, is)) (no_rule (codes "b") [] (λ is. omega (arith, is)) no_rules),
-  no_rule (codes "a") ((codes "---" ++ 13 ∷ []) ∷ codes "b" ∷ []) (λ is. omega (arith, is)) (no_rule (codes "---" ++ 13 ∷ []) (codes "b" ∷ []) (λ is. omega (arith, is)) (no_rule (codes "b") [] (λ is. omega (arith, is)) no_rules)),
-  no_rule (codes "a") (codes " --- " ∷ []) (λ is. omega (arith, is)) (no_rule (codes " --- ") [] (λ is. omega (arith, is)) no_rules),
-)
+none_ruled = grind (arith, common_steps, no_rules, no_rule)
 
 pub reports : Reports
 reports = (

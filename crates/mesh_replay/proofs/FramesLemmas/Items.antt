@@ -1,5 +1,5 @@
 -- The items of an event are told, each by a line and by the losses of the frame that the line tells.
-use Rattle.mesh_replay.proofs.Common.{◌≡◌, ℕ, List, [], ◌∷◌, ◌++◌, refl, sym, ◌∙◌, ap, append_assoc, codes, decimal, Option, Some, Ok, Err, inl, inr, ◌+◌, drop, subst, append-nil, Bool, true, false, ◌<◌, ◌≤◌, map, length, None, zero, suc, ◌%◌, get_or, arith, length-append, ◌⊎◌, ◌≢◌, slice_get, slice_set, encode_lower, decode_of, RouterSettings, joined, line_of, sent_line, lost_line, DueMessage, WritesSent, sent_front, GoesOut, HasHello, HasTc, drop_more, drop_all, get_or_append_left, get_or_push, get_or_from_slice_get, slice_get_within, Scenario, State, Reader, Frame, NetState, Traffic as Flights, Sends, TellsItem, Tells_frame, Tells_loss, TellsFrame, Tells_hello, AreTcFrames, Tells_tc, Item, Lost, Sent, with_state, with_traffic, Hello, IsLineOf, lines_from, Case, CheckedEvent, Progress, AnyState, MayBeIn, IsProgress, LeadsPast, StandsIn, TellsItems, at, Went, FitsOrStops, IsNextText, IsStill, TakesText, TookText, sent_text, TakesNext, enumerate_from, item_at, Interface, is_nothing, cases_lt, Tc as TcValue, TcRow, PartSpan, part_of, on_each, IsTcOfRows, span_items}
+use Rattle.mesh_replay.proofs.Common.{◌≡◌, ℕ, List, [], ◌∷◌, ◌++◌, refl, sym, ◌∙◌, ap, append_assoc, codes, decimal, Option, Some, Ok, Err, inl, inr, ◌+◌, drop, subst, append-nil, Bool, true, false, ◌<◌, ◌≤◌, map, length, None, zero, suc, ◌%◌, get_or, arith, length-append, ◌⊎◌, ◌≢◌, slice_get, slice_set, encode_lower, decode_of, RouterSettings, joined, line_of, sent_line, lost_line, sent_front, GoesOut, HasHello, HasTc, drop_more, drop_all, get_or_append_left, get_or_push, get_or_from_slice_get, slice_get_within, Scenario, State, Reader, Frame, NetState, Traffic as Flights, Sends, TellsItem, Tells_frame, Tells_loss, TellsFrame, Tells_hello, AreTcFrames, Tells_tc, Item, Lost, Sent, with_state, with_traffic, Hello, IsLineOf, lines_from, Case, CheckedEvent, Progress, AnyState, MayBeIn, IsProgress, LeadsPast, StandsIn, TellsItems, at, Went, FitsOrStops, IsNextText, IsStill, TakesText, TookText, sent_text, TakesNext, enumerate_from, item_at, Interface, is_nothing, cases_lt, Tc as TcValue, TcRow, PartSpan, part_of, on_each, IsTcOfRows, span_items}
 use Rattle.hex.specs.declared.error.FromHexError.{FromHexError}
 use Rattle.hex.specs.declared.error.FromHexError.TheVariants.{OutOfMemory}
 use Rattle.hex.proofs.HexLemmas.{decode_of-encode_lower}
@@ -16,7 +16,6 @@ use Rattle.mesh_atoms.specs.Validity.{IsValidity}
 use Rattle.mesh_trace.proofs.machine.Originators.{some_interface}
 use Rattle.mesh_trace.proofs.PositionsLemmas.LinesLeft.{validity_once}
 use Rattle.mesh_trace.proofs.PositionsLemmas.TcFrames.{on_first, one_part, parts_one, first_is}
-use Rattle.mesh_replay.specs.declared.checking.octets.DueMessage.TheVariants as due
 
 -- ---- The octets that the line of a frame tells.
 
@@ -41,11 +40,6 @@ pub no_octets : (digits : List ℕ) (fault : FromHexError) (told : Option (List 
 no_octets digits fault told (inl full) not other are same = absurd (not full)
 no_octets digits fault told (inr read) not other are same =
     let both : Err fault ≡ Ok other = sym read ∙ (ap decode_of (sym same) ∙ decode_of-encode_lower other are) in absurd cc
-
--- a frame that spells a message has octets
-pub written_octets : (r : RouterSettings) (message : DueMessage) (bytes : List ℕ) → WritesSent r message bytes → AreOctets bytes
-written_octets r (due.Hello hello) bytes written = written.packet.octets
-written_octets r (due.Tc tc validity) bytes written = written.packet.octets
 
 -- ---- An item of an event is told by one line, and by the losses of the frame that the line tells.
 

@@ -1,6 +1,5 @@
 -- A router has one HELLO on an interface at a moment, and one TC of some of its rows with a number.
-use Rattle.mesh_replay.proofs.Common.{◌≡◌, ℕ, ◌≤◌, inl, inr, refl, sym, ◌∙◌, ap, subst, arith, Option, Some, None, Contains, List, Bool, Addr4, Interface, RouterSettings, HasAddressOn, State, link_at, neighbour_at, HasSymmetricWith, one_part, IsValue, same_answer, Tc, TcRow, IsTcOfRows}
-use Rattle.mesh_atoms.specs.State.{state_of}
+use Rattle.mesh_replay.proofs.Common.{common_steps, ◌≡◌, ℕ, inl, inr, refl, sym, ◌∙◌, ap, subst, arith, Option, Some, None, Contains, List, Bool, Addr4, Interface, RouterSettings, HasAddressOn, State, link_at, neighbour_at, HasSymmetricWith, one_part, IsValue, same_answer, Tc, TcRow, IsTcOfRows, state_of}
 use Rattle.mesh_atoms.proofs.Lookups.{addr_equiv, has_found, has_found_on, same_addr, link_equiv, same_link}
 use Rattle.mesh_atoms.specs.declared.addr.NetAddr.{NetAddr}
 use Rattle.mesh_atoms.specs.declared.codes.metric.Metric.{Metric}
@@ -44,16 +43,10 @@ first_same {A} a b u v e = ap (λ (o : Option (A × ℕ)). first_or a o) e
 
 -- one value has the property, or none
 value_once : {A : Type 0} (P : A → Type 0) → ((x y : A) → P x → P y → x ≡ y) → (v w : Option A) → IsValue P v → IsValue P w → v ≡ w
-value_once P once None None h k = refl
-value_once P once None (Some y) h k = absurd (h y k)
-value_once P once (Some x) None h k = absurd (k x h)
-value_once P once (Some x) (Some y) h k = ap (λ z. Some z) (once x y h k)
+value_once P once v w h k = grind (arith, common_steps)
 
 row_apart : (x y : HelloRow) → IsBefore x.addr y.addr → IsBefore y.addr x.addr → ⊥
-row_apart x y (inl p) (inl q) = omega (arith, p, q)
-row_apart x y (inl p) (inr (same, q)) = omega (arith, p, same)
-row_apart x y (inr (same, p)) (inl q) = omega (arith, q, same)
-row_apart x y (inr (same, p)) (inr (same', q)) = omega (arith, p, q)
+row_apart x y h2 h3 = grind (arith, common_steps)
 
 -- HELLOs by their parts
 hello_by_parts : (f g : Hello) → f.originator ≡ g.originator → f.validity ≡ g.validity → f.interval ≡ g.interval → f.willing ≡ g.willing → f.rows ≡ g.rows → f ≡ g
@@ -65,12 +58,7 @@ hello_by_parts f g o v i w r =
     ∙ from_rows g.originator g.validity g.interval g.willing f.rows g.rows f.ascending g.ascending r)))
 
 pub rounded_once : (ticks one other : ℕ) → IsRoundedUp ticks one → IsRoundedUp ticks other → one ≡ other
-rounded_once ticks one other h k =
-    let a = h.least k.code k.sent (subst (λ (n : ℕ). ticks ≤ n) (sym k.is) k.enough) in
-    let b = k.least h.code h.sent (subst (λ (n : ℕ). ticks ≤ n) (sym h.is) h.enough) in
-    let here = h.is in
-    let there = k.is in
-    omega (arith, a, b, here, there)
+rounded_once ticks one other h k = grind (arith, common_steps)
 
 module _ (s : State) (i now m : ℕ) (sound : SoundNeighbourhood s.settings m s.bases.neighbourhood) where
   -- one link of the interface has the address
@@ -188,9 +176,4 @@ tc_by_parts a b o s n c v i r =
     ∙ from_tc_rows b.originator b.sequence b.ansn b.complete b.validity b.interval a.rows b.rows a.ascending b.ascending r)))))
 
 pub tc_once : (s : State) (validity : List ℕ) (complete : Bool) (sequence : ℕ) (rows : List TcRow) (a b : Tc) → IsTcOfRows s validity complete sequence rows a → IsTcOfRows s validity complete sequence rows b → a ≡ b
-tc_once s validity complete sequence rows a b h k =
-    let (t, every, rounded) = h.interval in
-    let (u, every', rounded') = k.interval in
-    let intervals : a.interval ≡ b.interval = every ∙ (ap (λ (n : ℕ). Some n) (rounded_once s.settings.times.tc t u rounded rounded') ∙ sym every') in
-    tc_by_parts a b (one_originator s.settings a.originator b.originator h.originator k.originator) (h.sequence_is ∙ sym k.sequence_is) (h.ansn ∙ sym k.ansn) (h.complete_is ∙ sym k.complete_is)
-    (h.validity_is ∙ sym k.validity_is) intervals (h.rows_are ∙ sym k.rows_are)
+tc_once s validity complete sequence rows a b h k = grind (arith, common_steps, rounded_once, tc_by_parts, one_originator)

@@ -1,5 +1,5 @@
 -- Which relays a router may choose.
-use Rattle.mesh_replay.proofs.Common.{◌≡◌, ℕ, ◌+◌, ◌-◌, ◌<◌, ◌≤◌, inl, inr, List, length, get_or, subst, arith, ◌^◌, refl, Bool, true, false, Contains, Option, Some, None, Result, Ok, Err, cases_lt, get_or_default, Addr4, ◌↔◌, IfOk, IsTrue, cond, All-weaker, All-contains_itself, Relays, AreRelays, AreRelaysOf, State, IsAscending, Before, StandAgain, with_relays, AreWide, IsAgain, IsGraphFor, MayTell, relays_for, HasAddresses, AreAddresses}
+use Rattle.mesh_replay.proofs.Common.{common_steps, ◌≡◌, ℕ, ◌+◌, ◌-◌, ◌<◌, ◌≤◌, inl, inr, List, length, get_or, subst, arith, ◌^◌, Bool, Contains, Option, Some, None, Result, Ok, Err, ◌↔◌, IfOk, IsTrue, cases_lt, get_or_default, Addr4, All-weaker, All-contains_itself, Relays, AreRelaysOf, State, IsAscending, Before, StandAgain, with_relays, AreWide, IsAgain, IsGraphFor, MayTell, HasAddresses, AreAddresses}
 use Rattle.mesh_atoms.specs.declared.graphs.Direct.{Direct}
 use Rattle.mesh_atoms.specs.declared.graphs.Far.{Far}
 use Rattle.mesh_atoms.specs.declared.graphs.Near.{Near}
@@ -26,16 +26,7 @@ rises_on addrs i z some inside step before j k d less upto within = elim (cases_
 
 -- relays are chosen whatever relays there are
 pub told_with : (s : State) (r : Relays) (iface : Option ℕ) (relays : List Addr4) → MayTell s iface relays → MayTell (with_relays s r) iface relays
-told_with s r (Some i) relays may = record {
-  graph = may.graph;
-  is_graph = record { near = may.is_graph.near; direct = may.is_graph.direct; far = may.is_graph.far };
-  are = may.are;
-}
-told_with s r None relays may = record {
-  graph = may.graph;
-  is_graph = record { near = may.is_graph.near; direct = may.is_graph.direct; far = may.is_graph.far };
-  are = may.are;
-}
+told_with s r iface relays may = grind (arith, common_steps)
 
 pub told_apart : (s : State) (r : Relays) (iface : Option ℕ) (relays : List Addr4) → MayTell (with_relays s r) iface relays → MayTell s iface relays
 told_apart s r iface relays may = told_with (with_relays s r) s.relays iface relays may
@@ -112,17 +103,4 @@ all_wide relays are = All-weaker (λ (a : Addr4). Contains relays a) (λ (a : Ad
 -- ---- those of the event before
 
 pub again_may : (s : State) (before : Before) (iface : Option ℕ) (relays : List Addr4) → StandAgain s before → IsAgain before iface relays → MayTell s iface relays
-again_may s before iface relays stand is = by_cases before.stand refl
-  where
-    by_iface : (i : Option ℕ) → AreRelays (with_relays s before.relays) s.last → relays_for before.relays i ≡ Some relays → MayTell s i relays
-    by_iface (Some i) are here =
-        let (graph, is_graph, chosen) = are.flooding i relays here in
-        record { graph = graph; is_graph = record { near = is_graph.near; direct = is_graph.direct; far = is_graph.far }; are = chosen }
-    by_iface None are here =
-        let (graph, is_graph, chosen) = are.routing in
-        let same : before.relays.routing ≡ relays = cc in
-        record { graph = graph; is_graph = record { near = is_graph.near; direct = is_graph.direct; far = is_graph.far }; are = subst (AreRelaysOf graph) same chosen }
-
-    by_cases : (b : Bool) → before.stand ≡ b → MayTell s iface relays
-    by_cases true stands = by_iface iface (stand stands) (subst (λ (b : Bool). cond b (relays_for before.relays iface) None ≡ Some relays) stands is)
-    by_cases false stands = absurd (let no : None ≡ Some relays = subst (λ (b : Bool). cond b (relays_for before.relays iface) None ≡ Some relays) stands is in cc)
+again_may s before iface relays stand is = grind (arith, common_steps)

@@ -1,5 +1,5 @@
 -- The lines of relays: one line, and then all of an event.
-use Rattle.mesh_replay.proofs.Common.{◌≡◌, ℕ, ◌<◌, List, [], ◌∷◌, ◌++◌, refl, sym, ◌∙◌, ap, append_assoc, codes, true, false, Option, Some, None, length, ◌+◌, map, subst, arith, slice_get, Addr4, Interface, RouterSettings, State, item_at as stands, length_pushed as longer, name_of_face, face_name, relays_text, flooding_text, routing_relays_line, Reader, NetState, TellsItem, Tells_flooding, Tells_routing, with_flooding, with_routing, Item, Flooding, Routing, with_state, relay_items, IsLineOf, Case, CheckedEvent, Progress, MayBeIn, LeadsPast, IsProgress, MayTell, HasRelays, HasTold, StopsRelays, relays_left, with_flooded, IsNextText, IsStill, TookText, told_text, TakesNext, enumerate_from, drop_all, drop_more, Relays, none_told, each_more, is_nothing, with_relays}
+use Rattle.mesh_replay.proofs.Common.{common_steps, ◌≡◌, ℕ, ◌<◌, List, [], ◌∷◌, ◌++◌, refl, sym, ◌∙◌, ap, append_assoc, codes, true, false, Option, Some, None, length, ◌+◌, map, subst, arith, slice_get, Addr4, Interface, RouterSettings, State, item_at as stands, length_pushed as longer, name_of_face, face_name, relays_text, flooding_text, routing_relays_line, Reader, NetState, TellsItem, Tells_flooding, Tells_routing, with_flooding, with_routing, Item, Flooding, Routing, with_state, relay_items, IsLineOf, Case, CheckedEvent, Progress, MayBeIn, LeadsPast, IsProgress, MayTell, HasRelays, HasTold, StopsRelays, relays_left, with_flooded, IsNextText, IsStill, TookText, told_text, TakesNext, enumerate_from, drop_all, drop_more, Relays, none_told, each_more, is_nothing, with_relays}
 use Rattle.mesh_replay.proofs.FramesLemmas.Items.{item_told, item_not}
 use Rattle.mesh_replay.proofs.CheckingLemmas.Telling.{leads_next, leads_not, leads_nowhere, progress_read}
 use Rattle.mesh_replay.proofs.CheckingLemmas.Texts.{takes_at}
@@ -28,10 +28,7 @@ unfolding face_name
 face_text faces i face here = ap name_of_face here
 
 flooding_line_is : (r : RouterSettings) (i : ℕ) (face : Interface) (relays : List Addr4) → slice_get r.interfaces i ≡ Some face → told_text r (Some i) relays ≡ flooding_text r.name face.name relays
-flooding_line_is r i face relays here =
-    let behind = relays_text relays ++ codes "\n" in
-    ap (λ (l : List ℕ). codes "relays " ++ l) (append_assoc r.name (codes " flooding " ++ face_name r.interfaces i) behind
-    ∙ ap (λ (name : List ℕ). r.name ++ (codes " flooding " ++ (name ++ behind))) (face_text r.interfaces i face here))
+flooding_line_is r i face relays here = grind (arith, common_steps, face_text)
 
 routing_line_is : (r : RouterSettings) (relays : List Addr4) → told_text r None relays ≡ routing_relays_line r.name relays
 unfolding routing_relays_line
@@ -52,12 +49,7 @@ record ToldBy (s : State) (iface : Option ℕ) (line : List ℕ) : Type 0 where
   text : IsLineOf line (told_text s.settings iface relays)
 
 told_by : (net : NetState) (x : ℕ) (s : State) (iface : Option ℕ) (line : List ℕ) (new : NetState) (more : List Item) → TellsItem net x s line (item_for iface) new more → ToldBy s iface line
-told_by net x s (Some i) line new more (Tells_flooding face relays g here graph are is) = record {
-  relays = relays;
-  may = record { graph = g; is_graph = graph; are = are };
-  text = is ∙ sym (flooding_line_is s.settings i face relays here);
-}
-told_by net x s None line new more (Tells_routing relays g graph are is) = record { relays = relays; may = record { graph = g; is_graph = graph; are = are }; text = is ∙ sym (routing_line_is s.settings relays) }
+told_by net x s iface line new more h7 = grind (arith, common_steps, flooding_line_is, routing_line_is)
 
 text_is : {event : CheckedEvent} {s : State} → MayBeIn event s → (iface : Option ℕ) (relays : List Addr4) → told_text event.settings.now iface relays ≡ told_text s.settings iface relays
 text_is is_in iface relays = ap (λ (r : RouterSettings). told_text r iface relays) (sym is_in.settings)

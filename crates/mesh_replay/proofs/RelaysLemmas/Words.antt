@@ -1,5 +1,5 @@
 -- Addresses are read back from their texts.
-use Rattle.mesh_replay.proofs.Common.{◌≡◌, ℕ, zero, suc, ◌+◌, ◌-◌, ◌<◌, ◌^◌, ◌/◌, ◌%◌, ◌*◌, inl, inr, true, false, Bool, eqb, List, [], ◌∷◌, ◌++◌, length, length-append, take, drop, refl, sym, ap, ◌∙◌, subst, arith, append_assoc, codes, decimal, Some, None, Option, below_more, All, ◌==◌, ◌&&◌, nat_lt, slice_range, slice_index, position_from, cases_Bool, eqb-true, ne_eqb, lt-ltb, eq-eqb, ltb-true, ltb-false, and_parts as both, append-nil, take_at, drop_at, take_all, Addr4, number_of, cut, dotted_of, address_of, dotted, spaced, relays_text, All-head, All-tail, contains_none, same_relays}
+use Rattle.mesh_replay.proofs.Common.{common_steps, ◌≡◌, ℕ, zero, suc, ◌+◌, ◌-◌, ◌<◌, ◌^◌, true, false, Bool, eqb, List, [], ◌∷◌, ◌++◌, length, length-append, take, drop, refl, sym, ap, ◌∙◌, subst, arith, append_assoc, codes, decimal, Some, None, Option, below_more, All, ◌==◌, ◌&&◌, slice_range, slice_index, append-nil, position_from, cases_Bool, eqb-true, lt-ltb, eq-eqb, and_parts as both, drop_at, take_all, Addr4, number_of, cut, dotted_of, address_of, dotted, spaced, relays_text, All-head, All-tail, contains_none, same_relays}
 use Rattle.std.specs.Fmt.{digits}
 use Rattle.std.proofs.lemmas.Iterator.Adapters.{position_from-zero}
 use Rattle.mesh_texts.proofs.Cuts.{lacks, lacks_rest, not_here}
@@ -15,8 +15,7 @@ is_number n None = false
 is_number n (Some m) = m == n
 
 number_is : (n : ℕ) (read : Option ℕ) → is_number n read ≡ true → read ≡ Some n
-number_is n None e = absurd cc
-number_is n (Some m) e = ap (λ (k : ℕ). let some : Option ℕ = Some k in some) (eqb-true m n e)
+number_is n read e = grind (arith, common_steps)
 
 -- each of so many numbers is read back
 abbrev are_read : ℕ → Bool
@@ -43,9 +42,7 @@ some_same m n e = ap (λ (k : ℕ). let some : Option ℕ = Some k in some) e
 
 first_mark : (mark i : ℕ) (a x : List ℕ) → lacks mark a ≡ true → position_from (λ octet. octet == mark) i (a ++ mark ∷ x) ≡ Some (i + length a)
 first_mark mark i [] x none = rw (eq-eqb mark mark refl) (some_same i (i + 0) (omega arith))
-first_mark mark i (c ∷ a) x none =
-    let other : (c == mark) ≡ false = ne_eqb c mark (not_here mark c a none) in
-    rw other (first_mark mark (i + 1) a x (lacks_rest mark c a none) ∙ some_same ((i + 1) + length a) (i + suc (length a)) (omega arith))
+first_mark mark i (c ∷ a) x none = grind (arith, common_steps, not_here, lacks_rest, some_same, (first_mark mark (i + 1) a x (lacks_rest mark c a none) ∙ some_same ((i + 1) + length a) (i + suc (length a)) (omega arith)))
 
 behind_mark : (mark k : ℕ) (a x : List ℕ) → k ≡ length a + 1 → slice_range (a ++ mark ∷ x) k (length (a ++ mark ∷ x)) ≡ x
 behind_mark mark k a x place =
@@ -55,24 +52,12 @@ behind_mark mark k a x place =
     ap (λ (l : List ℕ). take (length (a ++ mark ∷ x) - k) l) rest ∙ take_all (length (a ++ mark ∷ x) - k) x (let h = length-append a (mark ∷ x) in omega (arith, h, place))
 
 cut_first : (mark : ℕ) (a x : List ℕ) → lacks mark a ≡ true → cut mark (a ++ mark ∷ x) ≡ Some (a, x)
-cut_first mark a x none =
-    let front : take (0 + length a) (a ++ mark ∷ x) ≡ a = take_at a (mark ∷ x) (0 + length a) (omega arith) in
-    let behind : slice_range (a ++ mark ∷ x) (0 + length a + 1) (length (a ++ mark ∷ x)) ≡ x = behind_mark mark (0 + length a + 1) a x (omega arith) in
-    rw (position_from-zero (λ octet. octet == mark) (a ++ mark ∷ x), first_mark mark 0 a x none) cc
+cut_first mark a x none = grind (arith, common_steps, behind_mark, position_from-zero, first_mark)
 
 -- ---- addresses
 
 dotted_read : (a : Addr4) → a.0 < 2 ^ 32 → dotted_of (dotted a) ≡ Some a.0
-dotted_read a small =
-    let i = a.0 / 16777216 in
-    let j = a.0 / 65536 % 256 in
-    let k = a.0 / 256 % 256 in
-    let l = a.0 % 256 in
-    let third = cut_first 46 (decimal k) (decimal l) (decimal_lacks 46 (omega arith) k) in
-    let second = cut_first 46 (decimal j) (decimal k ++ 46 ∷ decimal l) (decimal_lacks 46 (omega arith) j) in
-    let first = cut_first 46 (decimal i) (decimal j ++ 46 ∷ (decimal k ++ 46 ∷ decimal l)) (decimal_lacks 46 (omega arith) i) in
-    rw (in_order a, first, second, third, number_read i (omega (arith, small)), number_read j (omega arith), number_read k (omega arith), number_read l (omega arith))
-    (some_same (((i * 256 + j) * 256 + k) * 256 + l) a.0 (omega arith))
+dotted_read a small = grind (arith, common_steps, cut_first, decimal_lacks, in_order, number_read, some_same)
 
 -- one that isn't 0.0.0.0
 pub address_read : (a : Addr4) → a.0 < 2 ^ 32 → 0 < a.0 → address_of (dotted a) ≡ Some a
@@ -87,13 +72,7 @@ pub zero_read : (a : Addr4) → a.0 < 2 ^ 32 → dotted a ≡ codes "0.0.0.0" �
 zero_read a small is = same_dotted a (record { 0 = 0 }) small (is ∙ sym zero_text)
 
 pub not_zero : (a : Addr4) → (dotted a ≡ codes "0.0.0.0" → ⊥) → 0 < a.0
-not_zero a other = elim (cases_Bool (nat_lt 0 a.0)) [
-  | inl some ↦ ltb-true 0 a.0 some
-  | inr none ↦ absurd (
-      let nothing : a.0 ≡ 0 = (let low = ltb-false 0 a.0 none in omega (arith, low)) in
-      let same : a ≡ record { 0 = 0 } = ap (λ (n : ℕ). let addr : Addr4 = record { 0 = n } in addr) nothing in
-      other (ap dotted same ∙ zero_text))
-]
+not_zero a other = grind (arith, common_steps, cases_Bool, zero_text)
 
 -- ---- the word that an address is
 
@@ -122,8 +101,7 @@ word_before text a more k is =
 
 pub word_alone : (text : List ℕ) (a : Addr4) (more : List Addr4) → text ≡ dotted a ++ spaced more → ((j : ℕ) → j < length text → eqb (slice_index text j) 32 ≡ true → ⊥) →
     (text ≡ dotted a) × ([] ≡ spaced more)
-word_alone text a more is =
-    subst (λ (l : List ℕ). ((j : ℕ) → j < length l → eqb (slice_index l j) 32 ≡ true → ⊥) → (l ≡ dotted a) × ([] ≡ spaced more)) (sym is) (word_whole (dotted a) more)
+word_alone text a more is = grind (arith, common_steps, spaced, word_whole)
 
 -- ---- Addresses that are read one after the other.
 
@@ -133,9 +111,6 @@ pub record IsLeft (addrs read : List Addr4) (text : List ℕ) : Type 0 where
   pub wide : All (λ a. a.0 < 2 ^ 32) more
   pub whole : addrs ≡ read ++ more
   pub text_is : text ≡ spaced more
-
-pub all_left : (addrs : List Addr4) (text : List ℕ) → All (λ a. a.0 < 2 ^ 32) addrs → text ≡ spaced addrs → IsLeft addrs [] text
-all_left addrs text wide is = record { more = addrs; wide = wide; whole = refl; text_is = is }
 
 -- one more is read
 pub one_less : (addrs read : List Addr4) (text rest : List ℕ) (addr : Addr4) → IsLeft addrs read text → 0 < length text →
@@ -178,14 +153,12 @@ none_alone relays is = same_relays [] relays (λ a has. absurd (contains_none a 
 
 pub spaced_text : (relays : List Addr4) (text : List ℕ) → relays_text relays ≡ text → (text ≡ codes " none" → ⊥) → text ≡ spaced relays
 unfolding relays_text
-spaced_text [] text is other = absurd (other (sym is))
-spaced_text (a ∷ more) text is other = sym is
+spaced_text relays text is other = grind (arith, common_steps)
 
 -- ---- texts that are empty, or aren't
 
 pub has_octets : (b : Bool) (n : ℕ) → b ≡ (n == 0) → b ≡ false → 0 < n
-has_octets b zero e none = absurd (let full : b ≡ true = e in cc)
-has_octets b (suc n) e none = omega arith
+has_octets b n e none = grind (arith, common_steps)
 
 pub has_none : (b : Bool) (n : ℕ) → b ≡ (n == 0) → b ≡ true → n ≡ 0
 has_none b n e full = eqb-true n 0 (sym e ∙ full)

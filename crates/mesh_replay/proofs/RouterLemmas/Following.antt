@@ -1,5 +1,5 @@
 -- What an event leaves of a router before its relays are told.
-use Rattle.mesh_replay.proofs.Common.{ℕ, zero, suc, ◌≤◌, ◌<◌, sym, subst, arith, List, length, ◌≡◌, ◌+◌, ◌%◌, ◌∙◌, Bool, false, [], IsTrue, map, refl, ap, ◌++◌, inl, inr, append-nil, All, nat_eq, All-nil, All-push, All-append, Addr4, RouterSettings, Tc, Bases, NotedMessages, State, Neighbourhood, Frame, octets_at, on_each, length-map, HasToAdvertise, IsNextMoment, PartSpan, part_of, TcsDue, Tcs_due, part_items, Follows, HearsBy, Taken, TicksBy, tc_items, AreFewRows, HasLines, IsAtRest, IsSoundRouter, StandAgain, event_items, hello_items, router_state, with_relays, AreRelays, Derived, IsOpening, Item, Sent, relay_items, Before, EventLines, BeginsDerived, BeginsEvent, TakesDueLines}
+use Rattle.mesh_replay.proofs.Common.{common_steps, ℕ, zero, suc, ◌≤◌, ◌<◌, sym, subst, arith, List, length, ◌≡◌, ◌+◌, ◌%◌, ◌∙◌, Bool, false, [], IsTrue, map, refl, ap, ◌++◌, inl, inr, append-nil, All, nat_eq, All-nil, All-push, All-append, Addr4, RouterSettings, Tc, Bases, NotedMessages, State, Neighbourhood, Frame, on_each, length-map, HasToAdvertise, IsNextMoment, PartSpan, part_of, TcsDue, Tcs_due, part_items, Follows, HearsBy, Taken, TicksBy, tc_items, AreFewRows, HasLines, IsAtRest, IsSoundRouter, StandAgain, event_items, hello_items, with_relays, router_state, AreRelays, Derived, IsOpening, Item, Sent, relay_items, Before, EventLines, BeginsDerived, BeginsEvent, TakesDueLines}
 use Rattle.mesh_trace.specs.machine.packet.declared.packet.Span.{Span}
 use Rattle.mesh_trace.specs.machine.packet.Fields.{MessageFields}
 use Rattle.mesh_trace.specs.machine.flood.declared.verdict.Heading.{Heading}
@@ -20,7 +20,6 @@ use Rattle.mesh_trace.specs.machine.Laws.{SoundBases}
 use Rattle.mesh_trace.proofs.machine.Opening.{opening_sound}
 use Rattle.mesh_trace.proofs.machine.Soundness.{bases_of}
 use Rattle.mesh_trace.proofs.machine.nhdp.TcCounts.{tc_rows_few}
-use Rattle.mesh_trace.specs.machine.flood.declared.verdict.Forward.TheVariants as forward
 
 -- ---- What a router forwards goes out on interfaces that it has.
 
@@ -30,25 +29,15 @@ Within n f = f.iface < n
 
 each_within : (count n : ℕ) (bytes : List ℕ) → n ≤ count → All (Within count) (on_each n bytes)
 each_within count zero bytes below = All-nil (Within count)
-each_within count (suc i) bytes below =
-    All-push (Within count) (on_each i bytes) (record { iface = i; bytes = bytes }) (each_within count i bytes (omega (arith, below))) (omega (arith, below))
+each_within count (suc i) bytes below = grind (arith, common_steps, All-push, (each_within count i bytes (omega (arith, below))))
 
 forwarding_within : (count : ℕ) (octets : List ℕ) (answer : Forward) → All (Within count) (forwarding count octets answer)
-forwarding_within count octets forward.Do = each_within count count _ (omega arith)
-forwarding_within count octets forward.NotFlooded = All-nil (Within count)
-forwarding_within count octets forward.Own = All-nil (Within count)
-forwarding_within count octets forward.NoSender = All-nil (Within count)
-forwarding_within count octets forward.NoHops = All-nil (Within count)
-forwarding_within count octets (forward.Seen until) = All-nil (Within count)
-forwarding_within count octets (forward.Full base) = All-nil (Within count)
-forwarding_within count octets (forward.Done until) = All-nil (Within count)
-forwarding_within count octets forward.NotSelector = All-nil (Within count)
+forwarding_within count octets answer = grind (arith, common_steps, each_within, All-nil)
 
 module _ (settings : RouterSettings) (own : Addr4) (arrival : Arrival) where
   considered_within : (heading : Heading) (octets : List ℕ) (is_done : Bool) (old : Bases) (noted : NotedMessages) (sent : List Frame) (answer : Forward) →
       ConsidersForwarding settings own arrival heading octets is_done old noted sent answer → All (Within (length settings.interfaces)) sent
-  considered_within heading octets is_done old noted sent answer considered =
-      subst (λ (frames : List Frame). All (Within (length settings.interfaces)) frames) (sym considered.sends) (forwarding_within (length settings.interfaces) octets answer)
+  considered_within heading octets is_done old noted sent answer considered = grind (arith, common_steps, forwarding_within)
 
   processed_within : (old : Bases) (tc : Tc) (heading : Heading) (octets : List ℕ) (new : Bases) (sent : List Frame) (fate : Fate) →
       ProcessesTc settings own arrival old tc heading octets new sent fate → All (Within (length settings.interfaces)) sent
@@ -70,8 +59,7 @@ module _ (settings : RouterSettings) (own : Addr4) (arrival : Arrival) where
   pub messages_within : (bytes : List ℕ) (old : Bases) (messages : List MessageFields) (spans : List Span) (new : Bases) (sent : List Frame) (fates : List Fate) →
       TakesMessages settings own arrival bytes old messages spans new sent fates → All (Within (length settings.interfaces)) sent
   messages_within bytes old messages spans new sent fates No_messages = All-nil (Within (length settings.interfaces))
-  messages_within bytes old messages spans new sent fates (First_message {mid = mid} {message = message} {messages = rest} {span = span} {spans = ends} {sent = one} {more = more} {fate = fate} {fates = others} takes takes_rest) =
-      All-append (Within (length settings.interfaces)) one more (message_within old message (octets_at bytes span) mid one fate takes) (messages_within bytes mid rest ends new more others takes_rest)
+  messages_within bytes old messages spans new sent fates (First_message {mid = mid} {message = message} {messages = rest} {span = span} {spans = ends} {sent = one} {more = more} {fate = fate} {fates = others} takes takes_rest) = grind (arith, common_steps, All-append, message_within, (messages_within bytes mid rest ends new more others takes_rest))
 
 -- ---- What an event leaves of a router before its relays are told.
 
@@ -133,15 +121,7 @@ module _ {h0 h1 : Held} {d0 d1 : Derived} {now : ℕ} {quiet : Bool} {before : B
   few_rows = tc_rows_few (router_state h1 d2) d2.last d2.rows sound_after.bases.neighbourhood rows_are
 
   follows_so : Follows (router_state h0 d0) now h1.bases (router_state h1 d2)
-  follows_so = record {
-    settings = changes.settings;
-    bases_are = refl;
-    last = last_is;
-    relays = ap (λ (d : Derived). d.relays) others ∙ ap (λ (d : Derived). d.relays) begins.others;
-    rows = rows_are;
-    ansn = rw others begins.ansn;
-    emptied = rw (others, ap (λ (d : Derived). d.last) begins.others) begins.emptied;
-  }
+  follows_so = grind (arith, common_steps, last_is, rows_are)
 
   stands : StandAgain (router_state h1 d2) before
   stands good = subst (AreRelays (with_relays (router_state h1 d2) before.relays)) (sym last_is)

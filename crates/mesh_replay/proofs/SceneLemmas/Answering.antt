@@ -1,5 +1,5 @@
 -- What is answered where lines that were read lead to.
-use Rattle.mesh_replay.proofs.Common.{◌≡◌, ℕ, ◌+◌, ◌<◌, ◌↔◌, List, [], ◌∷◌, ◌++◌, refl, sym, ◌∙◌, ap, subst, length, drop, append_assoc, append-nil, length-append, arith, drop_all, length-drop, Scenario, NetState, IsOver, Replay, Case, Progress, Outcome, Fits, Unfit, Over, at, Went, HasRead, Comes, Reader, Reaches, IsWholeTrace, IsUnfit, At_line, Behind_all, TracePosition, lines_of, lines_from, leads_on}
+use Rattle.mesh_replay.proofs.Common.{common_steps, ◌≡◌, ℕ, ◌+◌, ◌<◌, ◌↔◌, List, [], ◌∷◌, ◌++◌, refl, sym, ◌∙◌, ap, subst, length, drop, append_assoc, append-nil, length-append, arith, drop_all, length-drop, Scenario, NetState, IsOver, Replay, Case, Progress, Outcome, Fits, Unfit, Over, at, Went, HasRead, Comes, Reader, Reaches, IsWholeTrace, IsUnfit, At_line, Behind_all, TracePosition, lines_of, lines_from, leads_on}
 use Rattle.mesh_replay.specs.declared.answer.Replay.TheVariants.{Yes, No}
 use Rattle.mesh_replay.specs.Checking.Answers.{ReplayAnswers}
 use Rattle.mesh_trace.specs.Positions.Leading.{Fits as FitsBehind}
@@ -76,9 +76,7 @@ module _ (case : Case) (reader : Reader) (net : NetState) (h : HasRead case read
 -- Each answer comes exactly where it says
 
 pub yes_exactly : (s : Scenario) (lines : List (List ℕ)) (answer : Replay) → ReplayAnswers s lines answer → (count : ℕ) → answer ≡ Yes count ↔ IsWholeTrace s lines × (count ≡ length lines)
-yes_exactly s lines (Yes n) (whole, is) count = ((λ e. (whole, let same : n ≡ count = cc in sym same ∙ is)), (λ both. ap Yes (is ∙ sym both.1)))
-yes_exactly s lines (No k) unfit count = ((λ e. absurd (cc)), (λ both. absurd (unfit_is_not_whole s lines k unfit both.0)))
+yes_exactly s lines answer h3 count = grind (arith, common_steps, unfit_is_not_whole)
 
 pub no_exactly : (s : Scenario) (lines : List (List ℕ)) (answer : Replay) → ReplayAnswers s lines answer → (line : ℕ) → answer ≡ No line ↔ IsUnfit s lines line
-no_exactly s lines (Yes n) (whole, is) line = ((λ e. absurd (cc)), (λ unfit. absurd (unfit_is_not_whole s lines line unfit whole)))
-no_exactly s lines (No k) unfit line = ((λ e. let same : k ≡ line = cc in subst (IsUnfit s lines) same unfit), (λ other. ap No (one_unfit s lines k line unfit other)))
+no_exactly s lines answer h3 line = grind (arith, common_steps, unfit_is_not_whole, one_unfit)

@@ -1,12 +1,9 @@
 -- A network before its first line.
-use Rattle.mesh_replay.proofs.Common.{◌≡◌, ℕ, ◌+◌, ◌<◌, List, [], ◌∷◌, ◌++◌, refl, sym, ◌∙◌, ap, map, subst, length, get_or, All, arith, Some, None, length-append, slice_get, length-map, map-append, slice_get_read, All-nil, State, RouterSettings, Scenario, IsOpening, IsOpeningNet, each_more, same_at, Case, Progress, FirstTick, IsCase, at, AreAtOpeningUpTo, AreAtOpening, IsOpeningProgress, IsAtFirstLine, HasRead, IsSoundScene, net_of, lines_from}
+use Rattle.mesh_replay.proofs.Common.{◌≡◌, ℕ, ◌+◌, ◌<◌, List, [], ◌∷◌, ◌++◌, refl, sym, ◌∙◌, ap, map, subst, length, get_or, All, arith, Some, length-append, slice_get, map-append, slice_get_read, All-nil, State, RouterSettings, IsOpening, IsOpeningNet, each_more, same_at, Case, Progress, FirstTick, IsCase, at, AreAtOpeningUpTo, IsOpeningProgress, IsAtFirstLine, HasRead, IsSoundScene, net_of, lines_from}
 use Rattle.mesh_trace.specs.machine.Traffic as net
 use Rattle.mesh_replay.proofs.RouterLemmas.Following.{kept_at_opening}
 
 module _ {A : Type 0} (state : A → State) where
-  pub none_opening : (settings : List RouterSettings) (routers : List A) → routers ≡ [] → AreAtOpeningUpTo settings 0 (map state routers)
-  none_opening settings routers none = subst (λ (l : List A). AreAtOpeningUpTo settings 0 (map state l)) (sym none) (record { count_is = refl; each = λ x s at. absurd (let no : None ≡ Some s = at in cc) })
-
   pub opening_more : (settings : List RouterSettings) (k : ℕ) (r : RouterSettings) (router : A) (old new : List A) → k < length settings → r ≡ get_or settings k r → new ≡ old ++ router ∷ [] →
       IsOpening r (state router) → AreAtOpeningUpTo settings k (map state old) → AreAtOpeningUpTo settings (k + 1) (map state new)
   opening_more settings k r router old new lt is p fresh h =
@@ -16,12 +13,6 @@ module _ {A : Type 0} (state : A → State) where
         each = each_more (λ x t. (q : RouterSettings) × (slice_get settings x ≡ Some q) × IsOpening q t) (map state old) (state router) h.each
             (rw h.count_is (r, slice_get_read settings (length settings) k r refl lt is, fresh));
       })
-
-  -- there is a router
-  pub some_router : (s : Scenario) (routers : List A) → AreAtOpening s.routers (map state routers) → 0 < length routers
-  some_router s routers h =
-      let least = s.sound_routers.routers.at_least in
-      omega (arith, least, h.count_is, length-map s.routers (λ (r : RouterSettings). r.name), length-map routers state)
 
 module _ (case : Case) (routers : List State) (due : FirstTick) (last_ticks : ℕ) (progress : Progress) (begun : IsOpeningProgress case.scenario.now.seed progress) (opens : IsAtFirstLine case.scenario.now routers due last_ticks) where
   pub opening_sound : IsCase case → IsSoundScene case routers due last_ticks progress

@@ -1,5 +1,6 @@
 -- The next event: which it is, and the line that opens it.
-use Rattle.mesh_replay.proofs.Common.{◌≡◌, ℕ, ◌+◌, ◌<◌, List, length, [], refl, sym, subst, arith, Some, ◌≤◌, ◌∷◌, ◌++◌, ◌∙◌, ap, All, get_or, Bool, true, false, None, slice_get, min, IsTrue, MatchOption, Option, State, NetState, HasOnlyLastTicks, TicksNext, HearsNext, IsSender, IsFirstDue, IsOver, TicksBy, HearsBy, LineLeads, To_event, To_item, TracePosition, with_state, with_traffic, IsLineOf, same_at, tick_line, heard_line, at, FitsOrStops, OpensAlone, FindsNext, FindsNone, IsNextEvent, LandsFrame, set_here, item_at, All-head, All-tail, All-weaker, Addr4, Delivery, with_heard, face_name, slice_get-get_or, RouterSettings, due, arc_ends, first_and_others, Case, Progress, ComingFrame, NextEvent, FirstTick, Outcome, Fits, Unfit, Delivered, delivery_of, HasTaken, SeededTraffic, IsCase, IsProgress, AreAtRest, Comes, IsSoundScene, net_of}
+use Rattle.mesh_replay.proofs.Common.{common_steps, ◌≡◌, ℕ, ◌+◌, ◌<◌, List, length, [], refl, sym, subst, arith, Some, ◌≤◌, ◌∷◌, ◌++◌, ◌∙◌, ap, All, get_or, Bool, true, false, None, slice_get, min, IsTrue, MatchOption, Option, State, NetState, HasOnlyLastTicks, TicksNext, HearsNext, IsSender, IsFirstDue, IsOver, TicksBy, HearsBy, LineLeads, To_event, To_item, TracePosition, with_state, with_traffic, IsLineOf, same_at, tick_line, heard_line, at, FitsOrStops, OpensAlone, FindsNext, FindsNone, IsNextEvent, LandsFrame, set_here, item_at, All-head, All-tail, All-weaker, Addr4, Delivery, with_heard, face_name, slice_get-get_or, RouterSettings, due, arc_ends, first_and_others, Case, Progress, ComingFrame, NextEvent, FirstTick, Outcome, Fits, Delivered, delivery_of, IsCase, IsProgress, AreAtRest, Comes, IsSoundScene, net_of}
+use Rattle.mesh_replay.specs.Traffic.Traffic.{HasTaken, SeededTraffic}
 use Rattle.mesh_trace.specs.Positions.Events.{OpensTick, OpensEvent, By_delivery, By_tick, By_last_tick, OpensHearing}
 use Rattle.mesh_trace.proofs.PositionsLemmas.EventsOnce.{due_once, not_tick, not_last, tick_not_last, behind_all as behind, sender_once}
 use Rattle.mesh_atoms.specs.declared.settings.RadioArc.{RadioArc}
@@ -19,10 +20,7 @@ pub data IsTickNext (net : NetState) (x now last_ticks : ℕ) : Type 0 where
 -- the tick that is next opens the next event
 opens_next : (net : NetState) (x now l : ℕ) (line : List ℕ) (q : TracePosition) → IsTickNext net x now l → OpensTick net x now l line q → OpensEvent net line q
 opens_next net x now l line q (Is_due next same) h = By_tick x now next (subst (λ (n : ℕ). OpensTick net x now n line q) same h)
-opens_next net x now l line q (Is_last only some router moment last) h =
-    By_last_tick only some
-    (subst (λ (n : ℕ). OpensTick net net.last_ticks net.scenario.end n line q) last
-    (subst (λ (n : ℕ). OpensTick net net.last_ticks n l line q) moment (subst (λ (n : ℕ). OpensTick net n now l line q) router h)))
+opens_next net x now l line q (Is_last only some router moment last) h = grind (arith, common_steps)
 
 -- and nothing else does
 only_next : (net : NetState) (x now l : ℕ) (line : List ℕ) (q : TracePosition) → IsTickNext net x now l → OpensEvent net line q → OpensTick net x now l line q
@@ -34,9 +32,7 @@ only_next net x now l line q (Is_due next same) (By_tick y moment other h) =
 only_next net x now l line q (Is_due next same) (By_last_tick only some h) = absurd (tick_not_last net x now next only)
 only_next net x now l line q (Is_last only some router moment last) (By_delivery h) = absurd (not_last net h.delivery h.others h.next only)
 only_next net x now l line q (Is_last only some router moment last) (By_tick y n next h) = absurd (tick_not_last net y n next only)
-only_next net x now l line q (Is_last only some router moment last) (By_last_tick only' some' h) =
-    subst (λ (n : ℕ). OpensTick net n now l line q) (sym router)
-    (subst (λ (n : ℕ). OpensTick net net.last_ticks n l line q) (sym moment) (subst (λ (n : ℕ). OpensTick net net.last_ticks net.scenario.end n line q) (sym last) h))
+only_next net x now l line q (Is_last only some router moment last) (By_last_tick only' some' h) = grind (arith, common_steps)
 
 -- where a tick is next, the run isn't over
 not_over : (net : NetState) (x now l : ℕ) → IsTickNext net x now l → IsOver net → ⊥
@@ -80,8 +76,7 @@ heard_once (x ∷ a) b (y ∷ c) f d e same p q r t =
     heard_once a b c f d e tails (All-tail (λ (z : Delivery). d.moment < z.moment) x a p) q (All-tail (λ (z : Delivery). e.moment < z.moment) y c r) t
 
 next_once : (net : NetState) (d e : Delivery) (others more : List Delivery) → HearsNext net d others → HearsNext net e more → d ≡ e
-next_once net d e others more h k =
-    heard_once h.first.before h.first.behind k.first.before k.first.behind d e (sym h.first.whole ∙ k.first.whole) h.first.later h.first.no_earlier k.first.later k.first.no_earlier
+next_once net d e others more h k = grind (arith, common_steps, heard_once)
 
 -- ---- the frame that is heard next
 
@@ -233,8 +228,7 @@ found_next case first last_ticks progress traffic (Some next) quiet same is = λ
 
 -- it is an event whose lines fit
 fits_so : (fits : Bool) (outcome : Outcome) → outcome ≡ outcome_of fits → outcome ≡ Fits → IsTrue fits
-fits_so true outcome is fit = refl
-fits_so false outcome is fit = absurd (let no : Unfit ≡ Fits = sym is ∙ fit in cc)
+fits_so fits outcome is fit = grind (arith, common_steps)
 
 -- An event whose lines fit or not
 module _ (case : Case) (new : Progress) (routers settled : List State) (due : FirstTick) (last_ticks count : ℕ) (fits : Bool) (outcome : Outcome) (is : outcome ≡ outcome_of fits) (same : settled ≡ routers) (counts : count ≡ last_ticks) where

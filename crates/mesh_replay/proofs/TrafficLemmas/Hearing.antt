@@ -1,5 +1,5 @@
 -- What flies, and the frame in the air that is heard first.
-use Rattle.mesh_replay.proofs.Common.{◌≡◌, ℕ, ◌+◌, ◌<◌, ◌≤◌, List, [], ◌∷◌, ap, zero, suc, length, get_or, map, All, arith, refl, Some, below_more, Result, Ok, Err, slice_get, IfOk, OnOk, remove, All-nil, All-cons, All-map, slice_get_within, slice_get_read, slice_get-get_or, IsHeardFirst, Traffic, Sends, leaving, same_at, Delivered, delivery_of, IsNextFrame, AreNoEarlier, item_at as stands, Scenario, sent_all, numbered}
+use Rattle.mesh_replay.proofs.Common.{common_steps, ◌≡◌, ℕ, ◌+◌, ◌<◌, ◌≤◌, List, [], ◌∷◌, ap, zero, suc, length, get_or, map, All, arith, refl, Some, Result, Ok, Err, slice_get, IfOk, OnOk, remove, All-nil, All-cons, All-map, slice_get_within, slice_get_read, slice_get-get_or, IsHeardFirst, Traffic, Sends, leaving, same_at, Delivered, delivery_of, IsNextFrame, AreNoEarlier, item_at as stands, Scenario, sent_all, numbered}
 use Rattle.mesh_atoms.specs.declared.network.Emission.{Emission}
 
 -- ---- The frame in the air that is heard first.
@@ -19,8 +19,7 @@ read_as flights count place e h is = same_at flights place h.flight e h.stands (
 
 -- reading at its place gives it
 pub read_there : (flights : List Delivered) (count place : ℕ) → (h : IsNextFrame flights count place) → get_or flights place h.flight ≡ h.flight
-read_there flights count place h =
-    same_at flights place (get_or flights place h.flight) h.flight (slice_get-get_or flights place h.flight (slice_get_within flights place h.flight h.stands)) h.stands
+read_there flights count place h = grind (arith, common_steps, same_at, slice_get-get_or, slice_get_within)
 
 -- the first of some that is heard no later than any of all is the first of all
 pub is_first_of_all : (least : ℕ) (flights : List Delivered) (count place : ℕ) → AreNoEarlier least flights → (h : IsNextFrame flights count place) → h.flight.moment ≤ least → IsNextFrame flights (length flights) place
@@ -37,23 +36,11 @@ is_first_of_all least flights count place all h le = record {
 module _ (flights : List Delivered) (count place : ℕ) (f : Delivered) (at : slice_get flights count ≡ Some f) (h : IsNextFrame flights count place) where
   -- one more, which is earlier than all before it
   pub is_earlier : f.moment < h.flight.moment → IsNextFrame flights (count + 1) count
-  is_earlier lt = record {
-    flight = f;
-    stands = at;
-    no_earlier = λ i g there below. below_more (λ k. (e : Delivered) → slice_get flights k ≡ Some e → f.moment ≤ e.moment) count
-        (λ k b e th. let no = h.no_earlier k e th b in omega (arith, no, lt)) (λ e th. rw (same_at flights count e f th at) (omega arith)) i below g there;
-    later = λ i g there below. let no = h.no_earlier i g there below in omega (arith, no, lt);
-  }
+  is_earlier lt = grind (arith, common_steps, same_at)
 
   -- one more, which is no earlier
   pub is_no_earlier : h.flight.moment ≤ f.moment → IsNextFrame flights (count + 1) place
-  is_no_earlier le = record {
-    flight = h.flight;
-    stands = h.stands;
-    no_earlier = λ i g there below. below_more (λ k. (e : Delivered) → slice_get flights k ≡ Some e → h.flight.moment ≤ e.moment) count
-        (λ k b e th. h.no_earlier k e th b) (λ e th. rw (same_at flights count e f th at) le) i below g there;
-    later = h.later;
-  }
+  is_no_earlier le = grind (arith, common_steps, same_at)
 
 -- what holds at each place holds of all deliveries
 all_at : (P : ℕ → Type 0) (flights : List Delivered) → ((i : ℕ) (f : Delivered) → slice_get flights i ≡ Some f → P f.moment) → All (λ d. P d.moment) (map delivery_of flights)

@@ -1,6 +1,6 @@
 -- Turns where routes and relays may be put off: whole states go through them too, of which those states are kept. At the end of a run nothing is
 -- put off.
-use Rattle.mesh_run.proofs.Common.{◌≡◌, ℕ, ◌<◌, ◌≤◌, List, Option, Some, None, refl, sym, ap, subst, ◌∙◌, arith, le-leb, State, IsKeptOf, kept_through, step_from, Report, Frame, Event, Tick, Step, Ticked, KeepsEvent, heard_at, DoesEvent, tick_of, Position, RunsTurns, CameToNothing, Nothing, A_moment, An_ear, Stays, Then_begins, Then_listens}
+use Rattle.mesh_run.proofs.Common.{common_steps, ◌≡◌, ℕ, ◌<◌, ◌≤◌, List, Option, Some, None, refl, sym, ap, subst, arith, State, IsKeptOf, kept_through, step_from, Report, Frame, Event, Tick, Step, Ticked, KeepsEvent, heard_at, DoesEvent, tick_of, Position, RunsTurns, CameToNothing, Nothing, A_moment, An_ear, Stays, Then_begins, Then_listens}
 
 -- The turns of whole states
 
@@ -67,15 +67,10 @@ module _ (end count : ℕ) (start : Position) (before : start.moment < end) wher
   last_at_end : (moments : List ℕ) (reports : List Report) (stop : Position) → RunsTurns DoesEvent end count start moments reports stop → end ≤ stop.moment →
       (stop.state.last ≡ end) × (stop.next ≡ count)
   last_at_end moments reports stop Stays le = absurd (omega (arith, before, le))
-  last_at_end moments reports stop (Then_begins {more = more} {mid = mid} goes begins) le =
-      let ticks : tick_of end stop.moment mid.state ≡ Some (Tick end) = rw (le-leb end stop.moment le) refl in
-      let (frames, step, sent) = subst (λ (event : Option Event). DoesEvent mid.state event more stop.state) ticks begins.does in
-      (tick_last mid.state stop.state end frames step, begins.next ∙ rw (le-leb end stop.moment le) refl)
-  last_at_end moments reports stop (Then_listens {reports = rs} {mid = mid} goes listens) le =
-      absurd (omega (arith, listens.within, (last_at_end moments rs mid goes (omega (arith, listens.moment, le))).1))
+  last_at_end moments reports stop (Then_begins {more = more} {mid = mid} goes begins) le = grind (arith, common_steps, tick_last)
+  last_at_end moments reports stop (Then_listens {reports = rs} {mid = mid} goes listens) le = grind (arith, common_steps, (last_at_end moments rs mid goes (omega (arith, listens.moment, le))))
 
   -- there nothing is put off
   pub whole_at_end : (moments : List ℕ) (reports : List Report) (stop : Position) (rest : State) → RunsTurns DoesEvent end count start moments reports stop →
       end ≤ stop.moment → IsKeptOf end stop.state rest → stop.state ≡ rest
-  whole_at_end moments reports stop rest goes le kept =
-      kept.from_then (omega (arith, (last_at_end moments reports stop goes le).0, ap (λ (s : State). s.last) kept.same))
+  whole_at_end moments reports stop rest goes le kept = grind (arith, common_steps, last_at_end)

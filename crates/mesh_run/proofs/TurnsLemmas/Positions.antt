@@ -1,5 +1,7 @@
 -- What was done from one position to another, and then more.
-use Rattle.mesh_run.proofs.Common.{◌≡◌, ℕ, ◌+◌, ◌-◌, ◌^◌, ◌<◌, ◌≤◌, min, max, List, [], ◌++◌, ◌∷◌, Option, Some, None, refl, sym, ap, subst, ◌∙◌, append_assoc, arith, cond, nat_le, append-nil, length-append, le-leb, lt-leb, State, kept_whole, Report, Heard_frame, Heard_silence, Heard_fault, TellsMore, Event, Hear, due, Tally, Position, RunsTurns, tick_of, moment_of, greatest_of, Stays, Then_begins, Then_listens, A_moment, An_ear, KeepsEvent, Acts, HearsInterface, HearsInVain, Going, Broken, Turning, Stopped, at, counted}
+use Rattle.mesh_run.proofs.Common.{common_steps, ◌≡◌, ℕ, ◌+◌, ◌-◌, ◌^◌, ◌<◌, ◌≤◌, min, max, List, [], ◌++◌, ◌∷◌, Option, Some, None, refl, sym, ap, subst, ◌∙◌, append_assoc, arith, cond, nat_le, append-nil, length-append, State, kept_whole, Report, TellsMore, Event, Hear, due, Tally, Position, RunsTurns, tick_of, moment_of, greatest_of, Stays, Then_begins, Then_listens, A_moment, An_ear, KeepsEvent, Acts, HearsInterface, HearsInVain, Going, Broken, Turning, Stopped, at, counted}
+use Rattle.std.proofs.lemmas.Bool.{le-leb, lt-leb}
+use Rattle.mesh_io.specs.Airs.Report.{Heard_frame, Heard_silence, Heard_fault}
 use Rattle.mesh_atoms.specs.declared.addr.Addr4.{Addr4}
 use Rattle.mesh_run.proofs.TurnsLemmas.Tellings.{tells_nothing, tells_more, counted_nothing, counted_more}
 
@@ -53,11 +55,7 @@ hears_fault end now iface s a b t f more told = record {
 -- a frame is heard, and nothing comes of it
 pub hears_in_vain : (iface : ℕ) (sender : Addr4) (bytes : List ℕ) (a b c : Option (List Report)) →
     TellsMore a b (Heard_frame iface sender bytes ∷ []) → TellsMore b c [] → HearsInVain iface a c
-hears_in_vain iface sender bytes a b c told silent = record {
-  ear = Heard_frame iface sender bytes;
-  tells = tells_more a b c (Heard_frame iface sender bytes ∷ []) [] told silent;
-  heard = refl;
-}
+hears_in_vain iface sender bytes a b c told silent = grind (arith, common_steps, tells_more)
 
 -- From position to position
 
@@ -126,8 +124,7 @@ broken_more end count s m ms ns a b c t u g k = record {
 -- the same place
 pub going_at : (end count : ℕ) (s : Position) (ms : List ℕ) (x : State) (now now' i j : ℕ) (a b : Option (List Report)) (t u : Tally) →
     now ≡ now' → i ≡ j → Going end count s (at x now i) ms a b t u → Going end count s (at x now' j) ms a b t u
-going_at end count s ms x now now' i j a b t u e f g =
-    subst (λ (n : ℕ). Going end count s (at x n j) ms a b t u) e (subst (λ (n : ℕ). Going end count s (at x now n) ms a b t u) f g)
+going_at end count s ms x now now' i j a b t u e f g = grind (arith, common_steps)
 
 -- A turn
 
@@ -167,14 +164,7 @@ one_turn : (end count last now told g : ℕ) (old new : State) (clock clock' : O
     g ≡ max last told → now ≡ min g (2 ^ 62 - 1) → TellsMore clock clock' (told ∷ []) →
     Going end count (at old last count) (at new now count) (told ∷ []) a b t u →
     Turning end count (at old last count) (at new (moment_of 0 g) count) 1 last g clock clock' a b t u
-one_turn end count last now told g old new clock clock' a b t u greatest now_is tells going =
-    let is : now ≡ moment_of 0 g = omega (arith, now_is) in record {
-      moments = told ∷ [];
-      clock_tells = tells;
-      turns_are = refl;
-      greatest_is = omega (arith, greatest);
-      going = going_at end count (at old last count) (told ∷ []) new now (moment_of 0 g) count count a b t u is refl going;
-    }
+one_turn end count last now told g old new clock clock' a b t u greatest now_is tells going = grind (arith, common_steps, going_at)
 
 pub turn_ends : (end count last now told g : ℕ) (old mid : State) (clock clock' : Option (List ℕ)) (a b : Option (List Report)) (t u : Tally) →
     Begun end last now told g old mid clock clock' a b t u → end ≤ now →
@@ -232,8 +222,7 @@ greatest_more (m ∷ ms) ns = ap (λ (n : ℕ). max m n) (greatest_more ms ns) �
 
 pub turning_nothing : (end count : ℕ) (s : Position) (k : Option (List ℕ)) (a : Option (List Report)) (t : Tally) →
     Turning end count s s 0 0 0 k k a a t t
-turning_nothing end count s k a t =
-    record { moments = []; clock_tells = tells_nothing k; turns_are = refl; greatest_is = refl; going = going_nothing end count s a t }
+turning_nothing end count s k a t = grind (arith, common_steps, tells_nothing, going_nothing)
 
 pub turning_more : (end count : ℕ) (s m p : Position) (n n' g g' g'' : ℕ) (k l o : Option (List ℕ)) (a b c : Option (List Report)) (t u v : Tally) →
     Turning end count s m n g g' k l a b t u → Turning end count m p n' g' g'' l o b c u v → Turning end count s p (n + n') g g'' k o a c t v

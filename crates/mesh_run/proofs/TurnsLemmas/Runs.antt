@@ -1,6 +1,6 @@
 -- Turns as runs of the router's machine.
-use Rattle.mesh_run.proofs.Common.{◌≡◌, ℕ, Bool, true, false, cond, List, [], ◌++◌, ◌∷◌, drop, get_or, Option, Some, None, refl, sym, ap, subst, ◌∙◌, nat_le, flat_map, append-nil, State, Report, Attached_to, Heard_frame, Heard_silence, Heard_fault, Handed, Frame, Event, Tick, Step, Steps, No_events, First_event, due, handed, ear_of, heard_at, AreHanded, DoesEvent, tick_of, Position, RunsTurns, Stays, Then_begins, Then_listens}
-use Rattle.std.proofs.lemmas.Grind.{flat_map-append}
+use Rattle.mesh_run.proofs.Common.{arith, common_steps, ◌≡◌, ℕ, Bool, cond, List, [], ◌++◌, ◌∷◌, drop, get_or, Option, Some, None, refl, ap, ◌∙◌, nat_le, append-nil, State, Report, Frame, Event, Tick, Step, Steps, No_events, First_event, due, handed, ear_of, heard_at, AreHanded, DoesEvent, tick_of, Position, RunsTurns, Stays, Then_begins, Then_listens, flat_map-append}
+use Rattle.std.specs.List.{flat_map}
 use Rattle.mesh_texts.proofs.machine.Opening.{runs_sound}
 use Rattle.mesh_run.specs.Turns.Laws.{HeardFrame, heard_by, heard_in, TurnsAreRuns, TurnsKeepSound}
 
@@ -13,11 +13,7 @@ steps_more old mid new events sent event frames (First_event {mid = next} {event
 
 -- frames that were handed over are what was handed over, and nothing was heard
 one_handed : (report : Report) (frame : Frame) → handed report ≡ frame ∷ [] → heard_in report ≡ []
-one_handed (Attached_to local peers) frame e = refl
-one_handed (Heard_frame iface sender bytes) frame e = absurd cc
-one_handed (Heard_silence iface) frame e = refl
-one_handed (Heard_fault iface) frame e = refl
-one_handed (Handed iface bytes answer) frame e = refl
+one_handed report frame e = grind (arith, common_steps)
 
 all_handed : (frames : List Frame) (reports : List Report) → AreHanded frames reports →
     (flat_map handed reports ≡ frames) × (flat_map heard_in reports ≡ [])
@@ -46,21 +42,14 @@ heard_of (Some event) = heard_by event
 -- reports, an ear perhaps, and then more
 told_in : {A : Type 0} (f : Report → List A) (reports first more : List Report) →
     flat_map f (reports ++ (first ++ more)) ≡ flat_map f reports ++ (flat_map f first ++ flat_map f more)
-told_in f reports first more =
-    flat_map-append f reports (first ++ more) ∙ ap (λ (l : List _). flat_map f reports ++ l) (flat_map-append f first more)
+told_in f reports first more = grind (arith, common_steps, flat_map-append)
 
 -- an event more, where there is one
 through_more : (start mid new : State) (reports first more : List Report) (event : Option Event) → Through start reports mid →
     DoesEvent mid event more new → flat_map heard_in first ≡ heard_of event → flat_map handed first ≡ [] →
     Through start (reports ++ (first ++ more)) new
 unfolding heard_of
-through_more start mid new reports first more None t does heard none = record {
-  events = t.events;
-  sent = t.sent;
-  steps = subst (λ (s : State). Steps start t.events t.sent s) (sym does.1) t.steps;
-  heard = t.heard ∙ sym (told_in heard_in reports first more ∙ rw (heard, does.0, append-nil) refl);
-  are_handed = t.are_handed ∙ sym (told_in handed reports first more ∙ rw (none, does.0, append-nil) refl);
-}
+through_more start mid new reports first more None t does heard none = grind (arith, common_steps, handed)
 through_more start mid new reports first more (Some event) t (frames, step, sent) heard none =
     let all = all_handed frames more sent in record {
       events = t.events ++ event ∷ [];
@@ -73,19 +62,13 @@ through_more start mid new reports first more (Some event) t (frames, step, sent
 -- a tick hears nothing
 tick_hears : (ends is_due : Bool) (end now : ℕ) → [] ≡ heard_of (cond ends (Some (Tick end)) (cond is_due (Some (Tick now)) None))
 unfolding heard_of
-tick_hears true is_due end now = refl
-tick_hears false true end now = refl
-tick_hears false false end now = refl
+tick_hears ends is_due end now = grind (arith, common_steps)
 
 -- an ear is what is heard, and nothing that is handed over
 ear_hears : (ear : Report) (now iface : ℕ) → ear_of ear ≡ Some iface →
     (flat_map heard_in (ear ∷ []) ≡ heard_of (heard_at now ear)) × (flat_map handed (ear ∷ []) ≡ [])
 unfolding heard_of
-ear_hears (Attached_to local peers) now iface e = absurd cc
-ear_hears (Heard_frame i sender bytes) now iface e = (refl, refl)
-ear_hears (Heard_silence i) now iface e = (refl, refl)
-ear_hears (Heard_fault i) now iface e = (refl, refl)
-ear_hears (Handed i bytes answer) now iface e = absurd cc
+ear_hears ear now iface e = grind (arith, common_steps)
 
 goes_through : (end count : ℕ) (start : Position) (moments : List ℕ) (reports : List Report) (stop : Position) →
     RunsTurns DoesEvent end count start moments reports stop → Through start.state reports stop.state

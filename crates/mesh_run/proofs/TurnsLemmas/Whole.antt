@@ -1,5 +1,5 @@
 -- Turns from the opening of a router on.
-use Rattle.mesh_run.proofs.Common.{◌≡◌, ℕ, ◌+◌, ◌≤◌, max, List, [], ◌++◌, length, Option, refl, sym, ap, ◌∙◌, arith, count_by, append-nil, RunSetup, State, IsKeptOf, kept_whole, Report, IsOpening, Ended, Tally, moment_of, greatest_of, is_heard, is_sent, is_fault, tally_of, ended_by, DoesTurns, StopsTurns, Stays, Nothing, Turning, Stopped, at, counted}
+use Rattle.mesh_run.proofs.Common.{common_steps, ◌≡◌, ℕ, ◌+◌, ◌≤◌, max, List, [], ◌++◌, length, Option, refl, sym, ap, arith, append-nil, RunSetup, State, IsKeptOf, kept_whole, Report, IsOpening, Ended, Tally, moment_of, greatest_of, tally_of, ended_by, DoesTurns, StopsTurns, Stays, Nothing, Turning, Stopped, at, counted}
 use Rattle.mesh_run.proofs.TurnsLemmas.Kept.{whole_turns, lost_whole}
 use Rattle.mesh_run.proofs.TurnsLemmas.Tellings.{tells_nothing}
 
@@ -8,17 +8,11 @@ abbrev pub no_tally : Tally
 no_tally = record { heard = 0; sent = 0; faults = 0 }
 
 counted_all : (reports : List Report) → counted no_tally reports ≡ tally_of reports
-counted_all reports = rw (none (count_by is_heard reports), none (count_by is_sent reports), none (count_by is_fault reports)) refl
-  where
-    none : (x : ℕ) → 0 + x ≡ x
-    none x = omega arith
+counted_all reports = grind (arith, common_steps)
 
 ended_is : (n g : ℕ) (u : Tally) (ms : List ℕ) (rs : List Report) → n ≡ length ms → g ≡ max 0 (greatest_of ms) → u ≡ counted no_tally rs →
     (let ended : Ended = record { turns = n; greatest = g; tally = u } in ended) ≡ ended_by ms rs
-ended_is n g u ms rs e f h =
-    let f' : g ≡ greatest_of ms = omega (arith, f) in
-    let h' : u ≡ tally_of rs = h ∙ counted_all rs in
-    rw (e, f', h') refl
+ended_is n g u ms rs e f h = grind (arith, common_steps, counted_all)
 
 pub does_turns : (setup : RunSetup) (old new : State) (n g : ℕ) (k l : Option (List ℕ)) (a b : Option (List Report)) (u : Tally) →
     IsOpening setup.router old →

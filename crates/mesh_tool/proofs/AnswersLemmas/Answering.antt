@@ -1,5 +1,5 @@
 -- What the program answers, from what was done and the line that was put on err.
-use Rattle.mesh_tool.proofs.Common.{◌≡◌, ℕ, ◌+◌, ◌<◌, ◌≤◌, ◌⊎◌, inl, inr, List, [], length, Option, Some, None, Result, Ok, Err, refl, sym, subst, ◌∙◌, arith, IsErr, codes, same_ok, run_refusals, StatesSetup, SpendsTurns, FailsToAttach, first, SourceUse, SinkUse, Call, UsesNoAir, Asks, ReadsNothing, IsInput, IsInputTooLong, IsWorkedOn, PutsText, PutsNothing, Command, RunsSoFar, command_in, StopsReading, Leaves, DoesJob, Unread, Worked, Does, No_command, Did, TellsLine, TellsEnding, words_line, read_line, refused_line, attach_line, turns_line, memory_line, Job, Kind, words_of}
+use Rattle.mesh_tool.proofs.Common.{common_steps, ◌≡◌, ℕ, ◌+◌, ◌<◌, ◌≤◌, ◌⊎◌, inl, inr, List, [], length, Option, Some, None, Result, Ok, refl, sym, subst, ◌∙◌, arith, IsErr, codes, same_ok, run_refusals, StatesSetup, SpendsTurns, FailsToAttach, first, SourceUse, SinkUse, Call, UsesNoAir, Asks, ReadsNothing, IsInput, IsInputTooLong, IsWorkedOn, PutsText, PutsNothing, Command, RunsSoFar, command_in, StopsReading, Leaves, DoesJob, Unread, Worked, Does, No_command, Did, TellsLine, TellsEnding, words_line, read_line, refused_line, attach_line, turns_line, memory_line, Job, Kind, words_of}
 use Rattle.mesh_dump.specs.Dump.{DumpMakes}
 use Rattle.mesh_io.specs.Faults.{Rose}
 use Rattle.mesh_io.specs.Pieces.{MakesOne, PutsAll}
@@ -18,8 +18,7 @@ use Rattle.mesh_tool.proofs.AnswersLemmas.Reads.{works_within, works_short, whol
 -- ---- the job that the words ask for is one, or none
 
 none_asked : (r : Result Job ℕ) (j : Job) → IsErr r → r ≡ Ok j → ⊥
-none_asked (Ok i) j err h = cc
-none_asked (Err place) j err h = cc
+none_asked r j err h = grind (arith, common_steps)
 
 -- ---- what stands on out and err
 
@@ -84,12 +83,7 @@ IsFault status.NotARun = ⊥
 IsFault other = Unit {0}
 
 fault_told : {call : Call} {answer : Status} {line : List ℕ} → FaultLine call answer line → IsFault answer
-fault_told (Wrong_words err reads keeps) = tt
-fault_told (Read_fault j asks rose keeps) = tt
-fault_told (Refusal number key j asks refuses keeps) = tt
-fault_told (Attach_fault turns interface octets asks works fails rose keeps) = tt
-fault_told (Turns_spent turns greatest end octets asks works spends keeps) = tt
-fault_told (Allocation_failure j asks stops) = tt
+fault_told h0 = grind (arith, common_steps)
 
 -- the job, and how it ended
 whole_finishes : {call : Call} {answer : Status} → Whole call answer → (j : Job) × (how : Ending) × Asks call j × Finishes call j how
@@ -98,14 +92,10 @@ whole_finishes (Some_refused j asks fin) = (j, ending.Packets, asks, fin)
 whole_finishes (Is_no_run j asks fin) = (j, ending.NotARun, asks, fin)
 
 whole_done : (call : Call) {answer : Status} (j : Job) → Whole call answer → answer ≡ status.Done → Asks call j → Finishes call j ending.Done
-whole_done call j (All_well i asked fin) same asks = subst (λ (k : Job). Finishes call k ending.Done) (same_ok {r = words_of call.words} {a = i} {b = j} asked asks) fin
-whole_done call j (Some_refused i asked fin) same asks = let bad : ⊥ = cc in absurd bad
-whole_done call j (Is_no_run i asked fin) same asks = let bad : ⊥ = cc in absurd bad
+whole_done call j h2 same asks = grind (arith, common_steps, same_ok)
 
 finishes : (call : Call) (answer : Status) (j : Job) → OutputStands call answer → answer ≡ status.Done → Asks call j → Finishes call j ending.Done
-finishes call answer j (Is_whole whole quiet) same asks = whole_done call j whole same asks
-finishes call answer j (Is_told t) same asks = absurd (subst IsFault same (fault_told t.due))
-finishes call answer j (Is_failed failed f) same asks = let bad : ⊥ = cc in absurd bad
+finishes call answer j h3 same asks = grind (arith, common_steps, whole_done, fault_told)
 
 -- ---- what `replay` left where it isn't done
 
@@ -130,85 +120,55 @@ not_a_run call answer (Is_told t) same = absurd (subst IsFault same (fault_told 
 not_a_run call answer (Is_failed failed f) same = let bad : ⊥ = cc in absurd bad
 
 no_refusal : {call : Call} {answer : Status} → Whole call answer → answer ≡ status.Refused → ⊥
-no_refusal (All_well j asks fin) same = cc
-no_refusal (Some_refused j asks fin) same = cc
-no_refusal (Is_no_run j asks fin) same = cc
+no_refusal h0 same = grind (arith, common_steps)
 
 -- a refusal of `replay`, whose line stands on err
 abbrev pub Unreplayed : Call → Type 0
 Unreplayed call = (number : ℕ) × (key : List ℕ) × Refuses job.Replay call number key × PutsNothing call.out × PutsText call.err (refused_line number key)
 
 refusal_told : {call : Call} {answer : Status} {line : List ℕ} → FaultLine call answer line → answer ≡ status.Refused → Asks call job.Replay → PutsText call.err line → Unreplayed call
-refusal_told (Wrong_words err reads keeps) same asks stands = let bad : ⊥ = cc in absurd bad
-refusal_told (Read_fault j asked rose keeps) same asks stands = let bad : ⊥ = cc in absurd bad
-refusal_told {call} (Refusal number key j asked refuses keeps) same asks stands =
-    (number, key, subst (λ (k : Job). Refuses k call number key) (same_ok {r = words_of call.words} {a = j} {b = job.Replay} asked asks) refuses, keeps, stands)
-refusal_told (Attach_fault turns interface octets asked works fails rose keeps) same asks stands = let bad : ⊥ = cc in absurd bad
-refusal_told (Turns_spent turns greatest end octets asked works spends keeps) same asks stands = let bad : ⊥ = cc in absurd bad
-refusal_told (Allocation_failure j asked stops) same asks stands = let bad : ⊥ = cc in absurd bad
+refusal_told h0 same asks stands = grind (arith, common_steps, same_ok)
 
 not_replayed : (call : Call) (answer : Status) → OutputStands call answer → answer ≡ status.Refused → Asks call job.Replay → Unreplayed call
-not_replayed call answer (Is_whole whole quiet) same asks = absurd (no_refusal whole same)
-not_replayed call answer (Is_told t) same asks = refusal_told t.due same asks t.stands
-not_replayed call answer (Is_failed failed f) same asks = let bad : ⊥ = cc in absurd bad
+not_replayed call answer h2 same asks = grind (arith, common_steps, no_refusal, refusal_told)
 
 -- ---- words that are no command line
 
 wrong_words : {call : Call} {answer : Status} {line : List ℕ} → FaultLine call answer line → IsErr (words_of call.words) → (answer ≡ status.Words) × ReadsNothing call.input
-wrong_words (Wrong_words err reads keeps) wrong = (refl, reads)
-wrong_words {call} (Read_fault j asks rose keeps) wrong = absurd (none_asked (words_of call.words) j wrong asks)
-wrong_words {call} (Refusal number key j asks refuses keeps) wrong = absurd (none_asked (words_of call.words) j wrong asks)
-wrong_words {call} (Attach_fault turns interface octets asks works fails rose keeps) wrong = absurd (none_asked (words_of call.words) (job.Run turns) wrong asks)
-wrong_words {call} (Turns_spent turns greatest end octets asks works spends keeps) wrong = absurd (none_asked (words_of call.words) (job.Run turns) wrong asks)
-wrong_words {call} (Allocation_failure j asks stops) wrong = absurd (none_asked (words_of call.words) j wrong asks)
+wrong_words h0 wrong = grind (arith, common_steps, none_asked)
 
 no_command : (call : Call) (answer : Status) → OutputStands call answer → IsErr (words_of call.words) → ((answer ≡ status.Words) ⊎ (answer ≡ status.Write)) × ReadsNothing call.input
-no_command call answer (Is_whole whole quiet) wrong = let (j, how, asks, fin) = whole_finishes whole in absurd (none_asked (words_of call.words) j wrong asks)
-no_command call answer (Is_told t) wrong = let w = wrong_words t.due wrong in (inl w.0, w.1)
-no_command call answer (Is_failed failed (On_out j asks front quiet)) wrong = absurd (none_asked (words_of call.words) j wrong asks)
-no_command call answer (Is_failed failed (On_err due line cause rose size stands)) wrong = (inr failed, (wrong_words cause wrong).1)
+no_command call answer h2 wrong = grind (arith, common_steps, whole_finishes, none_asked, wrong_words)
 
 -- ---- what a job reads
 
 made_reads : (call : Call) (how : Ending) (kind : Kind) (routers seed : ℕ) → DoesJob (job.Make kind routers seed) call how → ReadsNothing call.input
-made_reads call how kind routers seed (Unread most is stops keeps air) = let bad : ⊥ = cc in absurd bad
-made_reads call how kind routers seed (Worked octets works leaves uses) = works.1
+made_reads call how kind routers seed h5 = grind (arith, common_steps)
 
 unread : (call : Call) (how : Ending) → Does call how → (kind : Kind) (routers seed : ℕ) → Asks call (job.Make kind routers seed) → ReadsNothing call.input
-unread call how (No_command is err reads keeps air) kind routers seed asks = reads
-unread call how (Did j asked did) kind routers seed asks =
-    made_reads call how kind routers seed (subst (λ (k : Job). DoesJob k call how) (same_ok {r = words_of call.words} {a = j} {b = job.Make kind routers seed} asked asks) did)
+unread call how h2 kind routers seed asks = grind (arith, common_steps, made_reads, same_ok)
 
 told_or_failed : (err : SinkUse) (line : List ℕ) (due answer : Status) → TellsLine err line due answer → (answer ≡ due) ⊎ (answer ≡ status.Write)
-told_or_failed err line due answer (inl (same, stands)) = inl same
-told_or_failed err line due answer (inr (failed, rose, size, stands)) = inr failed
+told_or_failed err line due answer h4 = grind (arith, common_steps)
 
 long_unread : (call : Call) (most : ℕ) (how : Ending) (answer : Status) → StopsReading most call.input how → TellsEnding call.words call.err how answer
     → call.input.taken' ≡ call.input.taken + (most + 1) → (answer ≡ status.Refused) ⊎ (answer ≡ status.Write)
-long_unread call most ending.TooLong answer stops tells long = told_or_failed call.err (refused_line 47 (codes "input")) status.Refused answer tells
-long_unread call most ending.Read answer stops tells long = absurd (stops.1 long)
-long_unread call most ending.Memory answer stops tells long = absurd (stops long)
-long_unread call most other answer stops tells long = absurd stops
+long_unread call most how answer stops tells long = grind (arith, common_steps, told_or_failed)
 
 long_input : (call : Call) (how : Ending) (answer : Status) (j : Job) (most : ℕ) → DoesJob j call how → TellsEnding call.words call.err how answer → (command_in call j).most ≡ Some most
     → call.input.taken' ≡ call.input.taken + (most + 1) → (answer ≡ status.Refused) ⊎ (answer ≡ status.Write)
-long_input call how answer j most (Unread limit read stops keeps air) tells is long =
-    let same : limit ≡ most = cc in long_unread call most how answer (subst (λ (m : ℕ). StopsReading m call.input how) same stops) tells long
-long_input call how answer j most (Worked octets works leaves uses) tells is long = absurd (works_within (command_in call j).most most call.input octets is works long)
+long_input call how answer j most h5 tells is long = grind (arith, common_steps, long_unread, works_within)
 
 one_too_many : (call : Call) (how : Ending) (answer : Status) → Does call how → TellsEnding call.words call.err how answer
     → (j : Job) (most : ℕ) → Asks call j → (command_in call j).most ≡ Some most → call.input.taken' ≡ call.input.taken + (most + 1) → (answer ≡ status.Refused) ⊎ (answer ≡ status.Write)
-one_too_many call how answer (No_command is err reads keeps air) tells j most asks limit long = absurd (none_asked (words_of call.words) j err asks)
-one_too_many call how answer (Did i asked did) tells j most asks limit long =
-    long_input call how answer j most (subst (λ (k : Job). DoesJob k call how) (same_ok {r = words_of call.words} {a = i} {b = j} asked asks) did) tells limit long
+one_too_many call how answer h3 tells j most asks limit long = grind (arith, common_steps, none_asked, long_input, same_ok)
 
 -- ---- an input that has more octets than its job takes
 
 -- no job works on a part of it
 long_works : (call : Call) (j : Job) (most : ℕ) (all : List ℕ) → Asks call j → (command_in call j).most ≡ Some most → call.input.left ≡ Some all → most < length all →
     (i : Job) (octets : List ℕ) → Asks call i → WorksOn i call octets → ⊥
-long_works call j most all asks limit is long i octets asked works =
-    works_short (command_in call j).most most call.input octets all limit (subst (λ (k : Job). WorksOn k call octets) (same_ok {r = words_of call.words} {a = i} {b = j} asked asks) works) is long
+long_works call j most all asks limit is long i octets asked works = grind (arith, common_steps, works_short, same_ok)
 
 long_due : {call : Call} {answer : Status} {line : List ℕ} (j : Job) → FaultLine call answer line → Asks call j →
     ((i : Job) (octets : List ℕ) → Asks call i → WorksOn i call octets → ⊥) → (Rose call.input.faults call.input.faults' → ⊥)
@@ -222,16 +182,12 @@ long_due j (Allocation_failure i asked stops) asks none calm = inr (inr refl)
 
 too_long : (call : Call) (answer : Status) → OutputStands call answer → (j : Job) (most : ℕ) (all : List ℕ) → Asks call j → (command_in call j).most ≡ Some most → call.input.left ≡ Some all → most < length all
     → (Rose call.input.faults call.input.faults' → ⊥) → (answer ≡ status.Refused) ⊎ ((answer ≡ status.Write) ⊎ (answer ≡ status.Memory))
-too_long call answer (Is_whole whole quiet) j most all asks limit is long calm =
-    let (i, how, asked, fin) = whole_finishes whole in absurd (long_works call j most all asks limit is long i fin.octets asked fin.works_on)
-too_long call answer (Is_told t) j most all asks limit is long calm = long_due j t.due asks (long_works call j most all asks limit is long) calm
-too_long call answer (Is_failed failed f) j most all asks limit is long calm = inr (inl failed)
+too_long call answer h2 j most all asks limit is long calm = grind (arith, common_steps, whole_finishes, long_works, long_due)
 
 -- a job refuses what it reads
 refused_read : (call : Call) (j : Job) (octets all : List ℕ) (number : ℕ) (key : List ℕ) → WorksOn j call octets → call.input.left ≡ Some all → (command_in call j).refuses all number key
     → (command_in call j).refuses octets number key
-refused_read call (job.Make kind routers seed) octets all number key works is refuses = absurd refuses
-refused_read call j octets all number key works is refuses = subst (λ (o : List ℕ). (command_in call j).refuses o number key) (sym (whole_input all is works)) refuses
+refused_read call j octets all number key works is refuses = grind (arith, common_steps, whole_input)
 
 whole_not_refused : {call : Call} {answer : Status} (j : Job) (all : List ℕ) (number : ℕ) (key : List ℕ) → Whole call answer → Asks call j → call.input.left ≡ Some all → (command_in call j).refuses all number key → ⊥
 whole_not_refused {call} j all number key whole asks is refused =
@@ -260,22 +216,16 @@ refusal_due j all number key (Allocation_failure i asked stops) asks is refused 
 
 refuses : (call : Call) (answer : Status) → OutputStands call answer → (j : Job) (octets : List ℕ) (number : ℕ) (key : List ℕ) → Asks call j → call.input.left ≡ Some octets → (command_in call j).refuses octets number key
     → (Rose call.input.faults call.input.faults' → ⊥) → (answer ≡ status.Refused) ⊎ ((answer ≡ status.Write) ⊎ (answer ≡ status.Memory))
-refuses call answer (Is_whole whole quiet) j octets number key asks is refused calm = absurd (whole_not_refused j octets number key whole asks is refused)
-refuses call answer (Is_told t) j octets number key asks is refused calm = refusal_due j octets number key t.due asks is refused calm
-refuses call answer (Is_failed failed f) j octets number key asks is refused calm = inr (inl failed)
+refuses call answer h2 j octets number key asks is refused calm = grind (arith, common_steps, whole_not_refused, refusal_due)
 
 -- ---- an input that a job takes isn't refused
 
 takes_rule : (reads : Option ℕ) (command : Command) (input : SourceUse) (octets : List ℕ) (number : ℕ) (key : List ℕ) → TakesUpTo reads command input → IsWorkedOn reads input octets →
     command.refuses octets number key → ⊥
-takes_rule None command input octets number key takes works refused = takes.0 number key (subst (λ (o : List ℕ). command.refuses o number key) works.0 refused)
-takes_rule (Some most) command input octets number key (all, is, few, takes) works refused =
-    takes.0 number key (subst (λ (o : List ℕ). command.refuses o number key) (whole_input all is works) refused)
+takes_rule reads command input octets number key takes works refused = grind (arith, common_steps, whole_input)
 
 takes_short : (reads : Option ℕ) (most : ℕ) (command : Command) (input : SourceUse) → reads ≡ Some most → TakesUpTo reads command input → IsInputTooLong most input → ⊥
-takes_short None most command input limit takes long = let bad : ⊥ = cc in absurd bad
-takes_short (Some fewer) most command input limit (all, is, few, takes) long =
-    let same : fewer ≡ most = cc in long_not_taken most input all is (subst (λ (m : ℕ). length all ≤ m) same few) long
+takes_short reads most command input limit takes long = grind (arith, common_steps, long_not_taken)
 
 takes_all : (call : Call) (number : ℕ) (key : List ℕ) (j : Job) → TakesInput j call → Refuses j call number key → ⊥
 takes_all call number key j takes (Too_long most is long) = takes_short (command_in call j).most most (command_in call j) call.input is takes long
@@ -293,8 +243,7 @@ memory_due : {call : Call} {answer : Status} {line : List ℕ} (j : Job) → Fau
     → (Rose call.input.faults call.input.faults' → ⊥) → (answer ≡ status.Turns) ⊎ (answer ≡ status.Memory)
 memory_due {call} j (Wrong_words err reads keeps) asks input takes calm = absurd (none_asked (words_of call.words) j err asks)
 memory_due j (Read_fault i asked rose keeps) asks input takes calm = absurd (calm rose)
-memory_due {call} j (Refusal number key i asked refused keeps) asks input takes calm =
-    absurd (takes number key (subst (λ (k : Job). Refuses k call number key) (same_ok {r = words_of call.words} {a = i} {b = j} asked asks) refused))
+memory_due {call} j (Refusal number key i asked refused keeps) asks input takes calm = grind (arith, common_steps, same_ok)
 memory_due {call} j (Attach_fault turns interface octets asked works fails rose keeps) asks input takes calm = absurd (attached_all call turns j interface octets asked asks input works fails)
 memory_due j (Turns_spent turns greatest end octets asked works spends keeps) asks input takes calm = inl refl
 memory_due j (Allocation_failure i asked stops) asks input takes calm = inr refl
@@ -309,42 +258,29 @@ whole_status j asks (Some_refused i asked fin) = inr (inl refl)
 whole_status {call} j asks (Is_no_run i asked fin) = inr (inr (inr (inl (refl, same_ok {r = words_of call.words} {a = j} {b = i} asks asked ∙ is_replay call i fin))))
 
 due_status : (j : Job) (answer : Status) → (answer ≡ status.Turns) ⊎ (answer ≡ status.Memory) → IsThrough j answer
-due_status j answer (inl turns) = inr (inr (inl turns))
-due_status j answer (inr memory) = inr (inr (inr (inr memory)))
+due_status j answer h2 = grind (arith, common_steps)
 
 complete : (call : Call) (answer : Status) → OutputStands call answer → (j : Job) → Asks call j → TakesInput j call → ((number : ℕ) (key : List ℕ) → Refuses j call number key → ⊥)
     → (Rose call.input.faults call.input.faults' → ⊥) → (Rose call.out.faults call.out.faults' → ⊥) → (Rose call.err.faults call.err.faults' → ⊥)
     → IsThrough j answer
-complete call answer (Is_whole whole quiet) j asks input takes calm out err = whole_status j asks whole
-complete call answer (Is_told t) j asks input takes calm out err = due_status j answer (memory_due j t.due asks input takes calm)
-complete call answer (Is_failed failed (On_out i asked front quiet)) j asks input takes calm out err = absurd (out front.puts.0)
-complete call answer (Is_failed failed (On_err due line cause rose size stands)) j asks input takes calm out err = absurd (err rose)
+complete call answer h2 j asks input takes calm out err = grind (arith, common_steps, whole_status, due_status, memory_due)
 
 -- ---- what clock and air tell
 
 hands_worked : (call : Call) (how : Ending) (turns : ℕ) → DoesJob (job.Run turns) call how → UsesNoAir call.air ⊎ ((octets : List ℕ) × IsInput 1048576 call.input octets × RunsSoFar octets turns call.air.told)
-hands_worked call how turns (Unread most is stops keeps air) = inl air
-hands_worked call how turns (Worked octets works leaves (inl air)) = inl air
-hands_worked call how turns (Worked octets works leaves (inr runs)) = inr (octets, works, runs)
+hands_worked call how turns h3 = grind (arith, common_steps)
 
 hands : (call : Call) (how : Ending) → Does call how → (turns : ℕ) → Asks call (job.Run turns) → UsesNoAir call.air ⊎ ((octets : List ℕ) × IsInput 1048576 call.input octets × RunsSoFar octets turns call.air.told)
-hands call how (No_command is err reads keeps air) turns asks = inl air
-hands call how (Did j asked did) turns asks =
-    hands_worked call how turns (subst (λ (k : Job). DoesJob k call how) (same_ok {r = words_of call.words} {a = j} {b = job.Run turns} asked asks) did)
+hands call how h2 turns asks = grind (arith, common_steps, hands_worked, same_ok)
 
 airless_worked : (call : Call) (how : Ending) (j : Job) → DoesJob j call how → ((turns : ℕ) → j ≡ job.Run turns → ⊥) → UsesNoAir call.air
-airless_worked call how j (Unread most is stops keeps air) other = air
-airless_worked call how (job.Run turns) (Worked octets works leaves uses) other = absurd (other turns refl)
-airless_worked call how j (Worked octets works leaves uses) other = uses
+airless_worked call how j h3 other = grind (arith, common_steps)
 
 airless : (call : Call) (how : Ending) → Does call how → (j : Job) → Asks call j → ((turns : ℕ) → j ≡ job.Run turns → ⊥) → UsesNoAir call.air
-airless call how (No_command is err reads keeps air) j asks other = air
-airless call how (Did i asked did) j asks other =
-    airless_worked call how j (subst (λ (k : Job). DoesJob k call how) (same_ok {r = words_of call.words} {a = i} {b = j} asked asks) did) other
+airless call how h2 j asks other = grind (arith, common_steps, airless_worked, same_ok)
 
 no_words_airless : (call : Call) (how : Ending) → Does call how → IsErr (words_of call.words) → UsesNoAir call.air
-no_words_airless call how (No_command is err reads keeps air) wrong = air
-no_words_airless call how (Did j asked did) wrong = absurd (none_asked (words_of call.words) j wrong asked)
+no_words_airless call how h2 wrong = grind (arith, common_steps, none_asked)
 
 -- ---- all of it
 

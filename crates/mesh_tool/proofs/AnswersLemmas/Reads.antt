@@ -1,5 +1,5 @@
 -- The octets that a command works on.
-use Rattle.mesh_tool.proofs.Common.{◌≡◌, ℕ, ◌+◌, ◌<◌, ◌≤◌, List, [], ◌++◌, length, Option, Some, None, sym, ap, subst, ◌∙◌, arith, length-append, Consumes, IsAtEnd, append-nil, SourceUse, ReadsNothing, IsInput, IsInputTooLong, IsWorkedOn}
+use Rattle.mesh_tool.proofs.Common.{common_steps, ◌≡◌, ℕ, ◌+◌, ◌<◌, ◌≤◌, List, [], length, Option, Some, None, sym, subst, arith, Consumes, IsAtEnd, SourceUse, ReadsNothing, IsInput, IsInputTooLong, IsWorkedOn}
 
 -- ---- by the most octets of its input
 
@@ -14,30 +14,22 @@ whole_works reads most input octets is works = subst (λ (r : Option ℕ). IsWor
 
 -- no octet more than the most was taken
 pub works_within : (reads : Option ℕ) (most : ℕ) (input : SourceUse) (octets : List ℕ) → reads ≡ Some most → IsWorkedOn reads input octets → input.taken' ≡ input.taken + (most + 1) → ⊥
-works_within reads most input octets is works long =
-    let whole = whole_works reads most input octets is works in omega (arith, whole.count, whole.within, long)
+works_within reads most input octets is works long = grind (arith, common_steps, whole_works)
 
 -- ---- an input that the source tells
 
 whole_taken : (left left' : Option (List ℕ)) (all octets : List ℕ) → left ≡ Some all → Consumes left left' octets → IsAtEnd left' → octets ≡ all
-whole_taken None left' all octets is took end = let bad : ⊥ = cc in absurd bad
-whole_taken (Some l) None all octets is took end = absurd took
-whole_taken (Some l) (Some rest) all octets is took end =
-    let same : l ≡ all = cc in sym (sym same ∙ took ∙ ap (λ (r : List ℕ). octets ++ r) end ∙ append-nil octets)
+whole_taken left left' all octets is took end = grind (arith, common_steps)
 
 part_taken : (left left' : Option (List ℕ)) (all octets : List ℕ) → left ≡ Some all → Consumes left left' octets → length octets ≤ length all
-part_taken None left' all octets is took = let bad : ⊥ = cc in absurd bad
-part_taken (Some l) None all octets is took = absurd took
-part_taken (Some l) (Some rest) all octets is took =
-    let same : l ≡ all = cc in omega (arith, ap length (sym same ∙ took), length-append octets rest)
+part_taken left left' all octets is took = grind (arith, common_steps)
 
 pub whole_input : {most : ℕ} {input : SourceUse} {octets : List ℕ} (all : List ℕ) → input.left ≡ Some all → IsInput most input octets → octets ≡ all
 whole_input {most} {input} {octets} all is whole = whole_taken input.left input.left' all octets is whole.read whole.whole
 
 -- one that has more octets than the most is not worked on
 pub works_short : (reads : Option ℕ) (most : ℕ) (input : SourceUse) (octets all : List ℕ) → reads ≡ Some most → IsWorkedOn reads input octets → input.left ≡ Some all → most < length all → ⊥
-works_short reads most input octets all reading works is long =
-    let whole = whole_works reads most input octets reading works in omega (arith, ap length (whole_input all is whole), whole.within, long)
+works_short reads most input octets all reading works is long = grind (arith, common_steps, whole_works, whole_input)
 
 -- one that has no more isn't too long
 pub long_not_taken : (most : ℕ) (input : SourceUse) (all : List ℕ) → input.left ≡ Some all → length all ≤ most → IsInputTooLong most input → ⊥

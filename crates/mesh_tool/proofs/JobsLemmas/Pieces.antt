@@ -1,5 +1,5 @@
 -- The pieces of a line that tells a fault.
-use Rattle.mesh_tool.proofs.Common.{◌≡◌, ℕ, ◌+◌, ◌<◌, List, [], ◌∷◌, ◌++◌, Bor, codes, drop, get_or, length, map, take, refl, sym, ap, ◌∙◌, append_assoc, concat, append-nil, drop_more, map-append, take-append-drop, take_more, refusal_name, refused_line, attach_line, turns_line}
+use Rattle.mesh_tool.proofs.Common.{arith, common_steps, ◌≡◌, ℕ, ◌+◌, ◌<◌, List, [], ◌++◌, Bor, codes, drop, get_or, length, map, take, refl, sym, ap, ◌∙◌, append_assoc, concat, drop_more, map-append, take-append-drop, take_more, refusal_name, refused_line, attach_line, turns_line}
 use Rattle.std.specs.Fmt.{decimal}
 use Rattle.std.proofs.lemmas.List.Folds.{concat-append}
 
@@ -16,9 +16,7 @@ no_piece = record { ref_ptr = (0, 0); now = [] }
 
 -- one more piece
 pub text_more : (pieces : List (Bor (List ℕ))) (i : ℕ) → i < length pieces → text (take (i + 1) pieces) ≡ text (take i pieces) ++ (get_or pieces i no_piece).now
-text_more pieces i within =
-    let piece = get_or pieces i no_piece in
-    ap text (take_more pieces i no_piece within) ∙ (text-append (take i pieces) (piece ∷ []) ∙ ap (λ (l : List ℕ). text (take i pieces) ++ l) (append-nil piece.now))
+text_more pieces i within = grind (arith, common_steps, take_more, text-append)
 
 -- the pieces before one, that one, and those behind it
 pub text_around : (pieces : List (Bor (List ℕ))) (i : ℕ) → i < length pieces → text (take i pieces) ++ ((get_or pieces i no_piece).now ++ text (drop (i + 1) pieces)) ≡ text pieces

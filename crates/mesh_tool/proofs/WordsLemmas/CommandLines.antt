@@ -1,5 +1,5 @@
 -- Words are read as a job exactly where they ask for it.
-use Rattle.mesh_tool.proofs.Common.{◌≡◌, ℕ, ◌+◌, inl, inr, List, [], ◌∷◌, length, Option, Some, None, Result, Ok, Bool, true, false, ◌&&◌, refl, sym, ap, subst, ◌∙◌, arith, codes, option_map, flat_map, AllByRecursion, bytes_decides, Addr4, only_if, Job, Kind, Parsing, is_word, turns_of, kind_of, routers_of, seed_of, no_emulate_options, plain_jobs, plain_word, command_word, takes, or_at, read_on, words_of, InAnyOrder, OptionWords, make_options, AreEmulateOptions, AreOptions, AskFor}
+use Rattle.mesh_tool.proofs.Common.{common_steps, ◌≡◌, ℕ, inl, inr, List, [], ◌∷◌, length, Option, Some, None, Result, Ok, Bool, true, false, ◌&&◌, refl, sym, ap, subst, ◌∙◌, arith, codes, option_map, flat_map, AllByRecursion, bytes_decides, Addr4, only_if, Job, Kind, Parsing, is_word, turns_of, kind_of, routers_of, seed_of, no_emulate_options, plain_jobs, plain_word, command_word, takes, or_at, read_on, words_of, InAnyOrder, OptionWords, make_options, AreEmulateOptions, AreOptions, AskFor}
 use Rattle.mesh_tool.specs.declared.words.job.Job.TheVariants as job
 use Rattle.mesh_tool.specs.declared.words.asked.Parsing.TheVariants as asked
 use Rattle.mesh_tool.specs.Words.Words.{command_of}
@@ -41,8 +41,7 @@ asked_is_read words j asks = ap words_of (asks.whole ∙ ap (behind (command_of 
 none_more : (asked : Parsing) (j : Job) (place : ℕ) (words : List (List ℕ)) (got : Job) → ((word : List ℕ) (next : Parsing) → takes asked place word ≡ Some next → ⊥)
     → or_at place (Some j) Ok ≡ read_on asked place [] → read_on asked place words ≡ Ok got → (words ≡ []) × (got ≡ j)
 none_more asked j place [] got none is h = (refl, sym (same_job j got (is ∙ h)))
-none_more asked j place (word ∷ words) got none is h =
-    let step = or_at_ok place (takes asked place word) (λ next. read_on next (place + 1) words) got h in absurd (none word step.0 step.1)
+none_more asked j place (word ∷ words) got none is h = grind (arith, common_steps, or_at_ok)
 
 never : (word name : List ℕ) (next found : Parsing) → only_if (is_word word name && false) next ≡ Some found → ⊥
 never word name next found h = let s = only_stands word name false next found h in let bad : false ≡ true = s.1 in cc
@@ -69,19 +68,10 @@ turns_asked word w (n ∷ words) j is its h =
 
 run_asked : (word : List ℕ) (words : List (List ℕ)) (j : Job) → word ≡ codes "run" → read_on (asked.Run None) 1 words ≡ Ok j → AskFor (word ∷ words) j
 run_asked word [] j is h = let bad : ⊥ = cc in absurd bad
-run_asked word (w ∷ words) j is h =
-    let step = or_at_ok 1 (takes (asked.Run None) 1 w) (λ next. read_on next 2 words) j h in
-    let s = only_stands w (codes "--turns") true asked.Turns step.0 step.1 in
-    turns_asked word w words j is s.0 (subst (λ (next : Parsing). read_on next 2 words ≡ Ok j) s.2 step.2)
+run_asked word (w ∷ words) j is h = grind (arith, common_steps, or_at_ok, only_stands, turns_asked)
 
 read_asked : (word : List ℕ) (words : List (List ℕ)) (j : Job) → word ≡ codes "emulate" → ReadFrom false None None 1 words j → AskFor (word ∷ words) j
-read_asked word words j is r =
-    let c = r.comes in
-    subst (AskFor (word ∷ words)) (sym r.is_job) (record {
-      options = r.options;
-      are = record { traces = c.traces; sends = c.sends; probes = c.probes; is_trace = c.is_trace; is_send = c.is_send; is_probe = c.is_probe; any = c.any };
-      whole = ap (λ (w : List ℕ). w ∷ words) is ∙ ap (λ (l : List (List ℕ)). codes "emulate" ∷ l) r.whole;
-    })
+read_asked word words j is r = grind (arith, common_steps)
 
 emulate_asked : (word : List ℕ) (words : List (List ℕ)) (j : Job) → word ≡ codes "emulate" → read_on (asked.Emulate no_emulate_options) 1 words ≡ Ok j → AskFor (word ∷ words) j
 emulate_asked word [] j is h = read_asked word [] j is (all_read false None None 1 j h)

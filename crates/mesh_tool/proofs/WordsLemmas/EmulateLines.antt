@@ -1,5 +1,5 @@
 -- The options of `emulate` of a scenario that is read: asked for, and read.
-use Rattle.mesh_tool.proofs.Common.{◌≡◌, ℕ, zero, suc, ◌+◌, ◌≤◌, ◌⊎◌, inl, inr, List, [], ◌∷◌, ◌++◌, length, Option, Some, None, Result, Ok, Bool, true, false, not, ◌&&◌, refl, sym, ap, subst, ◌∙◌, arith, codes, is_none, flat_map, append-nil, Addr4, ◌>>=◌, address_of, Job, Parsing, is_word, is_without, make_option, no_make_options, emulate_option, or_at, read_on, InAnyOrder, OptionWords, PlacedOption, at_place, placed, IsTraceOption, IsSend, IsProbe, append_none as nothing, cond_none_some}
+use Rattle.mesh_tool.proofs.Common.{common_steps, ◌≡◌, ℕ, zero, suc, ◌+◌, ◌≤◌, ◌⊎◌, inl, inr, List, [], ◌∷◌, ◌++◌, length, Option, Some, None, Result, Ok, Bool, true, false, not, ◌&&◌, refl, sym, ap, subst, ◌∙◌, arith, codes, is_none, flat_map, append-nil, Addr4, ◌>>=◌, address_of, Job, Parsing, is_word, is_without, make_option, no_make_options, emulate_option, or_at, read_on, InAnyOrder, OptionWords, PlacedOption, at_place, placed, IsTraceOption, IsSend, IsProbe, cond_none_some}
 use Rattle.mesh_tool.specs.declared.words.job.Job.TheVariants as job
 use Rattle.mesh_tool.specs.declared.words.asked.Parsing.TheVariants as asked
 use Rattle.mesh_tool.specs.declared.words.asked.EmulateOptions.{EmulateOptions}
@@ -49,41 +49,31 @@ first_place [] = 0
 first_place (x ∷ xs) = x.place
 
 few_trace : (t trace : Bool) (xs : List PlacedOption) → MoreTrace t trace xs → IsFew xs
-few_trace true trace xs more = inl more.1
-few_trace false false xs none = inl none
-few_trace false true xs (place, one) = inr (at_place place (codes "--trace" ∷ []), one)
+few_trace t trace xs more = grind (arith, common_steps, at_place)
 
 few_send : (send : Option (ℕ × Addr4)) (xs : List PlacedOption) → IsSend send xs → IsFew xs
-few_send None xs none = inl none
-few_send (Some w) xs (place, from, dest, at, is, one) = inr (at_place place (send_words from dest), one)
+few_send send xs none = grind (arith, common_steps, at_place)
 
 few_probe : (probe : Option ℕ) (xs : List PlacedOption) → IsProbe probe xs → IsFew xs
-few_probe None xs none = inl none
-few_probe (Some k) xs (place, name, at, one) = inr (at_place place (probe_words name), one)
+few_probe probe xs none = grind (arith, common_steps, at_place)
 
 few_more : {A : Type 0} (Is : Option A → List PlacedOption → Type 0) → ((now : Option A) (xs : List PlacedOption) → Is now xs → IsFew xs) → (stood now : Option A) (xs : List PlacedOption)
     → More Is stood now xs → IsFew xs
-few_more Is few (Some w) now xs more = inl more.1
-few_more Is few None now xs more = few now xs more
+few_more Is few stood now xs more = grind (arith, common_steps)
 
 -- none is left
 trace_done : (t trace : Bool) (xs : List PlacedOption) → MoreTrace t trace xs → xs ≡ [] → trace ≡ t
-trace_done true trace xs more none = more.0
-trace_done false false xs more none = refl
-trace_done false true xs (place, one) none = let bad : ⊥ = cc in absurd bad
+trace_done t trace xs more none = grind (arith, common_steps)
 
 send_done : (send : Option (ℕ × Addr4)) (xs : List PlacedOption) → IsSend send xs → xs ≡ [] → send ≡ None
-send_done None xs is none = refl
-send_done (Some w) xs (place, from, dest, at, is, one) none = let bad : ⊥ = cc in absurd bad
+send_done send xs is none = grind (arith, common_steps)
 
 probe_done : (probe : Option ℕ) (xs : List PlacedOption) → IsProbe probe xs → xs ≡ [] → probe ≡ None
-probe_done None xs is none = refl
-probe_done (Some k) xs (place, name, at, one) none = let bad : ⊥ = cc in absurd bad
+probe_done probe xs is none = grind (arith, common_steps)
 
 more_done : {A : Type 0} (Is : Option A → List PlacedOption → Type 0) → ((now : Option A) (xs : List PlacedOption) → Is now xs → xs ≡ [] → now ≡ None) → (stood now : Option A) (xs : List PlacedOption)
     → More Is stood now xs → xs ≡ [] → now ≡ stood
-more_done Is done (Some w) now xs more none = more.0
-more_done Is done None now xs more none = done now xs more none
+more_done Is done stood now xs more none = grind (arith, common_steps)
 
 not_none : {A : Type 0} (front : List A) (y : A) (back : List A) → [] ≡ front ++ y ∷ back → ⊥
 not_none [] y back e = cc
@@ -99,12 +89,7 @@ module _ (trace : Bool) (send : Option (ℕ × Addr4)) (probe : Option ℕ) wher
 reads_trace : (t : Bool) (s : Option (ℕ × Addr4)) (p : Option ℕ) (trace : Bool) (send : Option (ℕ × Addr4)) (probe : Option ℕ) (place : ℕ) (option : OptionWords) (options : List OptionWords) (xs : List PlacedOption)
     → MoreTrace t trace xs → xs ≡ at_place place option ∷ []
     → (MoreTrace true trace [] → Reads trace send probe true s p (place + length option) options) → Reads trace send probe t s p place (option ∷ options)
-reads_trace true s p trace send probe place option options xs more is on = let none : xs ≡ [] = more.1 in let bad : ⊥ = cc in absurd bad
-reads_trace false s p false send probe place option options xs none is on = let bad : ⊥ = cc in absurd bad
-reads_trace false s p true send probe place option options xs (at, one) is on =
-    let words : option ≡ codes "--trace" ∷ [] = ap first_words (sym is ∙ one) in
-    let count : place + length option ≡ place + 1 = ap (λ (o : OptionWords). place + length o) words in
-    rw words (subst (λ (n : ℕ). Reads true send probe true s p n options) count (on (refl, refl)))
+reads_trace t s p trace send probe place option options xs more is on = grind (arith, common_steps)
 
 reads_send : (t : Bool) (s : Option (ℕ × Addr4)) (p : Option ℕ) (trace : Bool) (send : Option (ℕ × Addr4)) (probe : Option ℕ) (place : ℕ) (option : OptionWords) (options : List OptionWords) (xs : List PlacedOption)
     → More IsSend s send xs → xs ≡ at_place place option ∷ []
@@ -124,23 +109,11 @@ reads_send t None p trace (Some w) probe place option options xs (at, from, dest
 reads_probe : (t : Bool) (s : Option (ℕ × Addr4)) (p : Option ℕ) (trace : Bool) (send : Option (ℕ × Addr4)) (probe : Option ℕ) (place : ℕ) (option : OptionWords) (options : List OptionWords) (xs : List PlacedOption)
     → More IsProbe p probe xs → xs ≡ at_place place option ∷ []
     → ((k : ℕ) → More IsProbe (Some k) probe [] → Reads trace send probe t s (Some k) (place + length option) options) → Reads trace send probe t s p place (option ∷ options)
-reads_probe t s (Some k) trace send probe place option options xs more is on = let none : xs ≡ [] = more.1 in let bad : ⊥ = cc in absurd bad
-reads_probe t s None trace send None place option options xs none is on = let bad : ⊥ = cc in absurd bad
-reads_probe t s None trace send (Some k) place option options xs (at, name, behind, one) is on =
-    let words : option ≡ probe_words name = ap first_words (sym is ∙ one) in
-    let here : place ≡ at = ap first_place (sym is ∙ one) in
-    let count : place + length option ≡ place + 1 + 1 = ap (λ (o : OptionWords). place + length o) words ∙ omega arith in
-    let name_is : k ≡ place + 1 = behind ∙ ap (λ (n : ℕ). n + 1) (sym here) in
-    let rest = subst (λ (n : ℕ). Reads trace send (Some k) t s (Some k) n options) count (on k (refl, refl)) in
-    rw words (subst (λ (n : ℕ). Reads trace send (Some k) t s (Some n) (place + 1 + 1) options) name_is rest)
+reads_probe t s p trace send probe place option options xs more is on = grind (arith, common_steps)
 
 pub comes_read : (trace : Bool) (send : Option (ℕ × Addr4)) (probe : Option ℕ) (options : List OptionWords) (t : Bool) (s : Option (ℕ × Addr4)) (p : Option ℕ) (place : ℕ)
     → Comes t s p trace send probe place options → Reads trace send probe t s p place options
-comes_read trace send probe [] t s p place c =
-    let none : c.traces ++ (c.sends ++ c.probes) ≡ [] = none_left (c.traces ++ (c.sends ++ c.probes)) c.any in
-    let first = nothing c.traces (c.sends ++ c.probes) none in
-    let rest = nothing c.sends c.probes first.1 in
-    rw (trace_done t trace c.traces c.is_trace first.0, more_done IsSend send_done s send c.sends c.is_send rest.0, more_done IsProbe probe_done p probe c.probes c.is_probe rest.1) refl
+comes_read trace send probe [] t s p place c = grind (arith, common_steps, none_left, trace_done, more_done, send_done, probe_done)
 comes_read trace send probe (option ∷ options) t s p place c =
     let x = at_place place option in
     let next = place + length option in
@@ -176,16 +149,13 @@ pub record ReadFrom (t : Bool) (s : Option (ℕ × Addr4)) (p : Option ℕ) (pla
   pub comes : Comes t s p trace send probe place options
 
 none_more_trace : (t : Bool) → MoreTrace t t []
-none_more_trace true = (refl, refl)
-none_more_trace false = refl
+none_more_trace t = grind (arith, common_steps)
 
 none_more_send : (s : Option (ℕ × Addr4)) → More IsSend s s []
-none_more_send (Some w) = (refl, refl)
-none_more_send None = refl
+none_more_send s = grind (arith, common_steps)
 
 none_more_probe : (p : Option ℕ) → More IsProbe p p []
-none_more_probe (Some k) = (refl, refl)
-none_more_probe None = refl
+none_more_probe p = grind (arith, common_steps)
 
 pub all_read : (t : Bool) (s : Option (ℕ × Addr4)) (p : Option ℕ) (place : ℕ) (j : Job) → read_on (asked.Emulate (options_of t s p)) place [] ≡ Ok j → ReadFrom t s p place [] j
 all_read t s p place j h = record {
@@ -285,13 +255,10 @@ ReadsOn n j = (t : Bool) (s : Option (ℕ × Addr4)) (p : Option ℕ) (place : �
     → read_on (asked.Emulate (options_of t s p)) place words ≡ Ok j → ReadFrom t s p place words j
 
 send_stood : (t : Bool) (w : ℕ × Addr4) (p : Option ℕ) → is_without (options_of t (Some w) p) ≡ false
-send_stood true w p = refl
-send_stood false w p = refl
+send_stood t w p = grind (arith, common_steps)
 
 probe_stood : (t : Bool) (s : Option (ℕ × Addr4)) (k : ℕ) → is_without (options_of t s (Some k)) ≡ false
-probe_stood true s k = refl
-probe_stood false (Some w) k = refl
-probe_stood false None k = refl
+probe_stood t s k = grind (arith, common_steps)
 
 sends_on : (n : ℕ) (j : Job) (t : Bool) (p : Option ℕ) (place : ℕ) (w : List ℕ) (words : List (List ℕ)) → length words ≤ n → w ≡ codes "--send"
     → read_on (asked.EmulateAwaits (options_of t None p) value.From) (place + 1) words ≡ Ok j → ReadsOn n j → ReadFrom t None p place (w ∷ words) j
@@ -304,8 +271,7 @@ sends_on n j t p place w (from ∷ dest ∷ words) short is h on =
 probes_on : (n : ℕ) (j : Job) (t : Bool) (s : Option (ℕ × Addr4)) (place : ℕ) (w : List ℕ) (words : List (List ℕ)) → length words ≤ n → w ≡ codes "--probe"
     → read_on (asked.EmulateAwaits (options_of t s None) value.Name) (place + 1) words ≡ Ok j → ReadsOn n j → ReadFrom t s None place (w ∷ words) j
 probes_on n j t s place w [] short is h on = let bad : ⊥ = cc in absurd bad
-probes_on n j t s place w (name ∷ words) short is h on =
-    with_probe t s place w name words j is (on t s (Some (place + 1)) (place + 1 + 1) words (omega (arith, short)) (probe_stood t s (place + 1)) h)
+probes_on n j t s place w (name ∷ words) short is h on = grind (arith, common_steps, with_probe, probe_stood)
 
 -- where none of a made scenario's options stands, or the first of them does
 abbrev pub IsOption : ℕ → Job → Bool → Option (ℕ × Addr4) → Option ℕ → ℕ → List ℕ → List (List ℕ) → Type 0

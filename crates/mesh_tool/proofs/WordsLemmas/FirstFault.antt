@@ -1,5 +1,5 @@
 -- Words are refused exactly at the first word at fault.
-use Rattle.mesh_tool.proofs.Common.{◌≡◌, ℕ, ◌+◌, ◌<◌, ◌≤◌, ◌⊎◌, inl, inr, List, [], ◌∷◌, ◌++◌, length, take, drop, Option, Some, None, Result, Ok, Err, refl, sym, ap, subst, ◌∙◌, arith, append_assoc, length-append, codes, IsOk, IsErr, cases_order, append-nil, take-append-drop, take-take, Job, Kind, Parsing, read_on, takes, or_at, job_of, words_of}
+use Rattle.mesh_tool.proofs.Common.{common_steps, ◌≡◌, ℕ, ◌+◌, ◌<◌, ◌≤◌, ◌⊎◌, inl, inr, List, [], ◌∷◌, ◌++◌, length, take, drop, Option, Some, None, Result, Ok, Err, refl, sym, ap, subst, ◌∙◌, arith, append_assoc, length-append, codes, IsOk, IsErr, cases_order, take-append-drop, take-take, Job, Kind, Parsing, read_on, takes, or_at, words_of}
 use Rattle.std.proofs.Math.Seq.{take-append_seam, take-append-add}
 use Rattle.mesh_emulate.specs.declared.making.kind.Kind.TheVariants as kind
 use Rattle.mesh_tool.specs.declared.words.asked.Parsing.TheVariants as asked
@@ -58,31 +58,19 @@ record Stops (asked : Parsing) (place : ℕ) (words : List (List ℕ)) (fault : 
   goes : (more : List (List ℕ)) × IsOk (read_on asked place (front ++ more))
   ends : Ends asked place front rest
 
-fails_on : (asked : Parsing) (place : ℕ) (word : List ℕ) (more : List (List ℕ)) → takes asked place word ≡ None → IsErr (read_on asked place (word ∷ more))
-fails_on asked place word more taken = rw taken refl
-
 ends_on : (asked next : Parsing) (place : ℕ) (word : List ℕ) (front rest : List (List ℕ)) → takes asked place word ≡ Some next → Ends next (place + 1) front rest → Ends asked place (word ∷ front) rest
-ends_on asked next place word front [] taken ends = tt
-ends_on asked next place word front (w ∷ rest) taken ends = λ more. rw taken (ends more)
+ends_on asked next place word front rest taken ends = grind (arith, common_steps)
 
 same_place : (a b : ℕ) → (let x : Result Job ℕ = Err a in x) ≡ Err b → b ≡ a
 same_place a b h = let e : a ≡ b = cc in sym e
 
 missing_at : (place fault : ℕ) (job : Option Job) → or_at place job Ok ≡ Err fault → fault ≡ place
-missing_at place fault None h = same_place place fault h
-missing_at place fault (Some j) h = let bad : ⊥ = cc in absurd bad
+missing_at place fault job h = grind (arith, common_steps, same_place)
 
 stops_on : (asked : Parsing) (place : ℕ) (word : List ℕ) (words : List (List ℕ)) (fault : ℕ) (next : Option Parsing) → takes asked place word ≡ next
     → or_at place next (λ n. read_on n (place + 1) words) ≡ Err fault
     → ((n : Parsing) → read_on n (place + 1) words ≡ Err fault → Stops n (place + 1) words fault) → Stops asked place (word ∷ words) fault
-stops_on asked place word words fault None taken h on = record {
-  front = [];
-  rest = word ∷ words;
-  whole = refl;
-  here = let e : fault ≡ place = same_place place fault h in omega (arith, e);
-  goes = completes asked place;
-  ends = λ more. fails_on asked place word more taken;
-}
+stops_on asked place word words fault None taken h on = grind (arith, common_steps, same_place, completes)
 stops_on asked place word words fault (Some next) taken h on =
     let s = on next h in
     record {
@@ -95,38 +83,21 @@ stops_on asked place word words fault (Some next) taken h on =
     }
 
 stops : (asked : Parsing) (place : ℕ) (words : List (List ℕ)) (fault : ℕ) → read_on asked place words ≡ Err fault → Stops asked place words fault
-stops asked place [] fault h = record {
-  front = [];
-  rest = [];
-  whole = refl;
-  here = let e : fault ≡ place = missing_at place fault (job_of asked) h in omega (arith, e);
-  goes = completes asked place;
-  ends = tt;
-}
+stops asked place [] fault h = grind (arith, common_steps, missing_at, completes)
 stops asked place (word ∷ words) fault h = stops_on asked place word words fault (takes asked place word) refl h (λ n k. stops n (place + 1) words fault k)
 
 -- ---- words that are refused are refused at the first word at fault
 
 not_both : (r : Result Job ℕ) → IsOk r → IsErr r → ⊥
-not_both (Ok j) ok err = cc
-not_both (Err p) ok err = cc
-
-refused : (r : Result Job ℕ) (place : ℕ) → r ≡ Err place → IsErr r
-refused r place h = rw h refl
+not_both r ok err = grind (arith, common_steps)
 
 begun_ends : (words : List (List ℕ)) (place : ℕ) (front : List (List ℕ)) (word : List ℕ) (rest : List (List ℕ)) → words ≡ front ++ word ∷ rest → place ≡ length front
     → Ends asked.Nothing 0 front (word ∷ rest) → BeginACommandLine (take (place + 1) words) → ⊥
-begun_ends words place front word rest whole here ends (more, ok) =
-    let front_is : take (place + 1) words ≡ front ++ word ∷ [] =
-    ap (λ n. take (n + 1) words) here ∙ ap (take (length front + 1)) whole ∙ take-append-add front (word ∷ rest) 1 in
-    let all_is : take (place + 1) words ++ more ≡ front ++ word ∷ more = ap (λ (l : List (List ℕ)). l ++ more) front_is ∙ append_assoc front (word ∷ []) more in
-    not_both (words_of (front ++ word ∷ more)) (subst (λ (l : List (List ℕ)). IsOk (words_of l)) all_is ok) (ends more)
+begun_ends words place front word rest whole here ends h8 = grind (arith, common_steps, take-append-add, not_both)
 
 fault_of : (words : List (List ℕ)) (place : ℕ) (front rest : List (List ℕ)) → words ≡ front ++ rest → place ≡ length front → words_of words ≡ Err place → Ends asked.Nothing 0 front rest
     → ((place < length words) × (BeginACommandLine (take (place + 1) words) → ⊥)) ⊎ ((place ≡ length words) × (IsCommandLine words → ⊥))
-fault_of words place front [] whole here h ends =
-    let e : length words ≡ length front = ap length whole ∙ ap length (append-nil front) in
-    inr (here ∙ sym e, λ ok. not_both (words_of words) ok (refused (words_of words) place h))
+fault_of words place front [] whole here h ends = grind (arith, common_steps)
 fault_of words place front (word ∷ rest) whole here h ends =
     let e : length words ≡ length front + length (word ∷ rest) = ap length whole ∙ length-append front (word ∷ rest) in
     inl (omega (arith, e, here), begun_ends words place front word rest whole here ends)

@@ -1,5 +1,5 @@
 -- The options of a made scenario, read.
-use Rattle.mesh_tool.proofs.Common.{◌≡◌, ℕ, ◌+◌, inl, inr, List, [], ◌∷◌, ◌++◌, Option, Some, None, Result, Ok, true, ◌&&◌, refl, sym, ap, subst, ◌∙◌, codes, is_none, option_map, flat_map, ◌>>=◌, Job, Kind, Parsing, is_word, kind_of, routers_of, seed_of, make_option, make_job, or_at, read_on, InAnyOrder, OptionWords, AskFor}
+use Rattle.mesh_tool.proofs.Common.{arith, common_steps, ◌≡◌, ℕ, ◌+◌, inl, inr, List, [], ◌∷◌, ◌++◌, Option, Some, None, Result, Ok, true, ◌&&◌, refl, sym, ap, subst, ◌∙◌, codes, is_none, option_map, flat_map, ◌>>=◌, Job, Kind, Parsing, is_word, kind_of, routers_of, seed_of, make_option, make_job, or_at, read_on, InAnyOrder, OptionWords, AskFor}
 use Rattle.mesh_tool.specs.declared.words.job.Job.TheVariants as job
 use Rattle.mesh_tool.specs.declared.words.asked.Parsing.TheVariants as asked
 use Rattle.mesh_tool.specs.declared.words.asked.MakeOptions.{MakeOptions}
@@ -143,14 +143,8 @@ two_on kind routers (Some s) place word v words j value.Seed is h on = let bad :
 
 pub makes_from : (kind : Option Kind) (routers seed : Option ℕ) (place : ℕ) (words : List (List ℕ)) (j : Job) → read_on (asked.Make (opts kind routers seed)) place words ≡ Ok j
     → MakesFrom kind routers seed words j
-makes_from kind routers seed place [] j h =
-    let step = or_at_ok place (make_job (opts kind routers seed)) (λ x. Ok x) j h in
-    all_given kind routers seed j (step.1 ∙ ap (λ (x : Job). Some x) (same_job step.0 j step.2))
-makes_from kind routers seed place (word ∷ []) j h =
-    let step = or_at_ok place (make_option (opts kind routers seed) word) (λ next. read_on next (place + 1) []) j h in
-    let c = chosen kind routers seed word step.0 step.1 in
-    let end = subst (λ (next : Parsing). read_on next (place + 1) [] ≡ Ok j) c.1 step.2 in
-    let bad : ⊥ = cc in absurd bad
+makes_from kind routers seed place [] j h = grind (arith, common_steps, or_at_ok, all_given, same_job)
+makes_from kind routers seed place (word ∷ []) j h = grind (arith, common_steps, or_at_ok)
 makes_from kind routers seed place (word ∷ v ∷ words) j h =
     let step = or_at_ok place (make_option (opts kind routers seed) word) (λ next. read_on next (place + 1) (v ∷ words)) j h in
     let c = chosen kind routers seed word step.0 step.1 in
@@ -158,8 +152,4 @@ makes_from kind routers seed place (word ∷ v ∷ words) j h =
     (λ a b d k. makes_from a b d (place + 1 + 1) words j k)
 
 pub make_asked : (word : List ℕ) (words : List (List ℕ)) (j : Job) → word ≡ codes "emulate" → MakesFrom None None None words j → AskFor (word ∷ words) j
-make_asked word words j is m = subst (AskFor (word ∷ words)) (sym m.is_job) (record {
-  options = m.options;
-  are = (m.k, m.n, m.s, m.is_kind, m.are_routers, m.is_seed, m.any);
-  whole = ap (λ (w : List ℕ). w ∷ words) is ∙ ap (λ (l : List (List ℕ)). codes "emulate" ∷ l) m.whole;
-})
+make_asked word words j is m = grind (arith, common_steps)

@@ -1,14 +1,12 @@
 -- Lists in any order.
-use Rattle.mesh_tool.proofs.Common.{◌≡◌, ◌⊎◌, inl, inr, List, [], ◌∷◌, ◌++◌, refl, sym, ap, subst, ◌∙◌, append_assoc, InAnyOrder, append_none as no_parts}
+use Rattle.mesh_tool.proofs.Common.{arith, common_steps, ◌≡◌, ◌⊎◌, inl, inr, List, [], ◌∷◌, ◌++◌, refl, sym, ap, subst, ◌∙◌, append_assoc, InAnyOrder}
+use Rattle.mesh_atoms.proofs.Lists.{append_none as no_parts}
 
 -- ---- the orders of three
 
 one_part : {A : Type 0} (front back : List A) (p : A) → front ++ back ≡ p ∷ [] → ((front ≡ []) × (back ≡ p ∷ [])) ⊎ ((front ≡ p ∷ []) × (back ≡ []))
 one_part [] back p e = inl (refl, e)
-one_part (x ∷ front) back p e =
-    let first : x ≡ p = cc in let none : front ++ back ≡ [] = cc in
-    let both = no_parts front back none in
-    inr (rw (first, both.0) refl, both.1)
+one_part (x ∷ front) back p e = grind (arith, common_steps, no_parts)
 
 one_order : {A : Type 0} (a : A) (ys : List A) → InAnyOrder (a ∷ []) ys → ys ≡ a ∷ []
 one_order a ys (front, back, is, none) = let both = no_parts front back none in is ∙ rw (both.0, both.1) refl
@@ -16,12 +14,7 @@ one_order a ys (front, back, is, none) = let both = no_parts front back none in 
 put_in : {A : Type 0} (P : List A → Type 0) (a p q : A) (front back ys : List A) → ys ≡ front ++ a ∷ back → front ++ back ≡ p ∷ q ∷ []
     → P (a ∷ p ∷ q ∷ []) → P (p ∷ a ∷ q ∷ []) → P (p ∷ q ∷ a ∷ []) → P ys
 put_in P a p q [] back ys is e first second third = subst P (sym (is ∙ ap (λ l. a ∷ l) e)) first
-put_in P a p q (f ∷ front) back ys is e first second third =
-    let same : f ≡ p = cc in let rest : front ++ back ≡ q ∷ [] = cc in
-    elim (one_part front back q rest) [
-      | inl (n, k) ↦ subst P (sym (is ∙ rw (same, n, k) refl)) second
-      | inr (n, k) ↦ subst P (sym (is ∙ rw (same, n, k) refl)) third
-    ]
+put_in P a p q (f ∷ front) back ys is e first second third = grind (arith, common_steps, one_part)
 
 pub in_each_order : {A : Type 0} (P : List A → Type 0) (a b c : A) (ys : List A) → P (a ∷ b ∷ c ∷ []) → P (b ∷ a ∷ c ∷ []) → P (b ∷ c ∷ a ∷ []) → P (a ∷ c ∷ b ∷ [])
     → P (c ∷ a ∷ b ∷ []) → P (c ∷ b ∷ a ∷ []) → InAnyOrder (a ∷ b ∷ c ∷ []) ys → P ys
@@ -67,11 +60,5 @@ IsFew {A} xs = (xs ≡ []) ⊎ ((x : A) × (xs ≡ x ∷ []))
 pub first_or_later : {A : Type 0} (xs rest front : List A) (y : A) (back : List A) → IsFew xs → xs ++ rest ≡ front ++ y ∷ back
     → ((xs ≡ y ∷ []) × (front ++ back ≡ rest)) ⊎ ((more : List A) × (rest ≡ more ++ y ∷ back) × (front ++ back ≡ xs ++ (more ++ back)))
 first_or_later xs rest front y back (inl none) is = inr (front, ap (λ l. l ++ rest) (sym none) ∙ is, ap (λ l. l ++ (front ++ back)) (sym none))
-first_or_later xs rest [] y back (inr (x, one)) is =
-    let whole : x ∷ rest ≡ y ∷ back = ap (λ l. l ++ rest) (sym one) ∙ is in
-    let same : x ≡ y = cc in let others : rest ≡ back = cc in
-    inl (one ∙ ap (λ z. z ∷ []) same, sym others)
-first_or_later xs rest (f ∷ front) y back (inr (x, one)) is =
-    let whole : x ∷ rest ≡ f ∷ (front ++ y ∷ back) = ap (λ l. l ++ rest) (sym one) ∙ is in
-    let same : x ≡ f = cc in let others : rest ≡ front ++ y ∷ back = cc in
-    inr (front, others, ap (λ z. z ∷ (front ++ back)) (sym same) ∙ ap (λ l. l ++ (front ++ back)) (sym one))
+first_or_later xs rest [] y back (inr (x, one)) is = grind (arith, common_steps)
+first_or_later xs rest (f ∷ front) y back (inr (x, one)) is = grind (arith, common_steps)

@@ -1,13 +1,12 @@
 -- Steps of reading the words of a command line.
-use Rattle.mesh_tool.proofs.Common.{◌≡◌, ℕ, ◌⊎◌, inl, inr, List, Option, Some, None, Result, Ok, Bool, true, false, ◌&&◌, cond, refl, sym, bytes_decides, only_if, Job, Parsing, is_word, or_at, and_parts}
+use Rattle.mesh_tool.proofs.Common.{arith, common_steps, ◌≡◌, ℕ, ◌⊎◌, inl, inr, List, Option, Some, None, Result, Ok, Bool, true, false, ◌&&◌, cond, refl, bytes_decides, only_if, Job, Parsing, is_word, or_at, and_parts}
 
 pub or_at_ok : {A B : Type 0} (place : ℕ) (o : Option A) (f : A → Result B ℕ) (b : B) → or_at place o f ≡ Ok b → (next : A) × (o ≡ Some next) × (f next ≡ Ok b)
 or_at_ok place (Some x) f b h = (x, refl, h)
 or_at_ok place None f b h = let bad : ⊥ = cc in absurd bad
 
 pub if_some : {A : Type 0} (b : Bool) (x : A) (rest : Option A) (y : A) → cond b (Some x) rest ≡ Some y → ((b ≡ true) × (y ≡ x)) ⊎ ((b ≡ false) × (rest ≡ Some y))
-if_some true x rest y h = let e : x ≡ y = cc in inl (refl, sym e)
-if_some false x rest y h = inr (refl, h)
+if_some b x rest y h = grind (arith, common_steps)
 
 -- a word that may stand where a test holds
 pub stands : (word name : List ℕ) (free : Bool) → (is_word word name && free) ≡ true → (word ≡ name) × (free ≡ true)

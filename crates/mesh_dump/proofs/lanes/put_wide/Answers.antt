@@ -1,4 +1,4 @@
-use Rattle.mesh_dump.proofs.Common.{◌≡◌, ◌+◌, ◌*◌, ◌/◌, ◌≤◌, length, subst, ap, ◌∙◌, arith, length-put_chunk, AreHexPairs}
+use Rattle.mesh_dump.proofs.Common.{common_steps, ◌+◌, ◌*◌, ◌≤◌, length, ap, ◌∙◌, arith, length-put_chunk}
 use Rattle.mesh_dump.proofs.Wide.{both_low, sixteen_more}
 use Rattle.mesh_dump.proofs.lanes.put_wide.Goals as goal
 
@@ -14,7 +14,4 @@ loop-i-preserved c =
     }
 
 pub returns-clause-octets : goal.returns-clause-octets
-returns-clause-octets c = λ yes.
-    let all : c.loop-i.i ≡ length c.loop-i.out / 16 = omega (arith, c.loop-i-test.false, c.loop-i.auto.i-end, c.loop-i.invariant.size) in
-    let same : length c.loop-i.out ≡ length c.args.out.now = c.loop-i.invariant.size in
-    subst (λ n. AreHexPairs c.args.text.now c.loop-i.out (16 * (n / 16))) same (subst (λ n. AreHexPairs c.args.text.now c.loop-i.out (16 * n)) all (c.loop-i.invariant.pairs (c.are_low.ensures yes)))
+returns-clause-octets c = grind (arith, common_steps, c.loop-i.invariant.size, c.loop-i.invariant.pairs, c.are_low.ensures)

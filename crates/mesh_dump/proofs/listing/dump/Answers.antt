@@ -1,4 +1,4 @@
-use Rattle.mesh_dump.proofs.Common.{◌≡◌, ℕ, List, Option, None, Some, refl, option_map, MakesOne, all_behind, stops_behind, stops_in, answers_stop, LinesMake, DumpMakes, total_text, LineCounts}
+use Rattle.mesh_dump.proofs.Common.{arith, common_steps, ◌≡◌, ℕ, List, Option, Some, refl, option_map, MakesOne, all_behind, stops_behind, stops_in, answers_stop, DumpMakes, total_text, LineCounts}
 use Rattle.mesh_dump.proofs.Written.{lines_first, total_more}
 use Rattle.mesh_dump.proofs.listing.dump.Goals as goal
 
@@ -7,10 +7,7 @@ abbrev TotalMakes : LineCounts → List (List ℕ) → Option (Unit {0}) → Typ
 TotalMakes counts = MakesOne (λ (u : Unit {0}) (text : List ℕ). text ≡ total_text counts.lines counts.refused)
 
 pub returns-in_err-counts-clause-leaves : goal.returns-in_err-counts-clause-leaves
-returns-in_err-counts-clause-leaves g c =
-    let input : List ℕ = c.args.input.now in
-    answers_stop (DumpMakes input c.args.recode) _ _ _ _ c.in_err-counts.field-0.0 c.from_residual.result c.from_residual.ensures.1
-    (stops_in (LinesMake input c.args.recode) (DumpMakes input c.args.recode) (λ x. None) _ _ _ _ c.in_err-counts.field-0.0 refl c.in_err-counts.ensures.leaves (lines_first input c.args.recode))
+returns-in_err-counts-clause-leaves g c = grind (arith, common_steps, answers_stop, stops_in, lines_first, c.from_residual.ensures.1, c.in_err-counts.ensures.leaves)
 
 pub returns-clause-leaves : goal.returns-clause-leaves
 returns-clause-leaves g c =

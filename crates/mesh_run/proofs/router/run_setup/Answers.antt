@@ -1,4 +1,5 @@
-use Rattle.mesh_run.proofs.Common.{◌<◌, ◌∙◌, List, ap, length, map, subst, take, Port, TellsMore, attached_report}
+use Rattle.mesh_run.proofs.Common.{◌<◌, ◌∙◌, List, ap, length, map, subst, take, TellsMore, attached_report}
+use Rattle.mesh_atoms.specs.declared.settings.Port.{Port}
 use Rattle.mesh_run.proofs.Endings.{ends_behind, attach_left}
 use Rattle.mesh_run.proofs.router.run_setup.Goals as goal
 

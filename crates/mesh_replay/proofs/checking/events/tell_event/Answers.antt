@@ -1,23 +1,12 @@
-use Rattle.mesh_replay.proofs.Common.{subst, if_ok_weaker, TellsRelays}
-use Rattle.mesh_replay.proofs.CheckingLemmas.Opened.{event_not, event_told, in_again, lines_again, sound_again}
+use Rattle.mesh_replay.proofs.Common.{arith, common_steps, subst, if_ok_weaker, TellsRelays}
+use Rattle.mesh_replay.proofs.CheckingLemmas.Opened.{event_not, event_told, sound_again}
 use Rattle.mesh_replay.proofs.checking.events.tell_event.Goals as goal
 
 pub returns-in_default : goal.returns-in_default
-returns-in_default g c =
-    event_not c.args.lines.now c.requires.begun.is_in (subst (TellsRelays c.args.case.now c.args.progress.now c.tell_relays.new.progress c.args.event.now (g.R.RouterOfTrace.state c.args.router.now)) c.in_default.is c.in_ok-relays.ensures)
-
-pub tell_sent-requires-clause-progress : goal.tell_sent-requires-clause-progress
-tell_sent-requires-clause-progress g c =
-    (subst (TellsRelays c.args.case.now c.args.progress.now c.tell_relays.new.progress c.args.event.now (g.R.RouterOfTrace.state c.args.router.now)) c.in-Some.is c.in_ok-relays.ensures).progress
-
-pub tell_sent-requires-clause-router : goal.tell_sent-requires-clause-router
-tell_sent-requires-clause-router g c = in_again c.requires.begun.is_in c.take_relays.ensures
+returns-in_default g c = grind (arith, common_steps, event_not, c.requires.begun.is_in, c.in_default.is, c.in_ok-relays.ensures)
 
 pub tell_sent-requires-clause-sound : goal.tell_sent-requires-clause-sound
 tell_sent-requires-clause-sound g c = sound_again c.requires.begun.sound c.take_relays.ensures
-
-pub tell_sent-requires-clause-lines : goal.tell_sent-requires-clause-lines
-tell_sent-requires-clause-lines g c = lines_again c.requires.lines c.take_relays.ensures
 
 pub returns : goal.returns
 returns g c =

@@ -1,4 +1,4 @@
-use Rattle.mesh_replay.proofs.Common.{◌≡◌, rules, arith, None, ap, map, slice_get, drop_all, Sent, none_past}
+use Rattle.mesh_replay.proofs.Common.{common_steps, arith, ap, map, drop_all, Sent, none_past}
 use Rattle.mesh_replay.proofs.CheckingLemmas.Telling.{tells_more, tells_nowhere, tells_stop, tells_to}
 use Rattle.mesh_replay.proofs.FramesLemmas.Items.{frames_from}
 use Rattle.mesh_replay.proofs.checking.frames.tell_outbox.Goals as goal
@@ -18,6 +18,4 @@ pub returns-after-loop-i : goal.returns-after-loop-i
 returns-after-loop-i c = tells_to c.loop-i.invariant (λ s. ap (map Sent) (drop_all c.loop-i.i c.args.out.now (let whole = c.len-i-end.ensures in let done = c.loop-i-test.false in omega (arith, whole, done))))
 
 pub returns-in_default : goal.returns-in_default
-returns-in_default c =
-    let none : slice_get c.args.out.now c.loop-i.i ≡ None = search rules in
-    tells_to c.loop-i.invariant (λ s. ap (map Sent) (drop_all c.loop-i.i c.args.out.now (none_past c.args.out.now c.loop-i.i none)))
+returns-in_default c = grind (arith, common_steps, tells_to, drop_all, none_past, c.loop-i.invariant)

@@ -1,4 +1,4 @@
-use Rattle.mesh_replay.proofs.Common.{◌<◌, ◌≤◌, All, min, Delivery, delivery_of}
+use Rattle.mesh_replay.proofs.Common.{arith, common_steps, ◌≤◌, min, delivery_of}
 use Rattle.mesh_replay.proofs.SceneLemmas.Ticks.{found_next, hearing_next, taken_arc, taken_progress}
 use Rattle.mesh_replay.proofs.checking.next.next_of.Goals as goal
 
@@ -18,6 +18,4 @@ returns-in-Some-clause-progress c =
     taken_progress c.args.case.now routers c.args.due c.args.last_ticks c.args.progress.now sound (delivery_of c.in-Some.landed) c.take.new.self c.in-Some.ensures.first c.in-Some.ensures.seed
 
 pub returns-in-None-clause-next : goal.returns-in-None-clause-next
-returns-in-None-clause-next c =
-    let quiet : All (λ (d : Delivery). min c.args.due.moment c.args.case.now.scenario.now.end < d.moment) c.args.progress.now.traffic.traffic.air = rw (← c.min-limit.ensures) c.in-None.ensures.limit in
-    found_next c.args.case.now c.args.due c.args.last_ticks c.args.progress.now c.take.new.self c.next_tick.result quiet c.in-None.ensures.first c.next_tick.ensures
+returns-in-None-clause-next c = grind (arith, common_steps, found_next, c.min-limit.ensures, c.in-None.ensures.limit, c.in-None.ensures.first, c.next_tick.ensures)

@@ -1,4 +1,5 @@
-use Rattle.mesh_replay.proofs.Common.{sym, subst, ◌↔◌, IfOk, IsTrue, DueMessage, WritesSent}
+use Rattle.mesh_replay.proofs.Common.{sym, subst, ◌↔◌, IfOk, IsTrue, WritesSent}
+use Rattle.mesh_replay.specs.declared.checking.octets.DueMessage.{DueMessage}
 use Rattle.mesh_replay.proofs.checking.octets.spells.Goals as goal
 
 pub returns-in-Hello : goal.returns-in-Hello

@@ -1,5 +1,5 @@
-use Rattle.mesh_replay.proofs.Common.{subst, ◌↔◌, IsTrue, MayTell}
-use Rattle.mesh_replay.proofs.CheckingLemmas.Texts.{takes_none, takes_not, takes_one}
+use Rattle.mesh_replay.proofs.Common.{arith, common_steps, subst, ◌↔◌, IsTrue, MayTell}
+use Rattle.mesh_replay.proofs.CheckingLemmas.Texts.{takes_none, takes_not}
 use Rattle.mesh_replay.proofs.RelaysLemmas.Chosen.{all_wide, are_wide}
 use Rattle.mesh_replay.proofs.checking.relays.other_relays.Goals as goal
 
@@ -13,6 +13,4 @@ returns-then-not-branch g c =
     (subst (λ l. IsTrue c.in_ok-may_be.field-0 ↔ MayTell (g.R.RouterOfTrace.state c.args.router.now) c.args.iface l) c.as_slice.ensures c.in_ok-may_be.ensures) c.if-not-branch.true
 
 pub returns : goal.returns
-returns g c =
-    takes_one (λ relays may. all_wide relays (are_wide (g.R.RouterOfTrace.state c.args.router.now) c.args.iface relays c.requires.addresses may)) c.in_ok-relays.ensures c.in-Some.relays c.in-Some.is
-    (subst (λ l. MayTell (g.R.RouterOfTrace.state c.args.router.now) c.args.iface l) c.as_slice.ensures (c.in_ok-may_be.ensures.0 c.if-not-branch.false)) c.take.ensures.took.0 c.take.ensures.took.1 c.take.ensures.reading
+returns g c = grind (arith, common_steps, are_wide, c.requires.addresses, c.in_ok-relays.ensures, c.in-Some.is, c.as_slice.ensures, c.in_ok-may_be.ensures.0, c.take.ensures.took.0)

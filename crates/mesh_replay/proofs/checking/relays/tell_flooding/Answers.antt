@@ -1,4 +1,4 @@
-use Rattle.mesh_replay.proofs.Common.{◌≡◌, ◌<◌, ℕ, length, ap, subst, arith, RouterSettings, HasTold}
+use Rattle.mesh_replay.proofs.Common.{common_steps, ◌<◌, length, ap, arith, RouterSettings}
 use Rattle.mesh_replay.proofs.RelaysLemmas.Telling.{stops_flooding, told_more, told_nothing}
 use Rattle.mesh_replay.proofs.checking.relays.tell_flooding.Goals as goal
 
@@ -18,8 +18,4 @@ loop-iface-preserved g c =
     told_more c.requires.begun.is_in c.loop-iface.invariant inside c.in_ok-relays.ensures c.in-Some.is c.in_ok-push-in-Some.ensures.ok
 
 pub returns : goal.returns
-returns g c =
-    let all : c.loop-iface.iface ≡ length (g.R.RouterOfTrace.state c.args.router.now).settings.interfaces =
-    (let a = c.loop-iface-test.false in let b = c.len-iface-end.ensures in let d = ap (λ (r : RouterSettings). length r.interfaces) c.requires.begun.is_in.settings in
-    let e = c.loop-iface.auto.iface-end in omega (arith, a, b, d, e)) in
-    subst (λ (n : ℕ). HasTold c.args.case.now c.args.progress.now c.loop-iface.progress c.args.event.now.router (g.R.RouterOfTrace.state c.args.router.now) n c.loop-iface.flooding) all c.loop-iface.invariant
+returns g c = grind (arith, common_steps, c.len-iface-end.ensures, c.requires.begun.is_in.settings, c.loop-iface.invariant)

@@ -2,9 +2,6 @@ use Rattle.mesh_replay.proofs.Common.{refl, subst, TellsFlooding}
 use Rattle.mesh_replay.proofs.RelaysLemmas.Telling.{stops_routing, told_all}
 use Rattle.mesh_replay.proofs.checking.relays.tell_relays.Goals as goal
 
-pub returns-in_default : goal.returns-in_default
-returns-in_default g c = subst (TellsFlooding c.args.case.now c.args.progress.now c.tell_flooding.new.progress c.args.event.now (g.R.RouterOfTrace.state c.args.router.now)) c.in_default.is c.in_ok-flooding.ensures
-
 pub returns-in-Some-routing : goal.returns-in-Some-routing
 returns-in-Some-routing g c =
     let had = subst (TellsFlooding c.args.case.now c.args.progress.now c.tell_flooding.new.progress c.args.event.now (g.R.RouterOfTrace.state c.args.router.now)) c.in-Some.is c.in_ok-flooding.ensures in

@@ -1,4 +1,4 @@
-use Rattle.mesh_replay.proofs.Common.{◌∙◌, inl, inr, refl, false≢true, some_or_none}
+use Rattle.mesh_replay.proofs.Common.{arith, common_steps, ◌∙◌, inl, inr, refl, some_or_none}
 use Rattle.mesh_replay.proofs.checking.renewal.begin.Goals as goal
 
 pub returns-then-quiet : goal.returns-then-quiet
@@ -14,13 +14,4 @@ returns-then-quiet g c =
     }
 
 pub returns : goal.returns
-returns g c =
-    let none = c.replace-relays.ensures.after ∙ c.nothing_told.ensures in
-    record {
-      rows = inr c.in_ok-renew_rows.ensures.rows;
-      ansn = c.in_ok-renew_rows.ensures.ansn;
-      emptied = c.in_ok-renew_rows.ensures.emptied;
-      others = rw (← none) c.renew_rows.ensures.others;
-      relays = c.replace-relays.ensures.value;
-      stand = λ stands. absurd (false≢true stands);
-    }
+returns g c = grind (arith, common_steps, c.replace-relays.ensures.after, c.nothing_told.ensures, c.in_ok-renew_rows.ensures.rows, c.in_ok-renew_rows.ensures.ansn, c.in_ok-renew_rows.ensures.emptied, c.renew_rows.ensures.others)

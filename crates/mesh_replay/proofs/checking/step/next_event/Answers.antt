@@ -1,18 +1,6 @@
-use Rattle.mesh_replay.proofs.Common.{[], ap, map, subst, Reader, Progress, at, FitsOrStops, net_of}
+use Rattle.mesh_replay.proofs.Common.{[], ap, map, subst, Reader, at, FitsOrStops, net_of}
 use Rattle.mesh_replay.proofs.SceneLemmas.Ticks.{comes_of, sound_after}
 use Rattle.mesh_replay.proofs.checking.step.next_event.Goals as goal
-
-pub next_of-requires : goal.next_of-requires
-next_of-requires g c = record { sound = (map g.R.RouterOfTrace.state c.args.scene.now.routers.items, c.requires.sound) }
-
-pub returns-in_default-clause-comes : goal.returns-in_default-clause-comes
-returns-in_default-clause-comes g c =
-    let old = map g.R.RouterOfTrace.state c.args.scene.now.routers.items in
-    let (over, same) = c.in_default.ensures.next old c.requires.sound in
-    (over, ap (λ (p : Progress). net_of c.args.case.now old c.args.scene.now.last_ticks p) same, c.next_of.ensures.reader)
-
-pub take_event-requires-clause-next : goal.take_event-requires-clause-next
-take_event-requires-clause-next g c = (c.args.scene.now.last_ticks, c.args.progress.now, c.requires.reached, c.in-Some.ensures.next (map g.R.RouterOfTrace.state c.args.scene.now.routers.items) c.requires.sound)
 
 pub returns-clause-comes : goal.returns-clause-comes
 returns-clause-comes g c =

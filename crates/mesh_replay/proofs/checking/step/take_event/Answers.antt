@@ -2,9 +2,6 @@ use Rattle.mesh_replay.proofs.Common.{map, refl, subst, arith, List, ℕ, length
 use Rattle.mesh_replay.proofs.CheckingLemmas.Opened.{next_begins, next_comes, next_not, next_on, next_within, read_at, routers_kept, router_within, settings_same, state_at}
 use Rattle.mesh_replay.proofs.checking.step.take_event.Goals as goal
 
-pub bounds-as_slice-next : goal.bounds-as_slice-next
-bounds-as_slice-next g c = let (count, before, reached, is) = c.requires.next in rw c.as_slice.ensures (next_within is)
-
 pub returns-then-not-branch-clause-goes : goal.returns-then-not-branch-clause-goes
 returns-then-not-branch-clause-goes g c count before y is =
     let there = read_at c.as_slice.ensures (next_within is) c.index-as_slice-next.is in

@@ -1,4 +1,4 @@
-use Rattle.mesh_replay.proofs.Common.{ap, List, get_or, arith, drop_all, slice_get-get_or, PartSpan, span_items}
+use Rattle.mesh_replay.proofs.Common.{common_steps, ap, List, arith, drop_all, slice_get-get_or, PartSpan, span_items}
 use Rattle.mesh_replay.proofs.CheckingLemmas.Telling.{tells_more, tells_nowhere, tells_stop, tells_to}
 use Rattle.mesh_replay.proofs.FramesLemmas.Items.{spans_more}
 use Rattle.mesh_replay.proofs.checking.tcs.tell_spans.Goals as goal
@@ -7,9 +7,7 @@ pub loop-span-init : goal.loop-span-init
 loop-span-init c = tells_nowhere c.requires.progress
 
 pub tell_span-requires-clause-within : goal.tell_span-requires-clause-within
-tell_span-requires-clause-within c =
-    let d : PartSpan = record { first = 0; len = 0 } in
-    c.requires.within c.loop-span.span-index (get_or c.args.spans.now c.loop-span.span-index d) (slice_get-get_or c.args.spans.now c.loop-span.span-index d c.loop-span-test.true)
+tell_span-requires-clause-within c = grind (arith, common_steps, slice_get-get_or, c.requires.within)
 
 pub loop-span-preserved : goal.loop-span-preserved
 loop-span-preserved c =

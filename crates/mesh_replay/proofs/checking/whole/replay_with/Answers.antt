@@ -1,11 +1,6 @@
 use Rattle.mesh_replay.proofs.Common.{List, map, subst, RouterSettings, AreAtOpening}
-use Rattle.mesh_replay.proofs.SceneLemmas.Beginning.{opening_sound, opening_read, some_router}
+use Rattle.mesh_replay.proofs.SceneLemmas.Beginning.{opening_sound, opening_read}
 use Rattle.mesh_replay.proofs.checking.whole.replay_with.Goals as goal
-
-pub opening_net-scene-requires : goal.opening_net-scene-requires
-opening_net-scene-requires g c =
-    let routers = c.in_ok-routers.routers.items in
-    record { some = some_router g.R.RouterOfTrace.state c.args.scenario.now routers (subst (λ (rs : List RouterSettings). AreAtOpening rs (map g.R.RouterOfTrace.state routers)) c.as_slice-3.ensures c.in_ok-routers.ensures) }
 
 pub check-requires-clause-sound : goal.check-requires-clause-sound
 check-requires-clause-sound g c =

@@ -1,15 +1,9 @@
-use Rattle.mesh_replay.proofs.Common.{◌≡◌, List, Some, sym, ◌∙◌, ap, Decides-eqb, not_from_Decides, slice_eq-Decides, Addr4, relays_text}
+use Rattle.mesh_replay.proofs.Common.{arith, common_steps, ◌≡◌, sym, ◌∙◌, ap, Decides-eqb, not_from_Decides, slice_eq-Decides, relays_text}
 use Rattle.mesh_replay.proofs.RelaysLemmas.Words.{none_alone, none_text, spaced_text}
 use Rattle.mesh_replay.proofs.checking.words.relays_in.Goals as goal
 
 pub returns-then-eq : goal.returns-then-eq
-returns-then-eq c =
-    let decides = slice_eq-Decides Decides-eqb c.args.text.now c.as_slice.result.now c.eq.result c.eq.ensures in
-    let text = decides.0 c.if-eq.true ∙ c.as_slice.ensures in
-    record {
-      some = ap relays_text c.new.ensures ∙ (none_text ∙ sym text);
-      only = λ relays wide is. ap (λ (l : List Addr4). Some l) (c.new.ensures ∙ none_alone relays (is ∙ text));
-    }
+returns-then-eq c = grind (arith, common_steps, slice_eq-Decides, none_text, none_alone, c.eq.ensures, c.as_slice.ensures, c.new.ensures)
 
 pub returns-in_default : goal.returns-in_default
 returns-in_default c = record {

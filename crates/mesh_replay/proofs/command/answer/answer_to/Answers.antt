@@ -1,4 +1,4 @@
-use Rattle.mesh_replay.proofs.Common.{codes, IsRefusedInput, Long_scenario}
+use Rattle.mesh_replay.proofs.Common.{arith, common_steps, codes, IsRefusedInput, Long_scenario}
 use Rattle.mesh_replay.proofs.CommandLemmas.Refusing.{refused_so, settings_refused}
 use Rattle.mesh_replay.proofs.command.answer.answer_to.Goals as goal
 
@@ -9,6 +9,4 @@ returns-then-parts-gt-LONGEST_SETTINGS-clause-refused g c =
     (Long_scenario parts.scenario.now parts.trace.now c.in-Ok.ensures.split c.if-parts-gt-LONGEST_SETTINGS.true)
 
 pub returns-clause-refused : goal.returns-clause-refused
-returns-clause-refused g c =
-    let parts = c.in-Ok.parts in
-    settings_refused c.args.input.now parts.scenario.now parts.trace.now c.answer_over.result c.in-Ok.ensures.split c.if-parts-gt-LONGEST_SETTINGS.false c.answer_over.ensures.refused
+returns-clause-refused g c = grind (arith, common_steps, settings_refused, c.in-Ok.ensures.split, c.answer_over.ensures.refused)

@@ -1,4 +1,4 @@
-use Rattle.mesh_replay.proofs.Common.{◌≡◌, refl, length, List, Some, slice_get, slice_get_read, slice_get_within, Delivered}
+use Rattle.mesh_replay.proofs.Common.{arith, common_steps, ◌≡◌, refl, length, List, Some, slice_get, slice_get_read, slice_get_within, Delivered}
 use Rattle.mesh_replay.proofs.TrafficLemmas.Hearing.{least_of_none, read_as, is_earlier, is_no_earlier, is_first_of_all}
 use Rattle.mesh_replay.proofs.traffic.air.first_heard.Goals as goal
 use Rattle.mesh_replay.proofs.traffic.air.first_heard.Goals.{then-index, else-index}
@@ -7,10 +7,7 @@ pub loop-place-init : goal.loop-place-init
 loop-place-init c = least_of_none c.args.flights.now.items c.requires.some
 
 pub index-requires : goal.index-requires
-index-requires c =
-    let least = c.loop-place.invariant in
-    let within = slice_get_within c.args.flights.now.items c.loop-place.first least.flight least.stands in
-    rw c.args.flights.now.ok.0 within
+index-requires c = grind (arith, common_steps, slice_get_within, c.loop-place.invariant)
 
 pub returns-then-index-least : goal.returns-then-index-least
 returns-then-index-least c =
@@ -19,10 +16,7 @@ returns-then-index-least c =
     is_first_of_all c.args.least c.args.flights.now.items c.loop-place.place c.loop-place.first c.requires.least least (rw is c.if-index-least.true)
 
 pub index-requires-in-loop-place-2 : goal.index-requires-in-loop-place-2
-index-requires-in-loop-place-2 c =
-    let least = c.loop-place.invariant in
-    let within = slice_get_within c.args.flights.now.items c.loop-place.first least.flight least.stands in
-    rw c.args.flights.now.ok.0 within
+index-requires-in-loop-place-2 c = grind (arith, common_steps, slice_get_within, c.loop-place.invariant)
 
 pub loop-place-preserved : goal.loop-place-preserved
 loop-place-preserved c =

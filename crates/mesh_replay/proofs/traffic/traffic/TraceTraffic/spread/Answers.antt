@@ -1,15 +1,6 @@
-use Rattle.mesh_replay.proofs.Common.{ℕ, ◌+◌, List, sym, ◌∙◌, ap, refl, true≢false, drop_all, Traffic, with_delivery, SeededTraffic, on_lost, on_carried, all_spread}
+use Rattle.mesh_replay.proofs.Common.{ℕ, ◌+◌, List, sym, ◌∙◌, ap, refl, true≢false, drop_all, Traffic, with_delivery, on_lost, on_carried, all_spread}
 use Rattle.mesh_replay.proofs.traffic.traffic.TraceTraffic.spread.Goals as goal
 use Rattle.mesh_replay.proofs.traffic.traffic.TraceTraffic.spread.Goals.{then-loses+in_ok-push, else-loses+in_ok-share+in_ok-put}
-
-pub loop-number-init : goal.loop-number-init
-loop-number-init c = record {
-  goes = λ more new rest. rw (c.new-lost.ensures, ← c.self.view_is) rest;
-  seeded = ap (λ (t : SeededTraffic). t.seed) c.self.view_is ∙ c.requires.seed;
-}
-
-pub loses-requires : goal.loses-requires
-loses-requires c = record { seed = c.loop-number.invariant.seeded }
 
 pub loop-number-preserved : goal.loop-number-preserved
 loop-number-preserved c =
@@ -32,6 +23,3 @@ loop-number-preserved c =
 
 pub returns-clause-spreads : goal.returns-clause-spreads
 returns-clause-spreads c = all_spread _ _ _ _ _ _ _ _ (drop_all _ _ c.loop-number-test.false) c.loop-number.invariant.goes
-
-pub returns-clause-seed : goal.returns-clause-seed
-returns-clause-seed c = c.loop-number.invariant.seeded ∙ sym c.requires.seed
