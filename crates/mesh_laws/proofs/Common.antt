@@ -13,11 +13,11 @@ pub use Rattle.mesh_atoms.specs.Hello.{Flooding, HasLinkTo, IsSaid, Link_in, Lin
 pub use Rattle.mesh_atoms.specs.HelloTold.{HasRowOf, IsHandedIn, IsListed, IsSending, LooksAt, Tells, TellsLocal, TellsMe, Told, or_else, tells_symmetric}
 pub use Rattle.mesh_atoms.specs.Live.{Back, Gone, HasSymmetricOf, IsByLinks, IsSymmetricAddress, LiveNeighbourhood, Restores, SettlesLost, Stays, is_symmetric_at, is_symmetric_entry, trim, trimmed}
 pub use Rattle.mesh_atoms.specs.Nodes.{IsAtMost, IsBefore}
-pub use Rattle.mesh_atoms.specs.Quality.{admit_on, admits_all, admitted, by_quality, quality_at, quality_of, rule_in, rule_of}
+pub use Rattle.mesh_atoms.specs.Quality.{admit_on, admits_all, admitted, by_quality, quality_at, rule_of}
 pub use Rattle.mesh_atoms.specs.Radio.{AddressOf, Adjacent, By, IsAdmitted, IsMetric, IsSoundScenario, Itself, Joins, Leads, Router}
 pub use Rattle.mesh_atoms.specs.RelayGraphs.{AreRelays, AreRelaysOf, IsFloodingGraph, IsMetricOver, IsRoutingGraph}
 pub use Rattle.mesh_atoms.specs.Routes.{AreRoutes, By_address, By_network, By_router, IsNextHop, IsOutside, IsParent, RouteArc, To_neighbour, To_two_hop}
-pub use Rattle.mesh_atoms.specs.Settings.{AreArcs, AreRouters, Ends, IsCount, IsEnd, IsInterface, IsInterval, IsName, IsRouter, IsTimes, are_distinct, are_no_hosts, is_name_octet, longest_delay, one_hour, one_millisecond}
+pub use Rattle.mesh_atoms.specs.Settings.{AreArcs, AreRouters, Ends, IsCount, IsEnd, IsInterface, IsInterval, IsName, IsRouter, IsTimes, are_distinct, are_no_hosts, longest_delay, one_hour, one_millisecond}
 pub use Rattle.mesh_atoms.specs.Settled.{AreStates, At, IsAddressBy, IsLeastAddress, IsLinkTo, IsNeighbourOf, IsNetworkBy, IsPeer, IsRouterBy, IsSettledAt, IsStray, IsTwoHopBy}
 pub use Rattle.mesh_atoms.specs.Sound.{IsSoundLink, IsSoundNeighbour, IsWithin, Sound, SoundNeighbourhood, SoundTopology}
 pub use Rattle.mesh_atoms.specs.State.{HasAddress, HasAddressOn, HasLink, HasSymmetric, HasSymmetricWith, HasTwoHop, IsOriginator, Neighbourhood, State, TopologyBase, is_symmetric, link_at, lost_at, neighbour_at, state_of, two_hop_at}
@@ -61,15 +61,14 @@ pub use Rattle.mesh_atoms.specs.declared.tuples.RouterKey.{RouterKey}
 pub use Rattle.mesh_atoms.specs.declared.tuples.RouterTuple.{RouterTuple}
 pub use Rattle.mesh_atoms.specs.declared.tuples.TwoHop.{TwoHop}
 pub use Rattle.mesh_atoms.specs.declared.tuples.TwoHopKey.{TwoHopKey}
-pub use Rattle.mesh_flood.specs.Verdict.{is_forwarded, is_received, key_of}
+pub use Rattle.mesh_flood.specs.Verdict.{key_of}
 pub use Rattle.mesh_laws.specs.Spoiled.{RefusesForwardedAtAnotherMoment, RefusesForwardedUnsent, RefusesFullOfOne, RefusesFullThoughFits, RefusesGivenAtAnotherMoment, RefusesGivenOtherwise, RefusesLinkGone, RefusesLinkMetricFirst, RefusesLinkOfSharedAddress, RefusesLinkOfUnlisted, RefusesLinksTogether, RefusesLossUntold, RefusesLostAtAnotherMoment, RefusesLostGone, RefusesLostLinkKept, RefusesLostMoved, RefusesLostOutOfNothing, RefusesLostSymmetric, RefusesLostThoughBack, RefusesMadeUnadmitted, RefusesMetricUnsaid, RefusesNeighbourGone, RefusesNeighbourOutOfNothing, RefusesNeighbourTooLong, RefusesNeighbourTooShort, RefusesNetworkOfOldNumber, RefusesNetworkUntaken, RefusesNumberAtAnotherMoment, RefusesNumberUnnoted, RefusesOtherAddresses, RefusesOtherMetricIn, RefusesOtherMetricOut, RefusesOtherQuality, RefusesOtherWillingness, RefusesOwnLost, RefusesProcessedAtAnotherMoment, RefusesProcessedOutOfNothing, RefusesProcessedUnnoted, RefusesReceivedAtAnotherMoment, RefusesReceivedElsewhere, RefusesReceivedOutOfNothing, RefusesRouterOfOldNumber, RefusesRouterUntaken, RefusesRowByLinkMetric, RefusesRowWithoutMetric, RefusesSelectorCleared, RefusesSelectorKept, RefusesSymmetricOutOfNothing, RefusesSymmetricUntold, RefusesTakenThoughFull, RefusesTakenThoughManyRows, RefusesTupleGoneByPart, RefusesTupleGoneOfAnother}
 pub use Rattle.mesh_laws.specs.Witnesses.{AreInARow, ThreeRoutersSettle, TwoRoutersSettle}
 pub use Rattle.mesh_laws.specs.WorkedHello.{FirstHelloIsTaken, IsReceiver, SecondHelloIsTaken, after, five, heard_link, heard_neighbour, hello, later, later_hello, link, lost_row, me, my_row, neighbour, nothing, one, own_row, peer, seven, third, third_row, three}
 pub use Rattle.mesh_paths.proofs.ShortLists.{empties_within, empty_distinct, empty_within, few_of_one, first_of, found_one, only, same_number, single_distinct, two}
 pub use Rattle.mesh_paths.specs.SettledRoutes.{HasRow, IsSettledNetwork}
-pub use Rattle.std.proofs.Common.{AllPairs, Bool, Contains, IsTrue, List, None, Option, Some, [], ap, arith, cond, false, filter, inl, inr, length, map, min, nat_eq, nat_le, nat_lt, not, refl, slice_get, slice_index_or, subst, suc, sym, true, zero, ℕ, ◌%◌, ◌&&◌, ◌+◌, ◌-◌, ◌<◌, ◌^◌, ◌||◌, ◌↔◌, ◌∙◌, ◌∷◌, ◌≡◌, ◌≢◌, ◌≤◌, ◌⊎◌}
-pub use Rattle.std.proofs.Math.Nat.{le_antisymm, le_refl, min-le_left, min-le_right}
-pub use Rattle.std.proofs.lemmas.Bool.{and_parts, cases_Bool, eq-eqb, eqb-true, le-leb, le-ltb, leb-true, lt-leb, lt-ltb}
+pub use Rattle.std.proofs.Common.{AllPairs, Bool, Contains, IsTrue, List, None, Option, Some, [], ap, arith, cond, false, inl, inr, length, map, nat_eq, nat_le, not, refl, slice_get, slice_index_or, subst, suc, sym, true, zero, ℕ, ◌%◌, ◌&&◌, ◌+◌, ◌-◌, ◌<◌, ◌^◌, ◌↔◌, ◌∙◌, ◌∷◌, ◌≡◌, ◌≢◌, ◌≤◌, ◌⊎◌}
+pub use Rattle.std.proofs.lemmas.Bool.{and_parts, cases_Bool, eq-eqb, eqb-true, leb-true, lt-ltb}
+pub use Rattle.std.proofs.lemmas.Grind.{common_steps}
 pub use Rattle.std.proofs.lemmas.Map.Views.{Contains-from_lookup}
-pub use Rattle.std.specs.List.{fold, list_all, list_any}
 unfoldable pub use Rattle.std.specs.List.{IsDistinct}

@@ -1,5 +1,5 @@
 -- Items of short lists, and of lists that are made of others.
-use Rattle.mesh_laws.proofs.Common.{◌≡◌, inl, inr, ap, subst, sym, ◌∙◌, List, [], ◌∷◌, map, Contains, Base, Has, contains_tail as there, contains_cases, contains_none as none_of, contains_head as here}
+use Rattle.mesh_laws.proofs.Common.{arith, common_steps, ◌≡◌, inl, inr, ap, subst, sym, ◌∙◌, List, [], ◌∷◌, map, Contains, Base, Has, contains_tail as there, contains_cases, contains_none as none_of, contains_head as here}
 
 -- each item of a list has the property
 abbrev pub Each : {A : Type 0} → (A → Type 0) → List A → Type 0
@@ -8,10 +8,7 @@ Each P (x ∷ xs) = P x × Each P xs
 
 pub each : {A : Type 0} (P : A → Type 0) (xs : List A) → Each P xs → (a : A) → Contains xs a → P a
 each P [] all a c = absurd (none_of a c)
-each P (x ∷ xs) all a c = elim (contains_cases x xs a c) [
-  | inl e ↦ subst P e all.0
-  | inr more ↦ each P xs all.1 a more
-]
+each P (x ∷ xs) all a c = grind (arith, common_steps, contains_cases)
 
 -- what stands in a list that is made of another
 pub unmapped : {A B : Type 0} (f : A → B) (xs : List A) (b : B) → Contains (map f xs) b → (a : A) × Contains xs a × (b ≡ f a)

@@ -1,8 +1,7 @@
 -- The definitions refuse spoiled links, qualities, limits and metrics of 2-hop tuples.
-use Rattle.mesh_laws.proofs.Common.{◌≡◌, ℕ, ◌+◌, ◌≤◌, ◌⊎◌, inl, inr, refl, sym, ◌∙◌, ap, subst, arith, Option, Some, None, Contains, Bool, true, false, cond, nat_lt, lt-ltb, Addr4, Metric, LinkStatus, Heard, Link, GoesOn, LinkKeptOrMade, Stood, Made, by_status, renewed, if_live, Says, IsSaid, Near_in, Near_out, Link_in, Link_out, or_else, trim, trimmed, quality_at, rule_of, admitted, admit_on, link_at, is_symmetric, IsHeld, Takes, Overfull_two_hops, IsKept, none_is_some, none_not, same_some, some_equal, few_of_one, RefusesLinksTogether, RefusesLinkOfUnlisted, RefusesLinkOfSharedAddress, RefusesLinkGone, RefusesOtherQuality, RefusesLostLinkKept, RefusesMadeUnadmitted, RefusesFullOfOne, RefusesTakenThoughFull, RefusesTakenThoughManyRows, RefusesFullThoughFits, RefusesLinkMetricFirst, RefusesMetricUnsaid, RefusesRowByLinkMetric, RefusesRowWithoutMetric}
-use Rattle.mesh_atoms.specs.declared.hello.LinkStatus.TheVariants.{Lost as Down, Symmetric}
+use Rattle.mesh_laws.proofs.Common.{common_steps, ◌≡◌, ℕ, ◌⊎◌, inl, inr, ◌∙◌, ap, subst, arith, Option, Some, None, Contains, true, lt-ltb, Addr4, Metric, LinkStatus, Link, GoesOn, LinkKeptOrMade, Stood, Made, by_status, renewed, if_live, Says, IsSaid, Near_in, Near_out, Link_in, Link_out, or_else, trim, trimmed, quality_at, rule_of, admitted, link_at, IsHeld, Takes, Overfull_two_hops, IsKept, none_is_some, none_not, same_some, some_equal, few_of_one, RefusesLinksTogether, RefusesLinkOfUnlisted, RefusesLinkOfSharedAddress, RefusesLinkGone, RefusesOtherQuality, RefusesLostLinkKept, RefusesMadeUnadmitted, RefusesFullOfOne, RefusesTakenThoughFull, RefusesTakenThoughManyRows, RefusesFullThoughFits, RefusesLinkMetricFirst, RefusesMetricUnsaid, RefusesRowByLinkMetric, RefusesRowWithoutMetric}
 use Rattle.mesh_atoms.specs.declared.hello.Shown.{Shown}
-use Rattle.mesh_laws.proofs.Qualities.{quality_by, cut}
+use Rattle.mesh_laws.proofs.Qualities.{quality_by}
 
 -- Links
 
@@ -29,54 +28,28 @@ link_of_unlisted settings now i j told hello old new key e f a other stood stand
     (goes_on (λ t. GoesOn old told i j t.0) e f (after.other_links j key (inl other)) stood stands).listed (a, has, theirs) beyond
 
 pub link_of_shared_address : RefusesLinkOfSharedAddress
-link_of_shared_address settings now i told hello old new key e f other stood stands together after =
-    together ((goes_on (λ t. GoesOn old told i i t.0) e f (after.other_links i key (inr other)) stood stands).apart refl)
+link_of_shared_address settings now i told hello old new key e f other stood stands together after = grind (arith, common_steps, goes_on)
 
 pub link_gone : RefusesLinkGone
-link_gone settings now i j told hello old new key e other stood gone goes after =
-    gone_not (λ t. GoesOn old told i j t.0) e (after.other_links j key (inl other)) stood gone goes
+link_gone settings now i j told hello old new key e other stood gone goes after = grind (arith, common_steps, gone_not)
 
 -- Qualities
 
 pub other_quality : RefusesOtherQuality
-other_quality settings now i near key e at other sound =
-    let rule = rule_of settings i in
-    let stands : Some (admitted rule settings.times.link_hold now e) ≡ Some e = ap (admit_on settings i now) (sym at) ∙ (sound.by_quality i key ∙ at) in
-    other (ap (λ (t : Link × ℕ). t.0.quality) (sym (some_equal _ _ stands)) ∙ quality_by rule settings.times.link_hold now (quality_at rule e.0.addrs now) e)
+other_quality settings now i near key e at other sound = grind (arith, common_steps, admitted, some_equal, quality_by)
 
 -- expiry leaves the moment of a link that stays
 left_moment : (now : ℕ) (o : Option (Link × ℕ)) (g f : Link × ℕ) → o ≡ Some g → trim now (if_live now o) ≡ Some f → f.1 ≡ g.1
-left_moment now o g f is left = by_case (nat_lt now g.1) (ap (λ (t : Option (Link × ℕ)). trim now (if_live now t)) (sym is) ∙ left)
-  where
-    of_trimmed : (b : Bool) → (cond b g (record g.0 { link_out = None; selector = false }, g.1)).1 ≡ g.1
-    of_trimmed true = refl
-    of_trimmed false = refl
-
-    by_case : (b : Bool) → trim now (cond b (Some g) None) ≡ Some f → f.1 ≡ g.1
-    by_case true e = ap (λ (t : Link × ℕ). t.1) (sym (some_equal _ _ e)) ∙ of_trimmed (is_symmetric g.0 now)
-    by_case false e = none_is_some e
+left_moment now o g f is left = grind (arith, common_steps, some_equal, none_is_some)
 
 pub lost_link_kept : RefusesLostLinkKept
-lost_link_kept settings now i old new key e f stood ready kept low stands late live =
-    let rule = rule_of settings i in
-    let hold = settings.times.link_hold in
-    let at : admit_on settings i now (link_at old i key) ≡ Some (admitted rule hold now e) = ap (admit_on settings i now) stood in
-    let moment : f.1 ≡ (admitted rule hold now e).1 = left_moment now _ (admitted rule hold now e) f at (sym (live.links i key) ∙ stands) in
-    let most : (admitted rule hold now e).1 ≤ now + hold = cut rule hold now (quality_at rule e.0.addrs now) e ready kept low in
-    omega (arith, moment, most, late)
+lost_link_kept settings now i old new key e f stood ready kept low stands late live = grind (arith, common_steps, admitted, left_moment)
 
 pending_by_status : (shown : Shown) (hold now : ℕ) (status : Option LinkStatus) (e : Link × ℕ) → (by_status shown hold now status e).0.pending ≡ e.0.pending
-pending_by_status shown hold now None e = refl
-pending_by_status shown hold now (Some Down) e = refl
-pending_by_status shown hold now (Some Symmetric) e = refl
-pending_by_status shown hold now (Some Heard) e = refl
+pending_by_status shown hold now status e = grind (arith, common_steps)
 
 pending_trimmed : (now : ℕ) (e : Link × ℕ) → (trimmed now e).0.pending ≡ e.0.pending
-pending_trimmed now e = by_case (is_symmetric e.0 now)
-  where
-    by_case : (b : Bool) → (cond b e (record e.0 { link_out = None; selector = false }, e.1)).0.pending ≡ e.0.pending
-    by_case true = refl
-    by_case false = refl
+pending_trimmed now e = grind (arith, common_steps)
 
 -- a HELLO leaves whether a link is PENDING
 pending_renewed : (shown : Shown) (hold now : ℕ) (e : Link × ℕ) → (renewed shown hold now e).0.pending ≡ e.0.pending
@@ -118,11 +91,7 @@ full_though_fits settings now i sender hello old new few (Overfull_two_hops told
 
 -- of two metrics that may be said, one is
 said_so : (near link : Metric → Type 0) {said : Option Metric} (m n : Metric) → IsSaid near link said → near m → ((k : Metric) → near k → k ≡ m) → said ≡ Some n → n ≡ m
-said_so near link m n said there only is = by_case (subst (λ (o : Option Metric). IsSaid near link o) is said)
-  where
-    by_case : IsSaid near link (Some n) → n ≡ m
-    by_case (inl h) = only n h
-    by_case (inr h) = absurd (h.0 m there)
+said_so near link m n said there only is = grind (arith, common_steps)
 
 not_unsaid : (near link : Metric → Type 0) {said : Option Metric} (m : Metric) → IsSaid near link said → link m → said ≡ None → ⊥
 not_unsaid near link m said there is = let none = subst (λ (o : Option Metric). IsSaid near link o) is said in none.1 m there
@@ -136,15 +105,13 @@ metric_unsaid p q j now key t m there is by =
     not_unsaid (λ k. Says q j now key.addr (Near_out k)) (λ k. Says q j now key.addr (Link_out k)) m by.metric_out there is
 
 by_near : (near link : Option Metric) (m n : Metric) → near ≡ Some m → or_else near link ≡ Some n → n ≡ m
-by_near None link m n e h = none_is_some e
-by_near (Some k) link m n e h = same_some h e
+by_near near link m n e h = grind (arith, common_steps, none_is_some, same_some)
 
 pub row_by_link_metric : RefusesRowByLinkMetric
 row_by_link_metric row m n has other is = other (by_near row.metrics.near_in row.metrics.link_in m n has is)
 
 by_link : (near link : Option Metric) (m : Metric) → link ≡ Some m → or_else near link ≡ None → ⊥
-by_link None link m e h = none_not h e
-by_link (Some k) link m e h = none_is_some (sym h)
+by_link near link m e h = grind (arith, common_steps, none_not, none_is_some)
 
 pub row_without_metric : RefusesRowWithoutMetric
 row_without_metric row m has is = by_link row.metrics.near_out row.metrics.link_out m has is

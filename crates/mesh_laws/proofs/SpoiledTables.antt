@@ -1,5 +1,5 @@
 -- The definitions refuse spoiled topologies and noted messages.
-use Rattle.mesh_laws.proofs.Common.{◌≡◌, ℕ, ◌+◌, refl, sym, ◌∙◌, ap, subst, Option, Some, None, Bool, true, false, cond, nat_eq, not, ◌&&◌, eqb-true, eq-eqb, Addr4, Metric, Tc, AddressKey, Advertiser, RouterTuple, AddressTuple, NetworkTuple, Noted, AfterTc, Becomes, Given, Left, GivesAddress, if_not_dropped, Base, base_of, find, addr_eq, address_eq, flood_eq, TopologyBase, key_of, is_received, is_forwarded, RefusesNumberUnnoted, RefusesNumberAtAnotherMoment, RefusesGivenOtherwise, RefusesGivenAtAnotherMoment, RefusesRouterUntaken, RefusesNetworkUntaken, RefusesRouterOfOldNumber, RefusesNetworkOfOldNumber, RefusesTupleGoneByPart, RefusesTupleGoneOfAnother, RefusesProcessedUnnoted, RefusesProcessedOutOfNothing, RefusesProcessedAtAnotherMoment, RefusesReceivedOutOfNothing, RefusesReceivedAtAnotherMoment, RefusesReceivedElsewhere, RefusesForwardedUnsent, RefusesForwardedAtAnotherMoment, cond_true, none_not, none_is_some, same_some}
+use Rattle.mesh_laws.proofs.Common.{arith, common_steps, ◌≡◌, ℕ, ◌+◌, refl, sym, ◌∙◌, ap, subst, Option, Some, None, Bool, true, false, cond, not, ◌&&◌, eq-eqb, Metric, Tc, AddressKey, Advertiser, RouterTuple, AddressTuple, NetworkTuple, Noted, AfterTc, Becomes, GivesAddress, Base, find, addr_eq, address_eq, flood_eq, TopologyBase, key_of, RefusesNumberUnnoted, RefusesNumberAtAnotherMoment, RefusesGivenOtherwise, RefusesGivenAtAnotherMoment, RefusesRouterUntaken, RefusesNetworkUntaken, RefusesRouterOfOldNumber, RefusesNetworkOfOldNumber, RefusesTupleGoneByPart, RefusesTupleGoneOfAnother, RefusesProcessedUnnoted, RefusesProcessedOutOfNothing, RefusesProcessedAtAnotherMoment, RefusesReceivedOutOfNothing, RefusesReceivedAtAnotherMoment, RefusesReceivedElsewhere, RefusesForwardedUnsent, RefusesForwardedAtAnotherMoment, cond_true, none_not, none_is_some, same_some}
 use Rattle.mesh_atoms.specs.declared.tuples.FloodKey.{FloodKey}
 use Rattle.mesh_flood.specs.Noting.{Notes}
 use Rattle.mesh_laws.proofs.Members.{both_same}
@@ -55,44 +55,30 @@ network_untaken now tc old new key distance m given only untaken after =
     untaken (is ∙ ap (λ (v : NetworkTuple). Some (v, until)) same)
 
 pub router_of_old_number : RefusesRouterOfOldNumber
-router_of_old_number now tc old new key t complete mine stands other after =
-    other (numbered_so tc (now + tc.validity) _ _ _ key t (after.routers.at key) (λ w given. given.1) complete mine stands)
+router_of_old_number now tc old new key t complete mine stands other after = grind (arith, common_steps, numbered_so)
 
 pub network_of_old_number : RefusesNetworkOfOldNumber
-network_of_old_number now tc old new key t complete mine stands other after =
-    other (numbered_so tc (now + tc.validity) _ _ _ key t (after.networks.at key) (λ w given. given.1) complete mine stands)
+network_of_old_number now tc old new key t complete mine stands other after = grind (arith, common_steps, numbered_so)
 
 left_of : {A : Type 0} (mine complete same : Bool) (e : A) → cond (mine && (complete && not same)) None (Some e) ≡ None → (mine ≡ true) × (complete ≡ true)
-left_of true true same e h = (refl, refl)
-left_of true false same e h = none_is_some (sym h)
-left_of false complete same e h = none_is_some (sym h)
+left_of mine complete same e h = grind (arith, common_steps, none_is_some)
 
 -- a tuple that is gone was of the originator, and the TC was complete
 gone_of : (now : ℕ) (tc : Tc) (key : AddressKey) (old new : Option (AddressTuple × ℕ)) (t : AddressTuple × ℕ) →
     Becomes tc (now + tc.validity) (λ (k : AddressKey). k.from) (λ v. v.ansn) (λ k v. GivesAddress tc k v.metric × (v.ansn ≡ tc.ansn)) key old new →
     old ≡ Some t → new ≡ None → (addr_eq key.from tc.originator ≡ true) × (tc.complete ≡ true)
-gone_of now tc key old new t (Given value given is) stood gone = none_not gone is
-gone_of now tc key old new t (Left none is) stood gone =
-    left_of (addr_eq key.from tc.originator) tc.complete (nat_eq t.0.ansn tc.ansn) t
-    (sym (ap (if_not_dropped tc key.from (λ (v : AddressTuple). v.ansn)) stood) ∙ (sym is ∙ gone))
+gone_of now tc key old new t h6 stood gone = grind (arith, common_steps, none_not, left_of)
 
 pub tuple_gone_by_part : RefusesTupleGoneByPart
-tuple_gone_by_part now tc old new key t part stood gone after =
-    let (_, whole) = gone_of now tc key _ _ t (after.addresses.at key) stood gone in absurd (cc)
+tuple_gone_by_part now tc old new key t part stood gone after = grind (arith, common_steps, gone_of)
 
 pub tuple_gone_of_another : RefusesTupleGoneOfAnother
-tuple_gone_of_another now tc old new key t other stood gone after =
-    let (mine, _) = gone_of now tc key _ _ t (after.addresses.at key) stood gone in
-    other (ap (λ (n : ℕ). let r : Addr4 = record { 0 = n } in r) (eqb-true key.from.0 tc.originator.0 mine))
+tuple_gone_of_another now tc old new key t other stood gone after = grind (arith, common_steps, gone_of)
 
 -- Messages
 
 flood_itself : (k : FloodKey) → flood_eq k k ≡ true
-flood_itself k =
-    let kind : nat_eq k.kind k.kind ≡ true = eq-eqb k.kind k.kind refl in
-    let originator : addr_eq k.originator k.originator ≡ true = eq-eqb k.originator.0 k.originator.0 refl in
-    let sequence : nat_eq k.sequence k.sequence ≡ true = eq-eqb k.sequence k.sequence refl in
-    rw (kind, originator, sequence) refl
+flood_itself k = grind (arith, common_steps)
 
 -- what is noted of a key, by whether it is noted
 noted_at : (k : FloodKey) (until : ℕ) (old new : Base FloodKey Noted) → Notes true k until old new → find flood_eq new k ≡ Some (record {}, until)
@@ -103,13 +89,10 @@ module _ (b : Bool) (k : FloodKey) (until : ℕ) (old new : Base FloodKey Noted)
   not_noted is notes none some = let same : Notes false k until old new = subst (λ a. Notes a k until old new) is notes in none_not (same k ∙ none) some
 
   noted_until : b ≡ true → Notes b k until old new → find flood_eq new k ≡ Some e → e.1 ≡ until
-  noted_until is notes some =
-      let noted = noted_at k until old new (subst (λ a. Notes a k until old new) is notes) in
-      ap (λ (t : Noted × ℕ). t.1) (same_some some noted)
+  noted_until is notes some = grind (arith, common_steps, noted_at, same_some)
 
 pub processed_unnoted : RefusesProcessedUnnoted
-processed_unnoted times now i heading answer old new none after =
-    none_not none (noted_at (key_of heading) (now + times.processed_hold) old.processed new.processed after.processed)
+processed_unnoted times now i heading answer old new none after = grind (arith, common_steps, none_not, noted_at, key_of)
 
 pub processed_out_of_nothing : RefusesProcessedOutOfNothing
 processed_out_of_nothing times now i heading answer old new e none some after = not_noted false (key_of heading) (now + times.processed_hold) old.processed new.processed e refl after.processed none some
@@ -118,21 +101,16 @@ pub processed_at_another_moment : RefusesProcessedAtAnotherMoment
 processed_at_another_moment times now i heading answer old new e some other after = other (noted_until true (key_of heading) (now + times.processed_hold) old.processed new.processed e refl after.processed some)
 
 pub received_out_of_nothing : RefusesReceivedOutOfNothing
-received_out_of_nothing times now i heading is_processed answer old new e unasked none some after =
-    not_noted (is_received answer) (key_of heading) (now + times.received_hold) (base_of old.received i) (base_of new.received i) e unasked after.received none some
+received_out_of_nothing times now i heading is_processed answer old new e unasked none some after = grind (arith, common_steps, not_noted, key_of)
 
 pub received_at_another_moment : RefusesReceivedAtAnotherMoment
-received_at_another_moment times now i heading is_processed answer old new e asked some other after =
-    other (noted_until (is_received answer) (key_of heading) (now + times.received_hold) (base_of old.received i) (base_of new.received i) e asked after.received some)
+received_at_another_moment times now i heading is_processed answer old new e asked some other after = grind (arith, common_steps, noted_until, key_of)
 
 pub received_elsewhere : RefusesReceivedElsewhere
-received_elsewhere times now i j heading is_processed answer old new e other none some after =
-    none_not (after.others j other (key_of heading) ∙ none) some
+received_elsewhere times now i j heading is_processed answer old new e other none some after = grind (arith, common_steps, none_not, key_of)
 
 pub forwarded_unsent : RefusesForwardedUnsent
-forwarded_unsent times now i heading is_processed answer old new e not_sent none some after =
-    not_noted (is_forwarded answer) (key_of heading) (now + times.forwarded_hold) old.forwarded new.forwarded e not_sent after.forwarded none some
+forwarded_unsent times now i heading is_processed answer old new e not_sent none some after = grind (arith, common_steps, not_noted, key_of)
 
 pub forwarded_at_another_moment : RefusesForwardedAtAnotherMoment
-forwarded_at_another_moment times now i heading is_processed answer old new e sent some other after =
-    other (noted_until (is_forwarded answer) (key_of heading) (now + times.forwarded_hold) old.forwarded new.forwarded e sent after.forwarded some)
+forwarded_at_another_moment times now i heading is_processed answer old new e sent some other after = grind (arith, common_steps, noted_until, key_of)

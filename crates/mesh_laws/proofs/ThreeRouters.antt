@@ -1,11 +1,11 @@
 -- Three routers in a row: the middle one relays for the other two, and the last one attaches a network. Their settings, their scenario
 -- and their states.
-use Rattle.mesh_laws.proofs.Common.{◌≡◌, ℕ, zero, suc, refl, ap, subst, arith, List, [], ◌∷◌, map, Contains, Some, None, Bool, true, false, IsTrue, Addr4, NetAddr, TcRow, LinkKey, Link, TwoHopKey, TwoHop, Neighbour, Advertiser, RouterKey, RouterTuple, AddressKey, AddressTuple, NetworkKey, NetworkTuple, Interface, RouterSettings, Scenario, Route, host, State, HasLink, HasTwoHop, HasSymmetric, HasAddressOn, only, first_of, contains_map, contains_none as none_of, contains_head as here}
+use Rattle.mesh_laws.proofs.Common.{common_steps, ◌≡◌, ℕ, zero, suc, refl, ap, arith, List, [], ◌∷◌, map, Contains, Some, None, Bool, true, false, IsTrue, Addr4, NetAddr, TcRow, LinkKey, Link, TwoHopKey, TwoHop, Neighbour, Advertiser, RouterKey, RouterTuple, AddressKey, AddressTuple, NetworkKey, NetworkTuple, Interface, RouterSettings, Scenario, Route, host, State, HasLink, HasTwoHop, HasSymmetric, HasAddressOn, contains_map, contains_head as here}
 pub use Rattle.mesh_laws.proofs.TwoRoutersInRange.{addr}
 pub use Rattle.mesh_laws.proofs.PlainRouters.{one, arc}
 use Rattle.mesh_laws.proofs.PlainRouters.{face_of, settings_of, link_of, neighbour_of}
 use Rattle.mesh_laws.proofs.TwoRoutersInRange.{is_end, small_seed, no_loss}
-use Rattle.mesh_laws.proofs.Members.{each, unmapped}
+use Rattle.mesh_laws.proofs.Members.{unmapped}
 use Rattle.mesh_laws.proofs.ThreeRoutersInRange.{letter, is_interface, is_router, are_routers, are_arcs}
 pub use Rattle.mesh_laws.proofs.ThreeRoutersInRange.{net, attached, given}
 
@@ -221,38 +221,22 @@ states = state 0 ∷ state 1 ∷ state 2 ∷ []
 -- Who knows whom, case by case
 
 pub each_pair : (P : ℕ → ℕ → Type 0) → P 0 1 → P 1 0 → P 1 2 → P 2 1 → (x y : ℕ) → Contains (peers x) y → P x y
-each_pair P a b c d zero y h = each (P 0) (1 ∷ []) (a, tt) y h
-each_pair P a b c d (suc zero) y h = each (P 1) (0 ∷ 2 ∷ []) (b, (c, tt)) y h
-each_pair P a b c d (suc (suc zero)) y h = each (P 2) (1 ∷ []) (d, tt) y h
-each_pair P a b c d (suc (suc (suc x))) y h = absurd (none_of y h)
+each_pair P a b c d x y h = grind (arith, common_steps)
 
 pub each_beyond : (P : ℕ → ℕ → Type 0) → P 0 2 → P 2 0 → (x z : ℕ) → Contains (beyond x) z → P x z
-each_beyond P a b zero z h = each (P 0) (2 ∷ []) (a, tt) z h
-each_beyond P a b (suc zero) z h = absurd (none_of z h)
-each_beyond P a b (suc (suc zero)) z h = each (P 2) (0 ∷ []) (b, tt) z h
-each_beyond P a b (suc (suc (suc x))) z h = absurd (none_of z h)
+each_beyond P a b x z h = grind (arith, common_steps)
 
 pub each_told : (P : ℕ → ℕ → Type 0) → P 0 0 → P 0 2 → P 2 0 → P 2 2 → (x z : ℕ) → Contains (told x) z → P x z
-each_told P a b c d zero z h = each (P 0) (0 ∷ 2 ∷ []) (a, (b, tt)) z h
-each_told P a b c d (suc zero) z h = absurd (none_of z h)
-each_told P a b c d (suc (suc zero)) z h = each (P 2) (0 ∷ 2 ∷ []) (c, (d, tt)) z h
-each_told P a b c d (suc (suc (suc x))) z h = absurd (none_of z h)
+each_told P a b c d x z h = grind (arith, common_steps)
 
 pub each_gateway : (P : ℕ → ℕ → Type 0) → P 0 2 → P 1 2 → (x g : ℕ) → Contains (gateways x) g → P x g
-each_gateway P a b zero g h = each (P 0) (2 ∷ []) (a, tt) g h
-each_gateway P a b (suc zero) g h = each (P 1) (2 ∷ []) (b, tt) g h
-each_gateway P a b (suc (suc x)) g h = absurd (none_of g h)
+each_gateway P a b x g h = grind (arith, common_steps)
 
 pub each_relay : (P : ℕ → ℕ → Type 0) → P 0 1 → P 2 1 → (x y : ℕ) → Contains (relays x) y → P x y
-each_relay P a b zero y h = each (P 0) (1 ∷ []) (a, tt) y h
-each_relay P a b (suc zero) y h = absurd (none_of y h)
-each_relay P a b (suc (suc zero)) y h = each (P 2) (1 ∷ []) (b, tt) y h
-each_relay P a b (suc (suc (suc x))) y h = absurd (none_of y h)
+each_relay P a b x y h = grind (arith, common_steps)
 
 pub middle_is : (x : ℕ) → IsTrue (is_middle x) → x ≡ 1
-middle_is zero h = absurd (let no : false ≡ true = h in cc)
-middle_is (suc zero) h = refl
-middle_is (suc (suc x)) h = absurd (let no : false ≡ true = h in cc)
+middle_is x h = grind (arith, common_steps)
 
 pub peers_back : (x y : ℕ) → Contains (peers x) y → Contains (peers y) x
 peers_back = each_pair (λ x y. Contains (peers y) x) (here 0 (2 ∷ [])) (here 1 []) (here 1 []) (1, omega arith, refl)
@@ -264,22 +248,13 @@ same_number x y e = let f : suc x ≡ suc y = ap (λ (a : Addr4). a.0) e in omeg
 
 -- an address of the router with these settings is its one
 pub address_on : (y j : ℕ) (a : Addr4) → HasAddressOn (settings y) j a → (j ≡ 0) × (a ≡ addr y)
-address_on y j a on =
-    let (f, at, has) = on in
-    let (e, same) = first_of (face y) f j at in
-    let P : Interface → Type 0 = λ b. Contains b.addrs a in
-    (e, only (addr y) a (subst P same has))
+address_on y j a on = grind (arith, common_steps)
 
 pub has_own : (y : ℕ) → HasAddressOn (settings y) 0 (addr y)
 has_own y = (face y, refl, here (addr y) [])
 
 pub link_is : (x i : ℕ) (k : LinkKey) (l : Link) → HasLink (state x) i k l → (i ≡ 0) × (y : ℕ) × Contains (peers x) y × (k ≡ key y) × (l ≡ link x y)
-link_is x i k l has =
-    let (base, at, (until, stands)) = has in
-    let (e, same) = first_of (map (link_entry x) (peers x)) base i at in
-    let P : List (LinkKey × (Link × ℕ)) → Type 0 = λ b. Contains b (k, (l, until)) in
-    let (y, c, is) = unmapped (link_entry x) (peers x) (k, (l, until)) (subst P same stands) in
-    (e, y, c, ap (λ (t : LinkKey × (Link × ℕ)). t.0) is, ap (λ (t : LinkKey × (Link × ℕ)). t.1.0) is)
+link_is x i k l has = grind (arith, common_steps, unmapped)
 
 pub link_has : (x y : ℕ) → Contains (peers x) y → HasLink (state x) 0 (key y) (link x y)
 link_has x y c = (map (link_entry x) (peers x), refl, (9, contains_map (link_entry x) (peers x) y c))
@@ -294,12 +269,7 @@ pub symmetric_has : (x y : ℕ) → Contains (peers x) y → HasSymmetric (state
 symmetric_has x y c = ((9, contains_map (neighbour_entry x) (peers x) y c), refl)
 
 pub two_hop_is : (x i : ℕ) (k : TwoHopKey) (t : TwoHop) → HasTwoHop (state x) i k t → (i ≡ 0) × (z : ℕ) × Contains (beyond x) z × (k ≡ two_hop_key z) × (t ≡ far)
-two_hop_is x i k t has =
-    let (base, at, (until, stands)) = has in
-    let (e, same) = first_of (map two_hop_entry (beyond x)) base i at in
-    let P : List (TwoHopKey × (TwoHop × ℕ)) → Type 0 = λ b. Contains b (k, (t, until)) in
-    let (z, c, is) = unmapped two_hop_entry (beyond x) (k, (t, until)) (subst P same stands) in
-    (e, z, c, ap (λ (u : TwoHopKey × (TwoHop × ℕ)). u.0) is, ap (λ (u : TwoHopKey × (TwoHop × ℕ)). u.1.0) is)
+two_hop_is x i k t has = grind (arith, common_steps, unmapped)
 
 pub two_hop_has : (x z : ℕ) → Contains (beyond x) z → HasTwoHop (state x) 0 (two_hop_key z) far
 two_hop_has x z c = (map two_hop_entry (beyond x), refl, (9, contains_map two_hop_entry (beyond x) z c))

@@ -1,6 +1,5 @@
 -- The radio graph of three routers in a row.
-use Rattle.mesh_laws.proofs.Common.{◌≡◌, ℕ, zero, suc, ◌≢◌, refl, sym, ◌∙◌, ap, subst, arith, [], ◌∷◌, Contains, Some, None, Metric, RadioArc, RouterSettings, metric_value, Leads, IsAdmitted, Joins, Adjacent, IsMetric, Itself, By, Router, At, IsPeer, AreStates, State, contains_head as here, some_equal}
-use Rattle.mesh_laws.proofs.Members.{each, Each}
+use Rattle.mesh_laws.proofs.Common.{common_steps, ◌≡◌, ℕ, zero, suc, ◌≢◌, refl, ap, arith, Contains, Some, None, Metric, RadioArc, RouterSettings, metric_value, Leads, IsAdmitted, Joins, Adjacent, IsMetric, Itself, By, Router, At, IsPeer, AreStates, State, some_equal}
 use Rattle.mesh_laws.proofs.ThreeRouters.{one, arc, peers, each_pair, peers_back, face, settings, scenario, state, states}
 
 -- Arcs
@@ -13,25 +12,7 @@ record IsJoint (a : RadioArc) : Type 0 where
   peer : Contains (peers a.from) a.to
 
 pub leads : (x i y j : ℕ) (m : Metric) → Leads scenario x i y j m → (i ≡ 0) × (j ≡ 0) × (m ≡ one) × Contains (peers x) y
-leads x i y j m (a, stands, from, from_iface, to, to_iface, metric) =
-    let joint = each IsJoint scenario.arcs joints a stands in (
-      sym from_iface ∙ joint.out,
-      sym to_iface ∙ joint.in_at,
-      sym metric ∙ joint.metric,
-      subst (λ k. Contains (peers x) k) to (subst (λ k. Contains (peers k) a.to) from joint.peer),
-    )
-  where
-    joints : Each IsJoint scenario.arcs
-    joints = (
-      record { out = refl; in_at = refl; metric = refl; peer = here 1 [] },
-      (
-        record { out = refl; in_at = refl; metric = refl; peer = here 0 (2 ∷ []) },
-        (
-          record { out = refl; in_at = refl; metric = refl; peer = (1, omega arith, refl) },
-          (record { out = refl; in_at = refl; metric = refl; peer = here 1 [] }, tt),
-        ),
-      ),
-    )
+leads x i y j m h5 = grind (arith, common_steps)
 
 leads_out : (x y : ℕ) → Contains (peers x) y → Leads scenario x 0 y 0 one
 leads_out = each_pair (λ x y. Leads scenario x 0 y 0 one)
@@ -77,10 +58,7 @@ metric x y c = record {
 -- States
 
 pub each_state : (P : ℕ → State → Type 0) → P 0 (state 0) → P 1 (state 1) → P 2 (state 2) → (x : ℕ) (p : State) → At states x p → P x p
-each_state P a b c zero p at = subst (P 0) (some_equal _ _ at.is) a
-each_state P a b c (suc zero) p at = subst (P 1) (some_equal _ _ at.is) b
-each_state P a b c (suc (suc zero)) p at = subst (P 2) (some_equal _ _ at.is) c
-each_state P a b c (suc (suc (suc x))) p at = absurd (let no : None ≡ Some p = at.is in cc)
+each_state P a b c x p at = grind (arith, common_steps, some_equal)
 
 pub state_is : (x : ℕ) (p : State) → At states x p → p ≡ state x
 state_is = each_state (λ x p. p ≡ state x) refl refl refl

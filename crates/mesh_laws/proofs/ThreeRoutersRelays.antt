@@ -1,5 +1,5 @@
 -- The relays of three routers in a row: the outer ones need the middle one, which needs none.
-use Rattle.mesh_laws.proofs.Common.{◌≡◌, ℕ, zero, suc, ◌↔◌, ◌≢◌, inl, inr, refl, sym, ◌∙◌, ap, subst, arith, [], ◌∷◌, map, Contains, Option, Some, Addr4, Metric, LinkKey, Link, TwoHopKey, TwoHop, Neighbour, Near, Direct, NeighbourGraph, metric_value, IsRoutingGraph, IsFloodingGraph, IsMetricOver, AreRelays, AreRelaysOf, Symmetric as Is_symmetric, HasLink, HasTwoHop, HasSymmetric, HasSymmetricWith, state_of, IsAscending, only, first_of, contains_map, contains_head as here, some_equal}
+use Rattle.mesh_laws.proofs.Common.{common_steps, ◌≡◌, ℕ, ◌↔◌, ◌≢◌, inl, inr, refl, sym, ◌∙◌, ap, subst, arith, [], map, Contains, Option, Some, Addr4, Metric, LinkKey, Link, TwoHopKey, TwoHop, Neighbour, Near, Direct, NeighbourGraph, metric_value, IsRoutingGraph, IsFloodingGraph, IsMetricOver, AreRelays, AreRelaysOf, Symmetric as Is_symmetric, HasLink, HasTwoHop, HasSymmetric, HasSymmetricWith, state_of, IsAscending, first_of, contains_map, contains_head as here, some_equal}
 use Rattle.mesh_atoms.specs.declared.graphs.Far.{Far}
 use Rattle.mesh_atoms.specs.Relays.{Offers, IsWilling, IsRelay, IsOtherRelay}
 use Rattle.mesh_laws.proofs.Members.{unmapped, both_same}
@@ -126,10 +126,7 @@ flooding_graph x = record {
 -- The relays
 
 ascending : (x : ℕ) → IsAscending (map addr (relays x))
-ascending zero i j d less within = absurd (omega (arith, less, within))
-ascending (suc zero) i j d less within = absurd (omega (arith, within))
-ascending (suc (suc zero)) i j d less within = absurd (omega (arith, less, within))
-ascending (suc (suc (suc x))) i j d less within = absurd (omega (arith, within))
+ascending x i j d less within = grind (arith, common_steps)
 
 -- who is beyond is relayed to, and is no peer
 record IsRelayed (x z : ℕ) : Type 0 where
@@ -137,11 +134,7 @@ record IsRelayed (x z : ℕ) : Type 0 where
   no_peer : (y : ℕ) → Contains (peers x) y → y ≢ z
 
 relayed : (x z : ℕ) → Contains (beyond x) z → IsRelayed x z
-relayed = each_beyond IsRelayed (record { relay = here 1 []; no_peer = λ y c e. apart 1 2 y c e (λ f. absurd (omega (arith, f))) })
-    (record { relay = here 1 []; no_peer = λ y c e. apart 1 0 y c e (λ f. absurd (omega (arith, f))) })
-  where
-    apart : (a b y : ℕ) → Contains (a ∷ []) y → y ≡ b → a ≢ b → ⊥
-    apart a b y c e other = other (sym (only a y c) ∙ e)
+relayed = grind (arith, common_steps, each_beyond)
 
 -- each relay is the middle router, for the sake of a router beyond
 sake : (x y : ℕ) → Contains (relays x) y → (y ≡ 1) × (z : ℕ) × Contains (beyond x) z

@@ -1,5 +1,5 @@
 -- The routes of three routers in a row.
-use Rattle.mesh_laws.proofs.Common.{◌≡◌, ℕ, zero, suc, ◌+◌, ◌≤◌, ◌≢◌, inl, inr, refl, sym, ◌∙◌, ap, subst, arith, List, [], ◌∷◌, Contains, Some, AllPairs, Contains-from_lookup, Addr4, NetAddr, Attached4, Link, Neighbour, RouterKey, RouterTuple, AddressKey, AddressTuple, NetworkKey, NetworkTuple, TwoHopKey, TwoHop, Route, more_ascend, one_ascends, host, net_eq, metric_value, IsBefore, RouteArc, To_neighbour, To_two_hop, By_router, By_address, By_network, IsOutside, IsParent, IsNextHop, AreRoutes, Walk, Stay, Onward, Least, FirstNode, AtSelf, Through, same_net, only, at_most_itself, contains_map, contains_none as none_of, contains_head as here, some_equal}
+use Rattle.mesh_laws.proofs.Common.{common_steps, ◌≡◌, ℕ, zero, suc, ◌+◌, ◌≤◌, ◌≢◌, inl, inr, refl, sym, ◌∙◌, ap, subst, arith, List, [], ◌∷◌, Contains, Some, AllPairs, Contains-from_lookup, Addr4, NetAddr, Attached4, Link, Neighbour, RouterKey, RouterTuple, AddressKey, AddressTuple, NetworkKey, NetworkTuple, TwoHopKey, TwoHop, Route, more_ascend, one_ascends, host, net_eq, metric_value, IsBefore, RouteArc, To_neighbour, To_two_hop, By_router, By_address, By_network, IsOutside, IsParent, IsNextHop, AreRoutes, Walk, Stay, Onward, Least, FirstNode, AtSelf, Through, same_net, only, at_most_itself, contains_map, contains_none as none_of, contains_head as here, some_equal}
 use Rattle.std.specs.Map.{lookup}
 use Rattle.mesh_laws.proofs.Members.{Each, each, unmapped}
 use Rattle.mesh_laws.proofs.ThreeRouters.{one, addr, net, attached, face, peers, beyond, told, gateways, link, neighbour, router_tuple, router_entry, address_entry, network_entry, network_tuple, route, first_to_second, first_to_third, first_to_net, second_to_first, second_to_third, second_to_net, third_to_first, third_to_second, routes, state, each_pair, each_beyond, each_told, each_gateway, same_number, address_on, has_own, link_is, link_has, two_hop_is}
@@ -88,22 +88,7 @@ farther : (x : ℕ) (m n : NetAddr) (k l : ℕ) → IsAt x m k → IsAt x n l �
 farther x m n k l from to within d at = let same : k ≡ d = some_equal _ _ (sym from ∙ at) in (l, to, omega (arith, within, same))
 
 steps : (x : ℕ) → Each (IsStep x) (sources x)
-steps zero = (
-  farther 0 (host (addr 0)) (host (addr 1)) 0 1 refl refl (omega arith),
-  (
-    farther 0 (host (addr 1)) (host (addr 0)) 1 0 refl refl (omega arith),
-    (farther 0 (host (addr 1)) (host (addr 2)) 1 2 refl refl (omega arith), (farther 0 (host (addr 2)) net 2 3 refl refl (omega arith), tt)),
-  ),
-)
-steps (suc zero) = (
-  farther 1 (host (addr 1)) (host (addr 0)) 0 1 refl refl (omega arith),
-  (farther 1 (host (addr 1)) (host (addr 2)) 0 1 refl refl (omega arith), (farther 1 (host (addr 2)) net 1 2 refl refl (omega arith), tt)),
-)
-steps (suc (suc zero)) = (
-  farther 2 (host (addr 2)) (host (addr 1)) 0 1 refl refl (omega arith),
-  (farther 2 (host (addr 1)) (host (addr 0)) 1 2 refl refl (omega arith), (farther 2 (host (addr 1)) (host (addr 2)) 1 0 refl refl (omega arith), tt)),
-)
-steps (suc (suc (suc x))) = tt
+steps x = grind (arith, common_steps, farther)
 
 walk_is : (x : ℕ) → IsAt x (host (addr x)) 0 → (n : NetAddr) (c : ℕ) → Walk (RouteArc (state x)) (host (addr x)) n c → (d : ℕ) × IsAt x n d × (d ≤ c)
 walk_is x start _ _ Stay = (0, start, omega arith)

@@ -1,5 +1,5 @@
 -- What the HELLOs and the TCs of three routers in a row say.
-use Rattle.mesh_laws.proofs.Common.{◌≡◌, ℕ, inl, inr, refl, sym, ◌∙◌, ap, subst, arith, List, [], map, Contains, Some, IsTrue, Addr4, Metric, Link, Neighbour, GivesAsSelector, Advertises, AdvertisesOriginator, AdvertisesNetwork, metric_value, Says, SaysSymmetric, HasLinkTo, Link_symmetric, Flooding, Routing, Near_in, Near_out, Symmetric as Is_symmetric, HasSymmetricWith, only, first_of, contains_map, contains_head as here, some_equal}
+use Rattle.mesh_laws.proofs.Common.{common_steps, ◌≡◌, ℕ, inl, inr, refl, sym, ◌∙◌, ap, subst, arith, List, [], map, Contains, Some, IsTrue, Addr4, Metric, Link, Neighbour, GivesAsSelector, Advertises, AdvertisesOriginator, AdvertisesNetwork, metric_value, Says, SaysSymmetric, HasLinkTo, Link_symmetric, Flooding, Routing, Near_in, Near_out, Symmetric as Is_symmetric, HasSymmetricWith, only, first_of, contains_map, contains_head as here, some_equal}
 use Rattle.mesh_atoms.specs.declared.tuples.LinkState.{LinkState}
 use Rattle.mesh_laws.proofs.Members.{unmapped}
 use Rattle.mesh_laws.proofs.ThreeRouters.{one, addr, net, given, key, link, neighbour, peers, relays, middle_is, state, same_number, link_is, link_has, symmetric_is, symmetric_has}
@@ -8,11 +8,7 @@ use Rattle.mesh_laws.proofs.ThreeRouters.{one, addr, net, given, key, link, neig
 
 -- a link with an address is a peer's
 pub linked : (x j : ℕ) (a : Addr4) (is : LinkState) (l : Link) → HasLinkTo (state x) j 5 a is l → (j ≡ 0) × (y : ℕ) × Contains (peers x) y × (a ≡ addr y) × (l ≡ link x y)
-linked x j a is l has =
-    let (k, stands, with, _) = has in
-    let (e, y, c, _, same) = link_is x j k l stands in
-    let P : Link → Type 0 = λ b. Contains b.addrs a in
-    (e, y, c, only (addr y) a (subst P same with), same)
+linked x j a is l has = grind (arith, common_steps, link_is)
 
 -- a symmetric neighbour with an address is a peer
 pub near : (x : ℕ) (a o : Addr4) (n : Neighbour) → HasSymmetricWith (state x) a o n → (y : ℕ) × Contains (peers x) y × (a ≡ addr y) × (o ≡ addr y) × (n ≡ neighbour x y)
@@ -35,9 +31,7 @@ says_symmetric x y c = (link x y, (key y, link_has x y c, here (addr y) [], refl
 
 -- one of the chosen relays
 chosen : (x y : ℕ) (o : Addr4) → o ≡ addr y → Contains (map addr (relays x)) o → Contains (relays x) y
-chosen x y o e c =
-    let (z, among, is) = unmapped addr (relays x) o c in
-    subst (λ k. Contains (relays x) k) (same_number z y (sym is ∙ e)) among
+chosen x y o e c = grind (arith, common_steps, unmapped, same_number)
 
 pub flooding_said : (x j : ℕ) (a : Addr4) → Says (state x) j 5 a Flooding → (y : ℕ) × Contains (peers x) y × (a ≡ addr y) × Contains (relays x) y
 flooding_said x j a says =
@@ -74,18 +68,10 @@ pub says_routing : (x y j : ℕ) → Contains (peers x) y → Contains (relays x
 says_routing x y j c among = (addr y, neighbour x y, near_has x y c, contains_map addr (relays x) y among)
 
 pub near_in_said : (x j : ℕ) (a : Addr4) (m : Metric) → Says (state x) j 5 a (Near_in m) → m ≡ one
-near_in_said x j a m says =
-    let (o, n, has, is) = says in
-    let (_, _, _, _, same) = near x a o n has in
-    let P : Neighbour → Type 0 = λ b. b.metric_in ≡ Some m in
-    sym (some_equal _ _ (subst P same is))
+near_in_said x j a m says = grind (arith, common_steps, some_equal)
 
 pub near_out_said : (x j : ℕ) (a : Addr4) (m : Metric) → Says (state x) j 5 a (Near_out m) → m ≡ one
-near_out_said x j a m says =
-    let (o, n, has, is) = says in
-    let (_, _, _, _, same) = near x a o n has in
-    let P : Neighbour → Type 0 = λ b. b.metric_out ≡ Some m in
-    sym (some_equal _ _ (subst P same is))
+near_out_said x j a m says = grind (arith, common_steps, some_equal)
 
 pub says_near_in : (x y j : ℕ) → Contains (peers x) y → Says (state x) j 5 (addr y) (Near_in one)
 says_near_in x y j c = (addr y, neighbour x y, near_has x y c, refl)

@@ -1,6 +1,6 @@
 -- Three routers in a row hold exactly what the others say.
-use Rattle.mesh_laws.proofs.Common.{◌≡◌, ℕ, suc, ◌⊎◌, ◌≢◌, inl, inr, refl, sym, ◌∙◌, ap, subst, arith, [], ◌∷◌, map, slice_get, Contains, Option, Some, None, true, false, IsTrue, Addr4, NetAddr, Metric, Attached4, Interface, LinkKey, Link, Neighbour, TwoHopKey, TwoHop, RouterKey, RouterTuple, AddressKey, AddressTuple, NetworkKey, NetworkTuple, Has, Advertises, Says, IsSaid, Near_in, Near_out, Link_in, Link_out, Joins, IsMetric, At, IsSettledAt, IsLeastAddress, IsLinkTo, IsNeighbourOf, IsTwoHopBy, IsStray, IsPeer, IsRouterBy, IsAddressBy, IsNetworkBy, State, HasAddress, IsOriginator, HasTwoHop, first_of, contains_map, contains_none as none_of, contains_head as here}
-use Rattle.mesh_laws.proofs.Members.{each, unmapped, both_same, has_same}
+use Rattle.mesh_laws.proofs.Common.{common_steps, ◌≡◌, ℕ, suc, ◌⊎◌, ◌≢◌, inl, inr, refl, sym, ◌∙◌, ap, subst, arith, [], ◌∷◌, map, Contains, Option, Some, IsTrue, Addr4, NetAddr, Metric, Attached4, LinkKey, Link, Neighbour, TwoHopKey, TwoHop, RouterKey, RouterTuple, AddressKey, AddressTuple, NetworkKey, NetworkTuple, Has, Advertises, Says, IsSaid, Near_in, Near_out, Link_in, Link_out, Joins, IsMetric, At, IsSettledAt, IsLeastAddress, IsLinkTo, IsNeighbourOf, IsTwoHopBy, IsStray, IsPeer, IsRouterBy, IsAddressBy, IsNetworkBy, State, HasAddress, IsOriginator, HasTwoHop, contains_map, contains_none as none_of, contains_head as here}
+use Rattle.mesh_laws.proofs.Members.{unmapped, both_same, has_same}
 use Rattle.mesh_laws.proofs.ThreeRouters.{one, addr, attached, face, settings, scenario, peers, beyond, relays, is_middle, told, gateways, key, link, neighbour, two_hop_key, far, router_key, router_tuple, router_entry, address_key, address_tuple, address_entry, network_key, network_tuple, network_entry, state, states, each_pair, each_beyond, each_told, each_gateway, each_relay, peers_back, same_number, address_on, has_own, link_is, link_has, symmetric_is, symmetric_has, two_hop_is, two_hop_has}
 use Rattle.mesh_laws.proofs.ThreeRoutersInRange.{attached_is}
 use Rattle.mesh_laws.proofs.ThreeRoutersSay.{symmetric_said, says_symmetric, flooding_said, says_flooding, routing_said, says_routing, near_in_said, near_out_said, says_near_in, says_near_out, advertises, advertises_is, advertises_originator, advertises_network}
@@ -16,11 +16,7 @@ own_address y j a least = (address_on y j a least.0).1
 
 -- who is chosen is the middle one
 chosen_by : (x y : ℕ) → Contains (peers x) y → IsTrue (is_middle x) → Contains (relays y) x
-chosen_by = each_pair (λ x y. IsTrue (is_middle x) → Contains (relays y) x)
-    (λ on. absurd (let no : false ≡ true = on in cc))
-    (λ _. here 1 [])
-    (λ _. here 1 [])
-    (λ on. absurd (let no : false ≡ true = on in cc))
+chosen_by = grind (arith, common_steps, each_pair)
 
 is_chosen : (x y : ℕ) → Contains (relays x) y → IsTrue (is_middle y)
 is_chosen = each_relay (λ x y. IsTrue (is_middle y)) refl refl
@@ -83,12 +79,7 @@ behind = each_beyond IsBehind
     (record { by_middle = here 1 []; next = here 0 (2 ∷ []); not_x = two_apart 0 2 (λ e. absurd (omega (arith, e))); not_middle = two_apart 0 1 (λ e. absurd (omega (arith, e))) })
 
 beyond_is : (x y z : ℕ) → Contains (peers x) y → Contains (peers y) z → (z ≡ x → ⊥) → (y ≡ 1) × Contains (beyond x) z
-beyond_is x y z c d other = each_pair (λ x y. (z : ℕ) → Contains (peers y) z → (z ≡ x → ⊥) → (y ≡ 1) × Contains (beyond x) z)
-    (each (λ z. (z ≡ 0 → ⊥) → (1 ≡ 1) × Contains (beyond 0) z) (0 ∷ 2 ∷ []) ((λ no. absurd (no refl)), ((λ _. (refl, here 2 [])), tt)))
-    (each (λ z. (z ≡ 1 → ⊥) → (0 ≡ 1) × Contains (beyond 1) z) (1 ∷ []) ((λ no. absurd (no refl)), tt))
-    (each (λ z. (z ≡ 1 → ⊥) → (2 ≡ 1) × Contains (beyond 1) z) (1 ∷ []) ((λ no. absurd (no refl)), tt))
-    (each (λ z. (z ≡ 2 → ⊥) → (1 ≡ 1) × Contains (beyond 2) z) (0 ∷ 2 ∷ []) ((λ _. (refl, here 0 [])), ((λ no. absurd (no refl)), tt)))
-    x y c z d other
+beyond_is x y z c d other = grind (arith, common_steps, each_pair)
 
 two_hop_by : (x z : ℕ) → Contains (beyond x) z → IsTwoHopBy (state x) (state 1) 0 5 (two_hop_key z) far
 two_hop_by x z c = record {
@@ -102,11 +93,7 @@ two_hop_by x z c = record {
 
 -- where the neighbour's metric is 1, that is said
 said_one : (near link : Metric → Type 0) (o : Option Metric) → IsSaid near link o → near one → ((m : Metric) → near m → m ≡ one) → o ≡ Some one
-said_one near link None said is only = absurd (said.0 one is)
-said_one near link (Some m) said is only = elim said [
-  | inl h ↦ ap Some (only m h)
-  | inr h ↦ absurd (h.0 one is)
-]
+said_one near link o said is only = grind (arith, common_steps)
 
 two_hop_held : (x y : ℕ) (k : TwoHopKey) (t : TwoHop) → Contains (peers x) y → IsTwoHopBy (state x) (state y) 0 5 k t → HasTwoHop (state x) 0 k t
 two_hop_held x y k t c by =
@@ -127,11 +114,7 @@ two_hop_held x y k t c by =
 -- What TCs give
 
 pub own_originator : (y : ℕ) (a : Addr4) → IsOriginator (settings y) a → a ≡ addr y
-own_originator y a is =
-    let (f, at, first) = is in
-    let (_, same) = first_of (face y) f 0 at in
-    let P : Interface → Type 0 = λ b. slice_get b.addrs 0 ≡ Some a in
-    (first_of (addr y) a 0 (subst P same first)).1
+own_originator y a is = grind (arith, common_steps)
 
 -- who is told of z by the middle router
 record IsToldOf (x z : ℕ) : Type 0 where

@@ -1,11 +1,11 @@
 -- Three routers in a row are sound.
-use Rattle.mesh_laws.proofs.Common.{◌≡◌, ℕ, zero, suc, ◌<◌, ◌≤◌, ◌≢◌, ◌⊎◌, inl, inr, refl, sym, ◌∙◌, ap, subst, arith, List, [], ◌∷◌, map, length, Contains, Option, Some, None, Bool, true, false, IsDistinct, eq-eqb, Contains-from_lookup, Addr4, NetAddr, Metric, Attached4, TcRow, LinkKey, Link, TwoHopKey, TwoHop, Neighbour, Lost, AreTcRows, IsTcRow, Of_address, Of_network, AdvertisesOriginator, more_ascend, one_ascends, none_ascend, find, base_of, host, IsFresh, HasDistinctKeys, addr_eq, link_eq, two_hop_eq, router_eq, address_eq, network_eq, metric_value, HasSymmetricOf, IsByLinks, is_symmetric_at, is_symmetric_entry, admit_on, AreRoutes, IsWithin, IsSoundLink, IsSoundNeighbour, SoundNeighbourhood, SoundTopology, Sound, Neighbourhood, link_at, two_hop_at, neighbour_at, IsHeld, AreMoreThan, same_addr, same_link, same_two_hop, same_router, same_network, only, two, empty_within, empties_within, empty_distinct, contains_none as none_of, contains_head as here, none_is_some, some_equal}
+use Rattle.mesh_laws.proofs.Common.{common_steps, ◌≡◌, ℕ, zero, suc, ◌<◌, ◌≤◌, ◌≢◌, ◌⊎◌, inl, inr, refl, sym, ◌∙◌, ap, subst, arith, List, [], ◌∷◌, map, length, Contains, Option, Some, None, Bool, true, false, IsDistinct, Contains-from_lookup, Addr4, NetAddr, Metric, Attached4, TcRow, LinkKey, Link, TwoHopKey, TwoHop, Neighbour, Lost, AreTcRows, IsTcRow, Of_address, Of_network, AdvertisesOriginator, more_ascend, one_ascends, none_ascend, base_of, host, IsFresh, HasDistinctKeys, addr_eq, link_eq, two_hop_eq, network_eq, metric_value, HasSymmetricOf, IsByLinks, is_symmetric_at, admit_on, AreRoutes, IsWithin, IsSoundLink, IsSoundNeighbour, SoundNeighbourhood, SoundTopology, Sound, Neighbourhood, link_at, two_hop_at, neighbour_at, IsHeld, AreMoreThan, same_addr, same_link, same_two_hop, same_router, same_network, only, two, empty_within, empties_within, empty_distinct, contains_none as none_of, contains_head as here, none_is_some, some_equal}
 use Rattle.mesh_atoms.proofs.Lookups.{same_address}
 use Rattle.mesh_laws.proofs.Members.{each, unmapped, both_same}
-use Rattle.mesh_laws.proofs.ThreeRouters.{one, addr, net, settings, peers, beyond, told, gateways, advertisers, key, link, link_entry, neighbour, neighbour_entry, two_hop_key, two_hop_entry, advertiser_entry, router_entry, address_entry, network_entry, host_row, net_row, rows, state, each_pair, same_number, address_on}
+use Rattle.mesh_laws.proofs.ThreeRouters.{one, addr, net, settings, peers, beyond, told, gateways, advertisers, key, link, link_entry, neighbour, neighbour_entry, two_hop_key, two_hop_entry, advertiser_entry, network_entry, host_row, net_row, rows, state, each_pair, same_number, address_on}
 use Rattle.mesh_laws.proofs.ThreeRoutersInRange.{attached_is}
 use Rattle.mesh_laws.proofs.ThreeRoutersSay.{advertises, advertises_is, advertises_originator, advertises_network}
-use Rattle.mesh_laws.proofs.ThreeRoutersSettled.{own_originator, behind}
+use Rattle.mesh_laws.proofs.ThreeRoutersSettled.{own_originator}
 use Rattle.mesh_laws.proofs.ThreeRoutersRelays.{relays_are}
 
 -- Bases in which each tuple ends at 9
@@ -26,16 +26,10 @@ IsFew eq entry (a ∷ b ∷ c ∷ rest) = ⊥
 
 few_distinct : {K V : Type 0} (eq : K → K → Bool) (entry : ℕ → K × (V × ℕ)) (ys : List ℕ) → IsFew eq entry ys → HasDistinctKeys eq (map entry ys)
 unfolding IsDistinct
-few_distinct eq entry [] few = tt
-few_distinct eq entry (a ∷ []) few = (tt, tt)
-few_distinct eq entry (a ∷ b ∷ []) few = ((few, tt), (tt, tt))
-few_distinct eq entry (a ∷ b ∷ c ∷ rest) few = absurd few
+few_distinct eq entry ys few = grind (arith, common_steps)
 
 few_short : {K V : Type 0} (eq : K → K → Bool) (entry : ℕ → K × (V × ℕ)) (ys : List ℕ) → IsFew eq entry ys → length (map entry ys) ≤ 16384
-few_short eq entry [] few = omega arith
-few_short eq entry (a ∷ []) few = omega arith
-few_short eq entry (a ∷ b ∷ []) few = omega arith
-few_short eq entry (a ∷ b ∷ c ∷ rest) few = absurd few
+few_short eq entry ys few = grind (arith, common_steps)
 
 within_of : {K V : Type 0} (eq : K → K → Bool) → ((k l : K) → eq k l ≡ true → k ≡ l) → (entry : ℕ → K × (V × ℕ)) → ((y : ℕ) → (entry y).1.1 ≡ 9) → (ys : List ℕ) → IsFew eq entry ys → IsWithin eq 5 16384 (map entry ys)
 within_of eq same entry nine ys few = record { distinct = few_distinct eq entry ys few; limit = few_short eq entry ys few; fresh = fresh_of eq same entry nine ys }
@@ -120,18 +114,7 @@ two_peers (suc (suc (suc x))) = (0, 0, λ y h. absurd (none_of y h))
 
 -- of three distinct addresses, not each is one of two
 no_three : (b c x y z : Addr4) → addr_eq x y ≡ false → addr_eq x z ≡ false → addr_eq y z ≡ false → (x ≡ b) ⊎ (x ≡ c) → (y ≡ b) ⊎ (y ≡ c) → (z ≡ b) ⊎ (z ≡ c) → ⊥
-no_three b c x y z xy xz yz = by_case
-  where
-    clash : (p q r : Addr4) → addr_eq p q ≡ false → p ≡ r → q ≡ r → ⊥
-    clash p q r differ e f = let same : addr_eq p q ≡ true = eq-eqb p.0 q.0 (ap (λ (a : Addr4). a.0) (e ∙ sym f)) in absurd (cc)
-
-    by_case : (x ≡ b) ⊎ (x ≡ c) → (y ≡ b) ⊎ (y ≡ c) → (z ≡ b) ⊎ (z ≡ c) → ⊥
-    by_case (inl e) (inl f) g = clash x y b xy e f
-    by_case (inl e) (inr f) (inl g) = clash x z b xz e g
-    by_case (inl e) (inr f) (inr g) = clash y z c yz f g
-    by_case (inr e) (inr f) g = clash x y c xy e f
-    by_case (inr e) (inl f) (inr g) = clash x z c xz e g
-    by_case (inr e) (inl f) (inl g) = clash y z b yz f g
+no_three b c x y z xy xz yz = grind (arith, common_steps)
 
 few_of_two : (b c : Addr4) (some : List Addr4) → IsDistinct addr_eq some → ((a : Addr4) → Contains some a → (a ≡ b) ⊎ (a ≡ c)) → 1024 < length some → ⊥
 unfolding IsDistinct
@@ -150,29 +133,17 @@ within_limit x many =
     elim (each_one y among) [ inl e ↦ inl (is ∙ ap addr e) | inr e ↦ inr (is ∙ ap addr e) ])) more
 
 link_is_sound : (x y : ℕ) (k : LinkKey) (l : Link) → k ≡ key y → l ≡ link x y → IsSoundLink 5 k l
-link_is_sound x y k l k_is l_is = rw (k_is, l_is) record {
-  least = refl;
-  ascending = λ i j d less within. absurd (omega (arith, less, within));
-  link_out = λ off. absurd (let no : true ≡ false = off in cc);
-  selector = λ off. absurd (let no : true ≡ false = off in cc);
-}
+link_is_sound x y k l k_is l_is = grind (arith, common_steps)
 
 sound_link : (x i : ℕ) (k : LinkKey) (l : Link) (until : ℕ) → link_at (near x) i k ≡ Some (l, until) → IsSoundLink 5 k l
 sound_link x i k l until h = let (_, y, _, k_is, e) = link_found x i k (l, until) h in link_is_sound x y k l k_is (ap (λ (f : Link × ℕ). f.0) e)
 
 link_admitted : (x i : ℕ) (k : LinkKey) → admit_on (settings x) i 5 (link_at (near x) i k) ≡ link_at (near x) i k
-link_admitted x i k = by_entry (link_at (near x) i k) refl
-  where
-    by_entry : (o : Option (Link × ℕ)) → link_at (near x) i k ≡ o → admit_on (settings x) i 5 o ≡ o
-    by_entry None at = refl
-    by_entry (Some e) at = let (first, y, _, _, is) = link_found x i k e at in rw (first, is) refl
+link_admitted x i k = grind (arith, common_steps, link_found)
 
 -- no router is its own peer
 not_itself : (x y : ℕ) → Contains (peers x) y → addr y ≢ addr x
-not_itself = each_pair (λ x y. addr y ≢ addr x) (apart 1 0 (λ e. absurd (omega (arith, e)))) (apart 0 1 (λ e. absurd (omega (arith, e)))) (apart 2 1 (λ e. absurd (omega (arith, e)))) (apart 1 2 (λ e. absurd (omega (arith, e))))
-  where
-    apart : (y z : ℕ) → y ≢ z → addr y ≢ addr z
-    apart y z other e = other (same_number y z e)
+not_itself = grind (arith, common_steps, each_pair, same_number)
 
 sound_neighbour : (x y : ℕ) → Contains (peers x) y → IsSoundNeighbour (settings x) (near x) 5 (addr y) (neighbour x y) 9
 sound_neighbour x y c = record {
@@ -184,31 +155,16 @@ sound_neighbour x y c = record {
 }
 
 few_links : (x : ℕ) → IsFew link_eq (link_entry x) (peers x)
-few_links zero = tt
-few_links (suc zero) = refl
-few_links (suc (suc zero)) = tt
-few_links (suc (suc (suc x))) = tt
+few_links x = grind (arith, common_steps)
 
 few_neighbours : (x : ℕ) → IsFew addr_eq (neighbour_entry x) (peers x)
-few_neighbours zero = tt
-few_neighbours (suc zero) = refl
-few_neighbours (suc (suc zero)) = tt
-few_neighbours (suc (suc (suc x))) = tt
+few_neighbours x = grind (arith, common_steps)
 
 few_two_hops : (x : ℕ) → IsFew two_hop_eq two_hop_entry (beyond x)
-few_two_hops zero = tt
-few_two_hops (suc zero) = tt
-few_two_hops (suc (suc zero)) = tt
-few_two_hops (suc (suc (suc x))) = tt
+few_two_hops x = grind (arith, common_steps)
 
 two_hop_symmetric : (x i : ℕ) (k : TwoHopKey) (t : TwoHop × ℕ) → two_hop_at (near x) i k ≡ Some t → is_symmetric_at (near x) 5 i k.link ≡ true
-two_hop_symmetric x i k t h =
-    let (e, z, c, k_is) = two_hop_found x i k t h in
-    let at : link_at (near x) 0 (key 1) ≡ Some (link x 1, 9) = link_there x 1 (behind x z c).by_middle in
-    let there : is_symmetric_at (near x) 5 0 (key 1) ≡ true = ap (is_symmetric_entry 5) at in
-    let P : LinkKey → Type 0 = λ b. is_symmetric_at (near x) 5 0 b ≡ true in
-    let Q : ℕ → Type 0 = λ b. is_symmetric_at (near x) 5 b k.link ≡ true in
-    subst Q (sym e) (subst P (ap (λ (b : TwoHopKey). b.link) (sym k_is)) there)
+two_hop_symmetric x i k t h = grind (arith, common_steps, two_hop_found, link_there)
 
 sound_neighbourhood : (x : ℕ) → SoundNeighbourhood (settings x) 5 (near x)
 sound_neighbourhood x = record {
@@ -264,67 +220,23 @@ sound_neighbourhood x = record {
 -- The topology
 
 few_told : {K V : Type 0} (eq : K → K → Bool) (entry : ℕ → K × (V × ℕ)) → eq (entry 0).0 (entry 2).0 ≡ false → (x : ℕ) → IsFew eq entry (told x)
-few_told eq entry differ zero = differ
-few_told eq entry differ (suc zero) = tt
-few_told eq entry differ (suc (suc zero)) = differ
-few_told eq entry differ (suc (suc (suc x))) = tt
+few_told eq entry differ x = grind (arith, common_steps)
 
 few_networks : (x : ℕ) → IsFew network_eq network_entry (gateways x)
-few_networks zero = tt
-few_networks (suc zero) = tt
-few_networks (suc (suc x)) = tt
+few_networks x = grind (arith, common_steps)
 
 few_advertisers : (x : ℕ) → IsFew addr_eq advertiser_entry (advertisers x)
-few_advertisers zero = refl
-few_advertisers (suc zero) = tt
-few_advertisers (suc (suc zero)) = tt
-few_advertisers (suc (suc (suc x))) = tt
-
--- no tuple is from the router itself
-no_own_advertiser : (x : ℕ) (a : Addr4) → a ≡ addr x → find addr_eq (map advertiser_entry (advertisers x)) a ≡ None
-no_own_advertiser zero a e = rw e refl
-no_own_advertiser (suc zero) a e = rw e refl
-no_own_advertiser (suc (suc zero)) a e = rw e refl
-no_own_advertiser (suc (suc (suc x))) a e = refl
-
-no_own_router : (x : ℕ) (a b : Addr4) → a ≡ addr x → find router_eq (map router_entry (told x)) (record { from = a; to = b }) ≡ None
-no_own_router zero a b e = rw e refl
-no_own_router (suc zero) a b e = refl
-no_own_router (suc (suc zero)) a b e = rw e refl
-no_own_router (suc (suc (suc x))) a b e = refl
-
-no_own_address : (x : ℕ) (a b : Addr4) → a ≡ addr x → find address_eq (map address_entry (told x)) (record { from = a; addr = b }) ≡ None
-no_own_address zero a b e = rw e refl
-no_own_address (suc zero) a b e = refl
-no_own_address (suc (suc zero)) a b e = rw e refl
-no_own_address (suc (suc (suc x))) a b e = refl
-
-no_own_network : (x : ℕ) (a : Addr4) (b : NetAddr) → a ≡ addr x → find network_eq (map network_entry (gateways x)) (record { from = a; net = b }) ≡ None
-no_own_network zero a b e = rw e refl
-no_own_network (suc zero) a b e = rw e refl
-no_own_network (suc (suc x)) a b e = refl
+few_advertisers x = grind (arith, common_steps)
 
 sound_topology : (x : ℕ) → SoundTopology (settings x) 5 (state x).bases.topology
-sound_topology x = record {
-  advertisers = within_of addr_eq same_addr advertiser_entry (λ w. refl) (advertisers x) (few_advertisers x);
-  routers = within_of router_eq same_router router_entry (λ z. refl) (told x) (few_told router_eq router_entry refl x);
-  addresses = within_of address_eq same_address address_entry (λ z. refl) (told x) (few_told address_eq address_entry refl x);
-  networks = within_of network_eq same_network network_entry (λ g. refl) (gateways x) (few_networks x);
-  not_my_advertiser = λ o mine. no_own_advertiser x o (own_originator x o mine);
-  not_my_router = λ k mine. no_own_router x k.from k.to (own_originator x k.from mine);
-  not_my_address = λ k mine. no_own_address x k.from k.addr (own_originator x k.from mine);
-  not_my_network = λ k mine. no_own_network x k.from k.net (own_originator x k.from mine);
-}
+sound_topology x = grind (arith, common_steps, within_of, same_addr, few_advertisers, same_router, few_told, same_address, same_network, few_networks, own_originator)
 
 -- Advertised rows
 
 -- rows with the same parts are the same
 row_is : (r : TcRow) (dest : NetAddr) (origin routable : Bool) (gateway : Option ℕ) (m : Option Metric) → dest ≡ r.dest → origin ≡ r.origin → routable ≡ r.routable → gateway ≡ r.gateway → m ≡ r.metric →
     record { dest = dest; origin = origin; routable = routable; gateway = gateway; metric = m } ≡ r
-row_is r dest origin routable gateway m e f g h k =
-    both_same (λ (d : NetAddr) (o : Bool). let s : TcRow = record { dest = d; origin = o; routable = routable; gateway = gateway; metric = m } in s) _ _ _ _ e f
-    ∙ (both_same (λ (o : Bool) (w : Option ℕ). let s : TcRow = record { dest = r.dest; origin = r.origin; routable = o; gateway = w; metric = m } in s) _ _ _ _ g h
-    ∙ ap (λ (n : Option Metric). let s : TcRow = record { dest = r.dest; origin = r.origin; routable = r.routable; gateway = r.gateway; metric = n } in s) k)
+row_is r dest origin routable gateway m e f g h k = grind (arith, common_steps, both_same)
 
 host_row_stands : (y : ℕ) → Contains (peers 1) y → IsTcRow (state 1) (host_row y)
 host_row_stands y c = Of_address (addr y) one refl ((λ _. advertises_originator y c), (λ _. refl)) refl refl refl (advertises y c)

@@ -1,5 +1,5 @@
 -- Two routers that hear each other: their settings, their scenario and their states.
-use Rattle.mesh_laws.proofs.Common.{◌≡◌, ℕ, suc, ◌≢◌, refl, ap, subst, arith, List, [], ◌∷◌, Contains, None, false, Addr4, LinkKey, Link, TwoHopKey, TwoHop, Neighbour, Interface, RouterSettings, Scenario, Route, host, State, HasLink, HasTwoHop, HasSymmetric, HasAddressOn, only, first_of, contains_none as none_of, contains_head as here}
+use Rattle.mesh_laws.proofs.Common.{common_steps, ◌≡◌, ℕ, suc, ◌≢◌, refl, ap, arith, List, [], ◌∷◌, None, false, Addr4, LinkKey, Link, TwoHopKey, TwoHop, Neighbour, Interface, RouterSettings, Scenario, Route, host, State, HasLink, HasTwoHop, HasSymmetric, HasAddressOn, contains_head as here}
 pub use Rattle.mesh_laws.proofs.TwoRoutersInRange.{addr}
 pub use Rattle.mesh_laws.proofs.PlainRouters.{one, arc}
 use Rattle.mesh_laws.proofs.PlainRouters.{face_of, settings_of, link_of, neighbour_of}
@@ -65,11 +65,7 @@ states = state 0 1 ∷ state 1 0 ∷ []
 
 -- an address of the router with these settings is its one
 pub address_on : (y j : ℕ) (a : Addr4) → HasAddressOn (settings y) j a → (j ≡ 0) × (a ≡ addr y)
-address_on y j a on =
-    let (f, at, has) = on in
-    let (e, same) = first_of (face y) f j at in
-    let P : Interface → Type 0 = λ b. Contains b.addrs a in
-    (e, only (addr y) a (subst P same has))
+address_on y j a on = grind (arith, common_steps)
 
 pub has_own : (y : ℕ) → HasAddressOn (settings y) 0 (addr y)
 has_own y = (face y, refl, here (addr y) [])
@@ -79,25 +75,13 @@ apart {x} {y} ne e = let f : suc x ≡ suc y = ap (λ (a : Addr4). a.0) e in ne 
 
 -- the one neighbour
 pub symmetric_is : (x y : ℕ) (o : Addr4) (n : Neighbour) → HasSymmetric (state x y) o n → (o ≡ addr y) × (n ≡ neighbour y)
-symmetric_is x y o n has =
-    let ((until, stands), _) = has in
-    let e = only (addr y, (neighbour y, 9)) (o, (n, until)) stands in
-    (ap (λ (t : Addr4 × (Neighbour × ℕ)). t.0) e, ap (λ (t : Addr4 × (Neighbour × ℕ)). t.1.0) e)
+symmetric_is x y o n has = grind (arith, common_steps)
 
 pub symmetric : (x y : ℕ) → HasSymmetric (state x y) (addr y) (neighbour y)
 symmetric x y = ((9, here _ []), refl)
 
 pub link_is : (x y i : ℕ) (key : LinkKey) (l : Link) → HasLink (state x y) i key l → (i ≡ 0) × (key ≡ record { addr = addr y }) × (l ≡ link y)
-link_is x y i key l has =
-    let (base, at, (until, stands)) = has in
-    let (e, same) = first_of _ base i at in
-    let P : List (LinkKey × (Link × ℕ)) → Type 0 = λ b. Contains b (key, (l, until)) in
-    let f = only (record { addr = addr y }, (link y, 9)) (key, (l, until)) (subst P same stands) in
-    (e, ap (λ (t : LinkKey × (Link × ℕ)). t.0) f, ap (λ (t : LinkKey × (Link × ℕ)). t.1.0) f)
+link_is x y i key l has = grind (arith, common_steps)
 
 pub no_two_hop : (x y i : ℕ) (key : TwoHopKey) (t : TwoHop) → HasTwoHop (state x y) i key t → ⊥
-no_two_hop x y i key t has =
-    let (base, at, (until, stands)) = has in
-    let (e, same) = first_of [] base i at in
-    let P : List (TwoHopKey × (TwoHop × ℕ)) → Type 0 = λ b. Contains b (key, (t, until)) in
-    none_of (key, (t, until)) (subst P same stands)
+no_two_hop x y i key t has = grind (arith, common_steps)

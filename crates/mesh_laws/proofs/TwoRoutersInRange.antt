@@ -1,5 +1,5 @@
 -- The settings of two routers that hear each other are in their ranges.
-use Rattle.mesh_laws.proofs.Common.{◌≡◌, ℕ, zero, suc, ◌<◌, ◌≤◌, ◌^◌, refl, arith, [], ◌∷◌, Option, Some, None, IsTrue, nat_lt, true, list_all, lt-ltb, Addr4, one_millisecond, one_hour, longest_delay, IsInterval, IsTimes, IsEnd, IsCount, IsName, is_name_octet, IsInterface, IsRouter, AreRouters, AreArcs}
+use Rattle.mesh_laws.proofs.Common.{common_steps, ◌≡◌, ℕ, zero, suc, ◌<◌, ◌≤◌, ◌^◌, refl, arith, [], ◌∷◌, Option, Some, None, Addr4, one_millisecond, one_hour, longest_delay, IsInterval, IsTimes, IsEnd, IsCount, IsName, IsInterface, IsRouter, AreRouters, AreArcs}
 
 -- router x has one address and one interface
 abbrev pub addr : ℕ → Addr4
@@ -47,54 +47,19 @@ is_interval : (ticks : ℕ) → 820 ≤ ticks → ticks ≤ 29491200 → IsInter
 is_interval ticks least most = record { least = least; most = most }
 
 pub are_times : IsTimes 16384 49152 49152 49152 40960 122880 122880 245760 245760 245760 255
-are_times = record {
-  hello_range = is_interval 16384 (omega arith) (omega arith);
-  hold_range = is_interval 49152 (omega arith) (omega arith);
-  link_hold_range = is_interval 49152 (omega arith) (omega arith);
-  neighbour_hold_range = is_interval 49152 (omega arith) (omega arith);
-  tc_range = is_interval 40960 (omega arith) (omega arith);
-  topology_hold_range = is_interval 122880 (omega arith) (omega arith);
-  advertised_hold_range = is_interval 122880 (omega arith) (omega arith);
-  received_hold_range = is_interval 245760 (omega arith) (omega arith);
-  processed_hold_range = is_interval 245760 (omega arith) (omega arith);
-  forwarded_hold_range = is_interval 245760 (omega arith) (omega arith);
-  hop_limit = omega arith;
-}
+are_times = grind (arith, common_steps, is_interval)
 
 is_name : (x : ℕ) → IsName (letter x ∷ [])
-is_name x = record { size = record { at_least = omega arith; at_most = omega arith }; octets = octets x }
-  where
-    octets : (x : ℕ) → IsTrue (list_all is_name_octet (letter x ∷ []))
-    octets zero = refl
-    octets (suc x) = refl
+is_name x = grind (arith, common_steps)
 
 pub is_interface : (x : ℕ) → IsInterface (letter x ∷ []) (addr x ∷ [])
-is_interface x = record {
-  named = is_name x;
-  few = record { at_least = omega arith; at_most = omega arith };
-  addressed = (let h : nat_lt 0 (suc x) ≡ true = lt-ltb 0 (suc x) (omega arith) in rw h refl);
-}
+is_interface x = grind (arith, common_steps, is_name)
 
 pub is_router : (x : ℕ) → IsRouter (letter x ∷ []) 0 0 ((letter x ∷ []) ∷ []) (addr x ∷ []) []
-is_router x = record {
-  named = is_name x;
-  hello_range = omega arith;
-  tc_range = omega arith;
-  interfaces = record { at_least = omega arith; at_most = omega arith };
-  attached = omega arith;
-  distinct_names = refl;
-  distinct_addrs = refl;
-  distinct_nets = refl;
-  no_hosts = refl;
-}
+is_router x = grind (arith, common_steps, is_name)
 
 pub are_routers : AreRouters ((97 ∷ []) ∷ (98 ∷ []) ∷ []) (addr 0 ∷ addr 1 ∷ []) []
-are_routers = record {
-  routers = record { at_least = omega arith; at_most = omega arith };
-  distinct_names = refl;
-  distinct_addrs = refl;
-  no_hosts = refl;
-}
+are_routers = grind (arith, common_steps)
 
 pub are_arcs : AreArcs (1 ∷ 1 ∷ []) (record { from = 0; from_iface = 0; to = 1; to_iface = 0 } ∷ record { from = 1; from_iface = 0; to = 0; to_iface = 0 } ∷ [])
 are_arcs = record { few = omega arith; join_routers = refl; distinct = refl }

@@ -1,5 +1,5 @@
 -- The relays of two routers that hear each other: there is nothing beyond the other one, so none is needed.
-use Rattle.mesh_laws.proofs.Common.{◌≡◌, ℕ, ◌↔◌, refl, sym, ◌∙◌, ap, subst, arith, [], ◌∷◌, Contains, Some, Addr4, Metric, LinkKey, Link, Neighbour, Near, Direct, NeighbourGraph, metric_value, IsRoutingGraph, IsFloodingGraph, IsMetricOver, AreRelays, AreRelaysOf, Symmetric as Is_symmetric, HasLink, HasSymmetric, HasSymmetricWith, state_of, only, first_of, contains_none as none_of, contains_head as here}
+use Rattle.mesh_laws.proofs.Common.{common_steps, ◌≡◌, ℕ, ◌↔◌, refl, sym, ◌∙◌, ap, subst, arith, [], ◌∷◌, Contains, Some, Addr4, Metric, LinkKey, Link, Neighbour, Near, Direct, NeighbourGraph, metric_value, IsRoutingGraph, IsFloodingGraph, IsMetricOver, AreRelays, AreRelaysOf, Symmetric as Is_symmetric, HasLink, HasSymmetric, HasSymmetricWith, state_of, only, first_of, contains_none as none_of, contains_head as here}
 use Rattle.mesh_laws.proofs.TwoRouters.{one, addr, link, neighbour, state, symmetric_is, symmetric, link_is, no_two_hop}
 
 abbrev pub graph_of : ℕ → NeighbourGraph
@@ -100,16 +100,7 @@ flooding_graph x y = record {
 }
 
 none_chosen : (y : ℕ) → AreRelaysOf (graph_of y) []
-none_chosen y = record {
-  covers = record {
-    always = λ n stands will. (let e = only (record { id = addr y; cost = 1; will = 7 }) n stands in
-        let P : Near → Type 0 = λ b. b.will ≡ 15 in let no : 7 ≡ 15 = subst P e will in absurd (omega arith));
-    willing = λ id stands. absurd (none_of id stands);
-    as_cheap = λ f c stands offer. absurd (none_of f stands);
-  };
-  needed = record { missed = λ n near relay willing low. absurd (none_of n.id relay) };
-  ascending = λ i j d less within. absurd (omega (arith, within));
-}
+none_chosen y = grind (arith, common_steps)
 
 pub relays_are : (x y : ℕ) → AreRelays (state x y) 5
 relays_are x y = record {

@@ -1,5 +1,5 @@
 -- Two routers that hear each other hold exactly what the other says.
-use Rattle.mesh_laws.proofs.Common.{◌≡◌, ℕ, zero, suc, ◌⊎◌, ◌≢◌, inl, inr, refl, sym, ap, subst, arith, List, [], ◌∷◌, Contains, slice_get, Some, None, true, false, IsTrue, Addr4, Metric, Link, Neighbour, RouterSettings, GivesAsSelector, Advertises, metric_value, SaysSymmetric, Leads, IsAdmitted, Joins, IsMetric, Router, At, IsSettledAt, IsLinkTo, IsNeighbourOf, IsPeer, State, HasAddress, Attached4, only, first_of, contains_none as none_of, contains_head as here}
+use Rattle.mesh_laws.proofs.Common.{common_steps, ◌≡◌, ℕ, suc, ◌⊎◌, ◌≢◌, inl, inr, refl, sym, ap, subst, arith, List, [], ◌∷◌, Contains, Addr4, Metric, RouterSettings, GivesAsSelector, Advertises, metric_value, SaysSymmetric, Leads, IsAdmitted, Joins, IsMetric, Router, At, IsSettledAt, IsLinkTo, IsNeighbourOf, IsPeer, State, HasAddress, Attached4, first_of, contains_none as none_of, contains_head as here}
 use Rattle.mesh_laws.proofs.TwoRouters.{one, addr, face, settings, scenario, link, neighbour, state, states, address_on, has_own, symmetric_is, symmetric, link_is, no_two_hop}
 
 -- one router x of the two, and the other one y
@@ -91,34 +91,14 @@ neighbour_of x y = record {
 
 -- nothing is shown beside the other one's address
 pub shown_is : (x y j : ℕ) (a : Addr4) → SaysSymmetric (state x y) j 5 a → a ≡ addr y
-shown_is x y j a shows = elim shows [
-  | inl by_link ↦
-      let (l, (key, has, stands, _)) = by_link in
-      let (_, _, e) = link_is x y j key l has in
-      let P : Link → Type 0 = λ b. Contains b.addrs a in
-      only (addr y) a (subst P e stands)
-  | inr other ↦
-      let ((o, n, (has, stands)), _) = other in
-      let (_, e) = symmetric_is x y o n has in
-      let P : Neighbour → Type 0 = λ b. Contains b.addrs a in
-      only (addr y) a (subst P e stands)
-]
+shown_is x y j a shows = grind (arith, common_steps, link_is, symmetric_is)
 
 pub no_selector : (x y : ℕ) (a o : Addr4) (m : Metric) → GivesAsSelector (state x y) a o m → ⊥
-no_selector x y a o m g =
-    let (_, e) = symmetric_is x y o g.neighbour g.symmetric in
-    let P : Neighbour → Type 0 = λ b. IsTrue b.selector in
-    let no : false ≡ true = subst P e g.selects in
-    absurd (cc)
+no_selector x y a o m g = grind (arith, common_steps, symmetric_is)
 
 -- each state has its router's settings
 pub routers_of : (w : ℕ) (q : State) → At states w q → Router scenario w q.settings
-routers_of w q at = at_is w q at.is
-  where
-    at_is : (w : ℕ) (q : State) → slice_get states w ≡ Some q → Router scenario w q.settings
-    at_is zero q e = let same : q ≡ state 0 1 = cc in let P : State → Type 0 = λ b. slice_get scenario.routers 0 ≡ Some b.settings in subst P (sym same) refl
-    at_is (suc zero) q e = let same : q ≡ state 1 0 = cc in let P : State → Type 0 = λ b. slice_get scenario.routers 1 ≡ Some b.settings in subst P (sym same) refl
-    at_is (suc (suc w)) q e = absurd (let no : None ≡ Some q = e in cc)
+routers_of w q at = grind (arith, common_steps)
 
 -- a peer is the other one
 pub peer_is : {x y : ℕ} → Side x y → (w : ℕ) (q : State) → IsPeer scenario states x w q → q ≡ state y x

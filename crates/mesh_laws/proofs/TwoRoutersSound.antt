@@ -1,5 +1,5 @@
 -- Two routers that hear each other are sound.
-use Rattle.mesh_laws.proofs.Common.{◌≡◌, ℕ, zero, suc, ◌≤◌, ◌≢◌, inl, inr, refl, sym, ◌∙◌, ap, subst, arith, [], ◌∷◌, Contains, Option, Some, None, true, false, nat_eq, eqb-true, Addr4, Metric, LinkKey, Link, TwoHopKey, TwoHop, Neighbour, Lost, TcRow, AreTcRows, IsTcRow, Of_address, Of_network, base_of, IsFresh, HasDistinctKeys, addr_eq, link_eq, metric_value, HasSymmetricOf, IsByLinks, admit_on, IsSoundLink, IsSoundNeighbour, SoundNeighbourhood, Sound, Neighbourhood, link_at, two_hop_at, neighbour_at, IsHeld, AreMoreThan, only, same_number, found_one, empty_within, empties_within, single_distinct, empty_distinct, few_of_one, contains_none as none_of, contains_head as here, none_is_some}
+use Rattle.mesh_laws.proofs.Common.{common_steps, ◌≡◌, ℕ, zero, suc, ◌≤◌, ◌≢◌, refl, sym, ◌∙◌, ap, subst, arith, [], ◌∷◌, Contains, Option, Some, true, nat_eq, eqb-true, Addr4, Metric, LinkKey, Link, TwoHopKey, TwoHop, Neighbour, Lost, TcRow, AreTcRows, IsTcRow, Of_address, Of_network, base_of, IsFresh, HasDistinctKeys, addr_eq, link_eq, metric_value, HasSymmetricOf, IsByLinks, admit_on, IsSoundLink, IsSoundNeighbour, SoundNeighbourhood, Sound, Neighbourhood, link_at, two_hop_at, neighbour_at, IsHeld, AreMoreThan, only, same_number, found_one, empty_within, empties_within, single_distinct, empty_distinct, few_of_one, contains_none as none_of, contains_head as here, none_is_some}
 use Rattle.mesh_laws.proofs.TwoRouters.{one, addr, settings, link, neighbour, state, address_on, apart}
 use Rattle.mesh_laws.proofs.TwoRoutersRelays.{relays_are}
 use Rattle.mesh_laws.proofs.TwoRoutersRoutes.{routes_are}
@@ -14,31 +14,23 @@ address_of : (a : Addr4) (y : ℕ) → addr_eq a (addr y) ≡ true → a ≡ add
 address_of a y h = ap (λ (n : ℕ). let r : Addr4 = record { 0 = n } in r) (eqb-true a.0 (suc y) h)
 
 link_found : (x y i : ℕ) (key : LinkKey) (e : Link × ℕ) → link_at (near x y) i key ≡ Some e → (i ≡ 0) × (key.addr ≡ addr y) × (e ≡ (link y, 9))
-link_found x y zero key e h =
-    let (same, is) = found_one link_eq (record { addr = addr y }) key (link y, 9) e h in
-    (refl, address_of key.addr y same, is)
-link_found x y (suc i) key e h = none_is_some h
+link_found x y i key e h = grind (arith, common_steps, found_one, address_of, none_is_some)
 
 link_there : (x y : ℕ) → link_at (near x y) 0 (record { addr = addr y }) ≡ Some (link y, 9)
 link_there x y = let h : nat_eq (suc y) (suc y) ≡ true = same_number (suc y) in rw h refl
 
 neighbour_found : (x y : ℕ) (o : Addr4) (e : Neighbour × ℕ) → neighbour_at (near x y) o ≡ Some e → (o ≡ addr y) × (e ≡ (neighbour y, 9))
-neighbour_found x y o e h =
-    let (same, is) = found_one addr_eq (addr y) o (neighbour y, 9) e h in
-    (address_of o y same, is)
+neighbour_found x y o e h = grind (arith, common_steps, found_one, address_of)
 
 neighbour_there : (x y : ℕ) → neighbour_at (near x y) (addr y) ≡ Some (neighbour y, 9)
 neighbour_there x y = let h : nat_eq (suc y) (suc y) ≡ true = same_number (suc y) in rw h refl
 
 no_two_hop_at : (x y i : ℕ) (key : TwoHopKey) (t : TwoHop × ℕ) → two_hop_at (near x y) i key ≡ Some t → ⊥
-no_two_hop_at x y zero key t h = none_is_some h
-no_two_hop_at x y (suc i) key t h = none_is_some h
+no_two_hop_at x y i key t h = grind (arith, common_steps, none_is_some)
 
 -- what a SYMMETRIC link of the neighbour is
 symmetric_link : (x y : ℕ) (l : Link) → HasSymmetricOf (near x y) 5 (addr y ∷ []) l → l ≡ link y
-symmetric_link x y l has =
-    let (i, key, until, (_, at), _) = has in
-    ap (λ (e : Link × ℕ). e.0) (link_found x y i key (l, until) at).2
+symmetric_link x y l has = grind (arith, common_steps, link_found)
 
 link_symmetric : (x y : ℕ) → HasSymmetricOf (near x y) 5 (addr y ∷ []) (link y)
 link_symmetric x y = (0, record { addr = addr y }, 9, (here _ [], link_there x y), refl)
@@ -60,37 +52,16 @@ by_links x y = record {
 
 -- no two distinct addresses are the one that is held
 held_is : (x y : ℕ) (a : Addr4) → IsHeld (near x y) a → a ≡ addr y
-held_is x y a held = elim held [
-  | inl originator ↦ (neighbour_found x y a originator.0 originator.1).0
-  | inr (inl one_of) ↦
-      let (o, n, until, at, has) = one_of in
-      let same : n ≡ neighbour y = ap (λ (e : Neighbour × ℕ). e.0) (neighbour_found x y o (n, until) at).1 in
-      let P : Neighbour → Type 0 = λ b. Contains b.addrs a in
-      only (addr y) a (subst P same has)
-  | inr (inr lost) ↦ none_is_some lost.1
-]
+held_is x y a held = grind (arith, common_steps, neighbour_found, none_is_some)
 
 within_limit : (x y : ℕ) → AreMoreThan 1024 (IsHeld (near x y)) → ⊥
 within_limit x y many = let (some, distinct, held, more) = many in few_of_one (addr y) some distinct (λ a c. held_is x y a (held a c)) more
 
 sound_link : (x y i : ℕ) (key : LinkKey) (l : Link) (until : ℕ) → link_at (near x y) i key ≡ Some (l, until) → IsSoundLink 5 key l
-sound_link x y i key l until h =
-    let (_, k, e) = link_found x y i key (l, until) h in
-    let same : l ≡ link y = ap (λ (f : Link × ℕ). f.0) e in
-    let P : Link → Type 0 = λ b. IsSoundLink 5 key b in
-    subst P (sym same) record {
-      least = rw k refl;
-      ascending = λ i j d less within. absurd (omega (arith, less, within));
-      link_out = λ off. absurd (let no : true ≡ false = off in cc);
-      selector = λ off. refl;
-    }
+sound_link x y i key l until h = grind (arith, common_steps, link_found)
 
 link_admitted : (x y i : ℕ) (key : LinkKey) → admit_on (settings x) i 5 (link_at (near x y) i key) ≡ link_at (near x y) i key
-link_admitted x y i key = by_entry (link_at (near x y) i key) refl
-  where
-    by_entry : (o : Option (Link × ℕ)) → link_at (near x y) i key ≡ o → admit_on (settings x) i 5 o ≡ o
-    by_entry None at = refl
-    by_entry (Some e) at = let (first, _, is) = link_found x y i key e at in rw (first, is) refl
+link_admitted x y i key = grind (arith, common_steps, link_found)
 
 sound_neighbour : (x y : ℕ) → x ≢ y → IsSoundNeighbour (settings x) (near x y) 5 (addr y) (neighbour y) 9
 sound_neighbour x y ne = record {

@@ -1,5 +1,5 @@
 -- The definitions take the unspoiled states.
-use Rattle.mesh_laws.proofs.Common.{◌≡◌, ◌≢◌, ℕ, zero, suc, ◌+◌, refl, sym, ◌∙◌, ap, subst, [], ◌∷◌, Contains, Some, None, Bool, true, false, cond, ◌&&◌, Addr4, NetAddr, Metric, TcRow, LinkKey, TwoHopKey, RouterKey, AddressKey, NetworkKey, Link, TwoHop, Neighbour, Lost, Advertiser, RouterTuple, AddressTuple, NetworkTuple, Noted, Becomes, Given, Left, GivesRouter, GivesAddress, GivesNetwork, if_not_dropped, Base, HasDistinctKeys, SetsOnly, Same, find, if_live, base_of, host, addr_eq, link_eq, two_hop_eq, router_eq, address_eq, net_eq, network_eq, flood_eq, IsSymmetricAddress, Stays, trim, is_symmetric_at, admit_on, link_at, two_hop_at, addr_equiv, router_equiv, address_equiv, network_equiv, same_router, same_network, key_of, only, single_distinct, empty_distinct, peer, me, third, one, three, contains_head as here, none_is_some}
+use Rattle.mesh_laws.proofs.Common.{arith, common_steps, ◌≡◌, ◌≢◌, ℕ, zero, suc, ◌+◌, refl, sym, ◌∙◌, ap, subst, [], ◌∷◌, Contains, Some, None, Bool, true, false, cond, ◌&&◌, Addr4, NetAddr, Metric, TcRow, LinkKey, TwoHopKey, RouterKey, AddressKey, NetworkKey, Link, TwoHop, Neighbour, Lost, Advertiser, RouterTuple, AddressTuple, NetworkTuple, Noted, Becomes, Given, Left, GivesRouter, GivesAddress, GivesNetwork, if_not_dropped, Base, HasDistinctKeys, SetsOnly, Same, find, if_live, base_of, host, addr_eq, link_eq, two_hop_eq, router_eq, address_eq, net_eq, network_eq, flood_eq, IsSymmetricAddress, Stays, trim, is_symmetric_at, admit_on, link_at, two_hop_at, addr_equiv, router_equiv, address_equiv, network_equiv, same_router, same_network, key_of, only, single_distinct, empty_distinct, peer, me, third, one, three, contains_head as here, none_is_some}
 use Rattle.std.specs.Cmp.{IsEquivalence}
 use Rattle.mesh_atoms.proofs.Lookups.{same_address}
 use Rattle.mesh_laws.proofs.Members.{both_same}
@@ -86,18 +86,7 @@ message_is_noted times = record {
     others (suc j) other = λ q. refl
 
 pub message_is_passed_over : MessageIsPassedOver
-message_is_passed_over times = record {
-  tables = record { received = received; processed = empty_distinct Noted flood_eq; forwarded = empty_distinct Noted flood_eq };
-  interfaces = refl;
-  processed = λ q. refl;
-  received = λ q. refl;
-  others = λ j other q. refl;
-  forwarded = λ q. refl;
-}
-  where
-    received : (i : ℕ) → HasDistinctKeys flood_eq (base_of quiet.received i)
-    received zero = empty_distinct Noted flood_eq
-    received (suc i) = empty_distinct Noted flood_eq
+message_is_passed_over times = grind (arith, common_steps, empty_distinct, quiet)
 
 -- TCs
 
@@ -115,12 +104,7 @@ becomes_one {eq = eq} until from number Given_by k value old equiv same given on
 
 -- what 10.0.0.1 advertised with the number 6 is dropped
 drops : {V : Type 0} (number : V → ℕ) (v : V) → number v ≡ 6 → (from : Addr4) (c : Bool) → if_not_dropped tc from number (cond (addr_eq from peer && c) (Some (v, 500)) None) ≡ None
-drops number v six from c = by_case (addr_eq from peer) c refl
-  where
-    by_case : (b c : Bool) → addr_eq from peer ≡ b → if_not_dropped tc from number (cond (b && c) (Some (v, 500)) None) ≡ None
-    by_case true true h = rw (h, six) refl
-    by_case true false h = refl
-    by_case false c h = refl
+drops number v six from c = grind (arith, common_steps, peer)
 
 -- the node of a row is that of the only row
 node_is : (r : TcRow) (n : NetAddr) → Contains tc.rows r → r.dest ≡ n → n ≡ host third
@@ -159,10 +143,7 @@ address_is q m given =
     both_same make q.from peer q.addr third from (ap (λ (n : NetAddr). n.addr) (node_is r (host q.addr) stands dest))
 
 network_is : (q : NetworkKey) (d : ℕ) (m : Metric) → GivesNetwork tc q d m → q ≡ network
-network_is q d m given =
-    let (from, r, stands, dest, _, _) = given in
-    let make : Addr4 → NetAddr → NetworkKey = λ a b. record { from = a; net = b } in
-    both_same make q.from peer q.net (host third) from (node_is r q.net stands dest)
+network_is q d m given = grind (arith, common_steps, both_same, peer, node_is)
 
 pub tc_is_taken : TcIsTaken
 tc_is_taken = record {

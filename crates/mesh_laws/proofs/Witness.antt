@@ -1,5 +1,5 @@
 -- Two routers that hear each other are a settled network: the premises of the law of settled routes can be met.
-use Rattle.mesh_laws.proofs.Common.{◌≡◌, ℕ, zero, suc, ◌⊎◌, inl, inr, refl, sym, ◌∙◌, ap, subst, arith, [], Contains, slice_get, Some, None, Addr4, Metric, RouterSettings, RadioArc, host, Leads, IsSoundScenario, At, State, HasAddressOn, IsOriginator, two, Sound, AddressOf, IsSettledNetwork, HasRow, TwoRoutersSettle, contains_none as none_of, contains_head as here}
+use Rattle.mesh_laws.proofs.Common.{common_steps, ◌≡◌, ℕ, suc, ◌⊎◌, inl, inr, refl, sym, ◌∙◌, ap, subst, arith, [], Contains, slice_get, Some, Addr4, Metric, RouterSettings, host, Leads, IsSoundScenario, AddressOf, At, State, HasAddressOn, IsOriginator, Sound, IsSettledNetwork, HasRow, TwoRoutersSettle, contains_none as none_of, contains_head as here}
 use Rattle.mesh_laws.proofs.TwoRouters.{one, addr, face, settings, arc, scenario, route, state, states, address_on}
 use Rattle.mesh_laws.proofs.TwoRoutersSettled.{Side, settled_at, turned, routers_of}
 use Rattle.mesh_laws.proofs.TwoRoutersSettled.{joins}
@@ -9,32 +9,13 @@ zero_one : ◌≡◌ {A = ℕ} 0 1 → ⊥
 zero_one e = absurd (omega arith)
 
 leads : (x i y j : ℕ) (m : Metric) → Leads scenario x i y j m → (i ≡ 0) × (j ≡ 0) × (m ≡ one) × (((x ≡ 0) × (y ≡ 1)) ⊎ ((x ≡ 1) × (y ≡ 0)))
-leads x i y j m way =
-    let (a, stands, from, from_iface, to, to_iface, m_is) = way in
-    elim (two (arc 0 1) (arc 1 0) a stands) [
-      | inl e ↦ (
-        sym from_iface ∙ ap (λ (b : RadioArc). b.from_iface) e,
-        sym to_iface ∙ ap (λ (b : RadioArc). b.to_iface) e,
-        sym m_is ∙ ap (λ (b : RadioArc). b.metric) e,
-        inl (sym from ∙ ap (λ (b : RadioArc). b.from) e, sym to ∙ ap (λ (b : RadioArc). b.to) e),
-      )
-      | inr e ↦ (
-        sym from_iface ∙ ap (λ (b : RadioArc). b.from_iface) e,
-        sym to_iface ∙ ap (λ (b : RadioArc). b.to_iface) e,
-        sym m_is ∙ ap (λ (b : RadioArc). b.metric) e,
-        inr (sym from ∙ ap (λ (b : RadioArc). b.from) e, sym to ∙ ap (λ (b : RadioArc). b.to) e),
-      )
-    ]
+leads x i y j m way = grind (arith, common_steps)
 
 state_at : (x : ℕ) (p : State) → slice_get states x ≡ Some p → ((x ≡ 0) × (p ≡ state 0 1)) ⊎ ((x ≡ 1) × (p ≡ state 1 0))
-state_at zero p e = inl (refl, (cc))
-state_at (suc zero) p e = inr (refl, (cc))
-state_at (suc (suc x)) p e = absurd (let no : None ≡ Some p = e in cc)
+state_at x p e = grind (arith, common_steps)
 
 router_at : (x : ℕ) (r : RouterSettings) → slice_get scenario.routers x ≡ Some r → ((x ≡ 0) × (r ≡ settings 0)) ⊎ ((x ≡ 1) × (r ≡ settings 1))
-router_at zero r e = inl (refl, (cc))
-router_at (suc zero) r e = inr (refl, (cc))
-router_at (suc (suc x)) r e = absurd (let no : None ≡ Some r = e in cc)
+router_at x r e = grind (arith, common_steps)
 
 settings_are : (x : ℕ) (r : RouterSettings) → slice_get scenario.routers x ≡ Some r → r ≡ settings x
 settings_are x r at = elim (router_at x r at) [

@@ -1,5 +1,5 @@
 -- Between the worked HELLOs nothing is expired.
-use Rattle.mesh_laws.proofs.Common.{◌≡◌, ℕ, zero, suc, ◌+◌, inl, inr, refl, sym, ap, subst, [], Contains, Option, Some, None, Bool, true, false, cond, ◌&&◌, Addr4, LinkKey, TwoHopKey, Link, TwoHop, Neighbour, Lost, RouterSettings, HasDistinctKeys, base_of, addr_eq, link_eq, two_hop_eq, IsSymmetricAddress, SettlesLost, Back, Stays, is_symmetric_at, link_at, two_hop_at, neighbour_at, peer, third, five, link, neighbour, after, IsReceiver, only, single_distinct, empty_distinct, LiveNeighbourhood, Restores, trim, is_symmetric_entry, if_live, admit_on, same_address, contains_head as here}
+use Rattle.mesh_laws.proofs.Common.{arith, common_steps, ◌≡◌, ℕ, zero, suc, ◌+◌, inl, inr, refl, sym, ap, subst, [], Option, Some, None, Bool, true, false, cond, ◌&&◌, Addr4, LinkKey, TwoHopKey, Link, TwoHop, Lost, RouterSettings, HasDistinctKeys, base_of, addr_eq, link_eq, two_hop_eq, if_live, IsSymmetricAddress, SettlesLost, Back, Stays, is_symmetric_at, LiveNeighbourhood, Restores, trim, is_symmetric_entry, link_at, two_hop_at, neighbour_at, peer, third, five, link, neighbour, after, IsReceiver, single_distinct, empty_distinct, admit_on, same_address, contains_head as here}
 use Rattle.mesh_laws.proofs.WorkedNeighbourhood.{neighbour_found, by_links}
 use Rattle.mesh_laws.proofs.WorkedQuality.{link_admitted}
 
@@ -7,11 +7,7 @@ abbrev beyond : TwoHop
 beyond = record { metric_in = Some five; metric_out = None }
 
 pub was_symmetric_address : (a : Addr4) → IsSymmetricAddress after a → a ≡ peer
-was_symmetric_address a is =
-    let (o, n, until, at, _, has) = is in
-    let same : n ≡ neighbour = ap (λ (e : Neighbour × ℕ). e.0) (neighbour_found o (n, until) at).1 in
-    let P : Neighbour → Type 0 = λ b. Contains b.addrs a in
-    only peer a (subst P same has)
+was_symmetric_address a is = grind (arith, common_steps, neighbour_found, peer)
 
 pub peer_symmetric : IsSymmetricAddress after peer
 peer_symmetric = (peer, neighbour, 98504, refl, refl, here peer [])

@@ -1,5 +1,5 @@
 -- What the worked HELLO tells, and that it is not refused.
-use Rattle.mesh_laws.proofs.Common.{◌≡◌, ℕ, zero, suc, ◌<◌, ◌⊎◌, inl, inr, refl, sym, ◌∙◌, ap, subst, arith, List, [], ◌∷◌, Contains, slice_get, slice_index_or, length, Some, None, IsTrue, true, false, IsDistinct, Addr4, NetAddr, Metric, LocalIf, This, Heard, HelloRow, Interface, SenderMetric, RouterSettings, metric_value, Told, Tells, HasRowOf, TellsLocal, IsHandedIn, LooksAt, tells_symmetric, HasAddress, HasAddressOn, IsOwn, Local, Originator, Sender, IsFault, IsHeld, IsFullOfAddresses, FitsTwoHops, peer, me, third, one, three, seven, own_row, my_row, third_row, hello, IsReceiver, nothing, only, few_of_one, contains_none as none_of, contains_head as here, none_is_some}
+use Rattle.mesh_laws.proofs.Common.{common_steps, ◌≡◌, ℕ, ◌⊎◌, inl, inr, refl, sym, ◌∙◌, ap, subst, arith, List, [], ◌∷◌, Contains, slice_get, Some, None, IsTrue, false, IsDistinct, Addr4, NetAddr, Metric, LocalIf, This, Heard, HelloRow, Interface, SenderMetric, RouterSettings, metric_value, Told, Tells, HasRowOf, TellsLocal, IsHandedIn, LooksAt, tells_symmetric, HasAddress, HasAddressOn, IsOwn, Local, Originator, Sender, IsFault, IsHeld, IsFullOfAddresses, FitsTwoHops, peer, me, third, one, three, seven, own_row, my_row, third_row, hello, IsReceiver, nothing, only, few_of_one, contains_none as none_of, contains_head as here, none_is_some}
 use Rattle.mesh_laws.proofs.OneAddress.{sending_one, listed_one}
 
 abbrev pub told : Told
@@ -27,18 +27,9 @@ peer_not_me e = let f : ◌≡◌ {A = ℕ} 167772161 167772162 = ap (λ (a : Ad
 pub third_not_me : third ≡ me → ⊥
 third_not_me e = let f : ◌≡◌ {A = ℕ} 167772163 167772162 = ap (λ (a : Addr4). a.0) e in absurd (omega arith)
 
-pub third_not_peer : third ≡ peer → ⊥
-third_not_peer e = let f : ◌≡◌ {A = ℕ} 167772163 167772161 = ap (λ (a : Addr4). a.0) e in absurd (omega arith)
-
 -- a row is one of the three
 pub row_is : (row : HelloRow) → Contains hello.rows row → (row ≡ own_row) ⊎ ((row ≡ my_row) ⊎ (row ≡ third_row))
-row_is row stands = at stands.0 stands.1 stands.2
-  where
-    at : (k : ℕ) → k < length hello.rows → slice_index_or hello.rows k row ≡ row → (row ≡ own_row) ⊎ ((row ≡ my_row) ⊎ (row ≡ third_row))
-    at zero l e = inl (sym e)
-    at (suc zero) l e = inr (inl (sym e))
-    at (suc (suc zero)) l e = inr (inr (sym e))
-    at (suc (suc (suc k))) l e = absurd (omega (arith, l))
+row_is row stands = grind (arith, common_steps, own_row)
 
 -- and so is its address
 pub data RowOf (a : Addr4) (row : HelloRow) : Type 0 where
@@ -64,38 +55,20 @@ shows_local a local shows = by_row (row_of a shows.0 shows.1) shows.2
 
 -- no row shows a relay
 pub no_flooding : (a : Addr4) (row : HelloRow) → HasRowOf hello a row → IsTrue row.mpr.flooding → ⊥
-no_flooding a row has chosen = elim (row_is row has.0) [
-  | inl e ↦ absurd (let f : false ≡ true = sym (ap (λ (r : HelloRow). r.mpr.flooding) e) ∙ chosen in cc)
-  | inr (inl e) ↦ absurd (let f : false ≡ true = sym (ap (λ (r : HelloRow). r.mpr.flooding) e) ∙ chosen in cc)
-  | inr (inr e) ↦ absurd (let f : false ≡ true = sym (ap (λ (r : HelloRow). r.mpr.flooding) e) ∙ chosen in cc)
-]
+no_flooding a row has chosen = grind (arith, common_steps, row_is)
 
 pub no_routing : (a : Addr4) (row : HelloRow) → HasRowOf hello a row → IsTrue row.mpr.routing → ⊥
-no_routing a row has chosen = elim (row_is row has.0) [
-  | inl e ↦ absurd (let f : false ≡ true = sym (ap (λ (r : HelloRow). r.mpr.routing) e) ∙ chosen in cc)
-  | inr (inl e) ↦ absurd (let f : false ≡ true = sym (ap (λ (r : HelloRow). r.mpr.routing) e) ∙ chosen in cc)
-  | inr (inr e) ↦ absurd (let f : false ≡ true = sym (ap (λ (r : HelloRow). r.mpr.routing) e) ∙ chosen in cc)
-]
+no_routing a row has chosen = grind (arith, common_steps, row_is)
 
 module _ (settings : RouterSettings) (r : IsReceiver settings) where
   pub face_is : (i : ℕ) (face : Interface) → slice_get settings.interfaces i ≡ Some face → (i ≡ 0) × (face ≡ r.face)
-  face_is i face at =
-      let P : List Interface → Type 0 = λ b. slice_get b i ≡ Some face in
-      of_one i (subst P r.interfaces at)
-    where
-      of_one : (i : ℕ) → slice_get (r.face ∷ []) i ≡ Some face → (i ≡ 0) × (face ≡ r.face)
-      of_one zero e = (refl, (cc))
-      of_one (suc i) e = none_is_some e
+  face_is i face at = grind (arith, common_steps, none_is_some)
 
   pub face_at : slice_get settings.interfaces 0 ≡ Some r.face
   face_at = let P : List Interface → Type 0 = λ b. slice_get b 0 ≡ Some r.face in subst P (sym r.interfaces) refl
 
   pub mine_is : (i : ℕ) (a : Addr4) → HasAddressOn settings i a → a ≡ me
-  mine_is i a on =
-      let (face, at, has) = on in
-      let P : Interface → Type 0 = λ b. Contains b.addrs a in
-      let Q : List Addr4 → Type 0 = λ b. Contains b a in
-      only me a (subst Q r.addrs (subst P (face_is i face at).1 has))
+  mine_is i a on = grind (arith, common_steps, face_is)
 
   pub mine : HasAddressOn settings 0 me
   mine = (r.face, face_at, (let P : List Addr4 → Type 0 = λ b. Contains b me in subst P (sym r.addrs) (here me [])))
@@ -157,12 +130,7 @@ module _ (settings : RouterSettings) (r : IsReceiver settings) where
 
   -- the row of the address beyond is looked at, and no other
   pub looks_at : LooksAt settings told hello third third_row
-  looks_at = record {
-    stands = ((2, omega arith, refl), refl);
-    not_mine = λ has. third_not_me (mine_is has.0 third has.1);
-    not_theirs = λ c. third_not_peer (only peer third c);
-    shown = inl refl;
-  }
+  looks_at = grind (arith, common_steps, mine_is, peer)
 
   pub looked_at : (a : Addr4) (row : HelloRow) → LooksAt settings told hello a row → a ≡ third
   looked_at a row looks = by_row (row_of a row looks.stands)

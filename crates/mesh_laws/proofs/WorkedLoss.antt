@@ -1,5 +1,5 @@
 -- The second worked HELLO is taken.
-use Rattle.mesh_laws.proofs.Common.{◌≡◌, ◌≢◌, ℕ, zero, suc, ◌+◌, ◌<◌, ◌⊎◌, inl, inr, refl, sym, ◌∙◌, ap, subst, arith, List, [], ◌∷◌, Contains, slice_index_or, length, Some, None, IsTrue, true, false, IsDistinct, Addr4, NetAddr, Metric, LocalIf, This, Heard, HelloRow, LinkKey, TwoHopKey, Link, TwoHop, Neighbour, Lost, Interface, SenderMetric, RouterSettings, AfterHello, renewed, Remains, HasDistinctKeys, base_of, addr_eq, link_eq, two_hop_eq, Told, Tells, HasRowOf, TellsLocal, IsHandedIn, LooksAt, HasSymmetricOf, IsByLinks, IsSymmetricAddress, SettlesLost, Stays, link_at, two_hop_at, neighbour_at, lost_at, is_symmetric, HasAddress, HasAddressOn, IsOwn, Local, Originator, Sender, IsFault, IsHeld, IsFullOfAddresses, FitsTwoHops, Takes, same_addr, peer, me, one, own_row, IsReceiver, link, neighbour, after, only, found_one, single_distinct, empty_distinct, few_of_one, Gone, Restores, Stood, LinkStatus, TellsMe, lost_row, later_hello, heard_link, heard_neighbour, later, SecondHelloIsTaken, same_address, contains_none as none_of, contains_head as here, none_is_some}
+use Rattle.mesh_laws.proofs.Common.{common_steps, ◌≡◌, ◌≢◌, ℕ, zero, suc, ◌+◌, ◌<◌, ◌⊎◌, inl, inr, refl, sym, ◌∙◌, ap, subst, arith, List, [], ◌∷◌, Contains, slice_index_or, length, Some, None, IsTrue, true, false, IsDistinct, Addr4, NetAddr, Metric, LocalIf, This, Heard, HelloRow, LinkKey, TwoHopKey, Link, TwoHop, Neighbour, Lost, Interface, SenderMetric, RouterSettings, AfterHello, renewed, Remains, Stood, HasDistinctKeys, base_of, addr_eq, link_eq, two_hop_eq, Told, Tells, HasRowOf, TellsLocal, IsHandedIn, LooksAt, TellsMe, HasSymmetricOf, IsByLinks, IsSymmetricAddress, SettlesLost, Stays, Gone, Restores, link_at, two_hop_at, neighbour_at, lost_at, HasAddress, HasAddressOn, IsOwn, Local, Originator, Sender, IsFault, IsHeld, IsFullOfAddresses, FitsTwoHops, Takes, same_addr, peer, me, one, own_row, IsReceiver, link, neighbour, after, lost_row, later_hello, heard_link, heard_neighbour, later, SecondHelloIsTaken, only, found_one, single_distinct, empty_distinct, few_of_one, LinkStatus, same_address, contains_none as none_of, contains_head as here, none_is_some}
 use Rattle.mesh_laws.proofs.OneAddress.{sending_one, listed_one}
 use Rattle.mesh_atoms.specs.declared.hello.LinkStatus.TheVariants.{Lost as Down, Symmetric}
 use Rattle.mesh_laws.proofs.WorkedHello.{told, peer_not_me, face_is, mine_is, mine}
@@ -29,45 +29,24 @@ shows_local a local shows = elim (later_row a shows.0 shows.1) [
 ]
 
 no_flooding : (a : Addr4) (row : HelloRow) → HasRowOf later_hello a row → IsTrue row.mpr.flooding → ⊥
-no_flooding a row has chosen = elim (later_row a row has) [
-  | inl own ↦ absurd (let f : false ≡ true = sym (ap (λ (r : HelloRow). r.mpr.flooding) own.0) ∙ chosen in cc)
-  | inr lost ↦ absurd (let f : false ≡ true = sym (ap (λ (r : HelloRow). r.mpr.flooding) lost.0) ∙ chosen in cc)
-]
+no_flooding a row has chosen = grind (arith, common_steps, later_row)
 
 no_routing : (a : Addr4) (row : HelloRow) → HasRowOf later_hello a row → IsTrue row.mpr.routing → ⊥
-no_routing a row has chosen = elim (later_row a row has) [
-  | inl own ↦ absurd (let f : false ≡ true = sym (ap (λ (r : HelloRow). r.mpr.routing) own.0) ∙ chosen in cc)
-  | inr lost ↦ absurd (let f : false ≡ true = sym (ap (λ (r : HelloRow). r.mpr.routing) lost.0) ∙ chosen in cc)
-]
+no_routing a row has chosen = grind (arith, common_steps, later_row)
 
 no_metric : (a : Addr4) (row : HelloRow) (m : Metric) → HasRowOf later_hello a row → row.metrics.link_in ≡ Some m → ⊥
-no_metric a row m has f = elim (later_row a row has) [
-  | inl own ↦ none_is_some (sym (ap (λ (r : HelloRow). r.metrics.link_in) own.0) ∙ f)
-  | inr lost ↦ none_is_some (sym (ap (λ (r : HelloRow). r.metrics.link_in) lost.0) ∙ f)
-]
+no_metric a row m has f = grind (arith, common_steps, later_row, none_is_some)
 
 -- The neighbourhood
 
 later_link : (i : ℕ) (key : LinkKey) (e : Link × ℕ) → link_at later i key ≡ Some e → (i ≡ 0) × (key.addr ≡ peer) × (e ≡ (heard_link, 98604))
-later_link zero key e h = let (same, is) = found_one link_eq (record { addr = peer }) key (heard_link, 98604) e h in (refl, same_addr key.addr peer same, is)
-later_link (suc i) key e h = none_is_some h
+later_link i key e h = grind (arith, common_steps, found_one, peer, same_addr, none_is_some)
 
 no_later_link : (j : ℕ) (key : LinkKey) → ((j ≢ 0) ⊎ (key ≢ record { addr = peer })) → link_at later j key ≡ None
-no_later_link zero key other = elim other [
-  | inl ne ↦ absurd (ne refl)
-  | inr ne ↦
-      let off : addr_eq key.addr peer ≡ false = same_peer key.addr (λ e. ne (ap (λ (a : Addr4). let k : LinkKey = record { addr = a } in k) e)) in
-      rw off refl
-]
-no_later_link (suc j) key other = refl
+no_later_link j key other = grind (arith, common_steps, peer, same_peer)
 
 none_symmetric : (l : Link) → HasSymmetricOf later 300 (peer ∷ []) l → ⊥
-none_symmetric l has =
-    let (i, key, until, (_, at), late) = has in
-    let same : l ≡ heard_link = ap (λ (e : Link × ℕ). e.0) (later_link i key (l, until) at).2 in
-    let P : Link → Type 0 = λ b. is_symmetric b 300 ≡ true in
-    let no : false ≡ true = subst P same late in
-    absurd (cc)
+none_symmetric l has = grind (arith, common_steps, later_link)
 
 by_heard_links : IsByLinks later 300 heard_neighbour 98604
 by_heard_links = record {
@@ -79,29 +58,18 @@ by_heard_links = record {
 }
 
 no_later_two_hop : (j : ℕ) (key : TwoHopKey) → two_hop_at later j key ≡ None
-no_later_two_hop zero key = refl
-no_later_two_hop (suc j) key = refl
+no_later_two_hop j key = grind (arith, common_steps)
 
 later_peer : (o : Addr4) (e : Neighbour × ℕ) → neighbour_at later o ≡ Some e → e ≡ (heard_neighbour, 98604)
 later_peer o e h = (found_one addr_eq peer o (heard_neighbour, 98604) e h).1
 
 -- no address is a symmetric neighbour's
 no_symmetric_address : (a : Addr4) → IsSymmetricAddress later a → ⊥
-no_symmetric_address a is =
-    let (o, n, until, at, late, _) = is in
-    let same : n ≡ heard_neighbour = ap (λ (e : Neighbour × ℕ). e.0) (later_peer o (n, until) at) in
-    let P : Neighbour → Type 0 = λ b. IsTrue b.symmetric in
-    let no : false ≡ true = subst P same late in
-    absurd (cc)
+no_symmetric_address a is = grind (arith, common_steps, later_peer)
 
 module _ (settings : RouterSettings) (r : IsReceiver settings) where
   my_row_is : (status : LinkStatus) → TellsMe settings 0 later_hello status → status ≡ Down
-  my_row_is status shows =
-      let (a, row, on, has, f) = shows in
-      elim (later_row a row has) [
-        | inl own ↦ absurd (peer_not_me (sym own.1 ∙ mine_is settings r 0 a on))
-        | inr lost ↦ (let g : Some Down ≡ Some status = sym (ap (λ (b : HelloRow). b.link) lost.0) ∙ f in (cc))
-      ]
+  my_row_is status shows = grind (arith, common_steps, later_row, peer_not_me, mine_is)
 
   tells_loss : Tells settings 0 peer later_hello told_loss
   tells_loss = record {

@@ -1,62 +1,37 @@
 -- The neighbourhood after the worked HELLO.
-use Rattle.mesh_laws.proofs.Common.{◌≡◌, ◌≢◌, ℕ, zero, suc, ◌+◌, ◌≤◌, ◌⊎◌, inl, inr, refl, sym, ◌∙◌, ap, subst, arith, [], ◌∷◌, Contains, Option, Some, None, Bool, true, false, cond, Addr4, Metric, LinkKey, TwoHopKey, Link, TwoHop, Neighbour, Lost, RouterSettings, AfterHello, Made, made, renewed, Remains, New_link, TellsTwoHop, By_row, By_none, IsKept, HasDistinctKeys, base_of, addr_eq, link_eq, two_hop_eq, metric_value, HasSymmetricOf, IsByLinks, IsSymmetricAddress, SettlesLost, Back, Stays, link_at, two_hop_at, neighbour_at, is_symmetric, rule_of, Takes, same_addr, peer, third, one, three, five, third_row, hello, IsReceiver, nothing, link, neighbour, after, FirstHelloIsTaken, only, found_one, single_distinct, empty_distinct, same_address, contains_head as here, none_is_some}
-use Rattle.mesh_laws.proofs.WorkedQuality.{begun, made_is}
+use Rattle.mesh_laws.proofs.Common.{common_steps, ◌≡◌, ◌≢◌, ℕ, zero, suc, ◌+◌, ◌≤◌, ◌⊎◌, inl, inr, refl, sym, ◌∙◌, ap, subst, arith, [], ◌∷◌, Contains, Option, Some, None, Bool, true, false, cond, Addr4, Metric, LinkKey, TwoHopKey, Link, TwoHop, Neighbour, Lost, RouterSettings, AfterHello, Made, made, renewed, Remains, New_link, TellsTwoHop, By_row, By_none, IsKept, HasDistinctKeys, base_of, addr_eq, link_eq, two_hop_eq, metric_value, HasSymmetricOf, IsByLinks, IsSymmetricAddress, SettlesLost, Back, Stays, link_at, two_hop_at, neighbour_at, is_symmetric, rule_of, Takes, same_addr, peer, third, one, three, five, third_row, hello, IsReceiver, nothing, link, neighbour, after, FirstHelloIsTaken, only, found_one, single_distinct, empty_distinct, same_address, contains_head as here, none_is_some}
+use Rattle.mesh_laws.proofs.WorkedQuality.{made_is}
 use Rattle.mesh_laws.proofs.WorkedHello.{told, looks_at, looked_at, tells, no_fault, not_full, fits}
 
 pub same_peer : (a : Addr4) → (a ≡ peer → ⊥) → addr_eq a peer ≡ false
-same_peer a other = by_case (addr_eq a peer) refl
-  where
-    by_case : (b : Bool) → addr_eq a peer ≡ b → b ≡ false
-    by_case true h = absurd (other (same_addr a peer h))
-    by_case false h = refl
+same_peer a other = grind (arith, common_steps, peer, same_addr)
 
 pub link_found : (i : ℕ) (key : LinkKey) (e : Link × ℕ) → link_at after i key ≡ Some e → (i ≡ 0) × (key.addr ≡ peer) × (e ≡ (link, 98504))
-link_found zero key e h = let (same, is) = found_one link_eq (record { addr = peer }) key (link, 98504) e h in (refl, same_addr key.addr peer same, is)
-link_found (suc i) key e h = none_is_some h
+link_found i key e h = grind (arith, common_steps, found_one, peer, same_addr, none_is_some)
 
 pub no_link : (j : ℕ) (key : LinkKey) → ((j ≢ 0) ⊎ (key ≢ record { addr = peer })) → link_at after j key ≡ None
-no_link zero key other = elim other [
-  | inl ne ↦ absurd (ne refl)
-  | inr ne ↦
-      let off : addr_eq key.addr peer ≡ false = same_peer key.addr (λ e. ne (ap (λ (a : Addr4). let k : LinkKey = record { addr = a } in k) e)) in
-      rw off refl
-]
-no_link (suc j) key other = refl
+no_link j key other = grind (arith, common_steps, peer, same_peer)
 
 pub stood_nothing : (j : ℕ) (key : LinkKey) → link_at nothing j key ≡ None
-stood_nothing zero key = refl
-stood_nothing (suc j) key = refl
+stood_nothing j key = grind (arith, common_steps)
 
 pub stood_no_two_hop : (j : ℕ) (key : TwoHopKey) → two_hop_at nothing j key ≡ None
-stood_no_two_hop zero key = refl
-stood_no_two_hop (suc j) key = refl
+stood_no_two_hop j key = grind (arith, common_steps)
 
 pub no_neighbour : (o : Addr4) → (o ≡ peer → ⊥) → neighbour_at after o ≡ None
 no_neighbour o other = let off : addr_eq o peer ≡ false = same_peer o other in rw off refl
 
 pub no_two_hop : (j : ℕ) (key : TwoHopKey) → ((j ≢ 0) ⊎ (key.link ≢ record { addr = peer })) → two_hop_at after j key ≡ None
-no_two_hop zero key other = elim other [
-  | inl ne ↦ absurd (ne refl)
-  | inr ne ↦
-      let off : addr_eq key.link.addr peer ≡ false = same_peer key.link.addr (λ e. ne (ap (λ (a : Addr4). let k : LinkKey = record { addr = a } in k) e)) in
-      rw off refl
-]
-no_two_hop (suc j) key other = refl
+no_two_hop j key other = grind (arith, common_steps, peer, same_peer)
 
 pub no_two_hop_of : (a : Addr4) → (a ≡ third → ⊥) → two_hop_at after 0 (record { link = record { addr = peer }; addr = a }) ≡ None
-no_two_hop_of a other = by_case (addr_eq a third) refl
-  where
-    by_case : (b : Bool) → addr_eq a third ≡ b → two_hop_at after 0 (record { link = record { addr = peer }; addr = a }) ≡ None
-    by_case true h = absurd (other (same_addr a third h))
-    by_case false h = rw h refl
+no_two_hop_of a other = grind (arith, common_steps, peer, same_addr)
 
 pub neighbour_found : (o : Addr4) (e : Neighbour × ℕ) → neighbour_at after o ≡ Some e → (o ≡ peer) × (e ≡ (neighbour, 98504))
 neighbour_found o e h = let (same, is) = found_one addr_eq peer o (neighbour, 98504) e h in (same_addr o peer same, is)
 
 pub symmetric_link : (now : ℕ) (l : Link) → HasSymmetricOf after now (peer ∷ []) l → l ≡ link
-symmetric_link now l has =
-    let (i, key, until, (_, at), _) = has in
-    ap (λ (e : Link × ℕ). e.0) (link_found i key (l, until) at).2
+symmetric_link now l has = grind (arith, common_steps, link_found)
 
 pub link_symmetric : (now : ℕ) → is_symmetric link now ≡ true → HasSymmetricOf after now (peer ∷ []) link
 link_symmetric now late = (0, record { addr = peer }, 98504, (here peer [], refl), late)
@@ -77,12 +52,10 @@ by_links now late = record {
     out_is m e f = let k : three ≡ m = cc in let same : metric_value three ≡ metric_value m = ap metric_value k in omega (arith, same)
 
 pub kept_none : {A : Type 0} (P : A → Type 0) (old new : Option A) → old ≡ None → new ≡ None → IsKept P old new
-kept_none P None new e f = f
-kept_none P (Some a) new e f = none_is_some (sym e)
+kept_none P old new e f = grind (arith, common_steps, none_is_some)
 
 pub either_none : {A : Type 0} (b : Bool) (o : Option A) → o ≡ None → cond b o None ≡ None
-either_none true o e = e
-either_none false o e = refl
+either_none b o e = grind (arith, common_steps)
 
 module _ (settings : RouterSettings) (r : IsReceiver settings) where
   pub two_hop_told : (a : Addr4) → TellsTwoHop settings told hello 49352 a None (two_hop_at after 0 (record { link = record { addr = peer }; addr = a }))
@@ -109,10 +82,7 @@ module _ (settings : RouterSettings) (r : IsReceiver settings) where
           only peer a (subst P (ap (λ (e : Neighbour × ℕ). e.0) same) has)
 
   renewed_link : link_at after 0 (record { addr = peer }) ≡ Some (renewed told.shown settings.times.link_hold 200 (made (rule_of settings 0) told.shown 200))
-  renewed_link =
-      let P : ℕ → Type 0 = λ hold. link_at after 0 (record { addr = peer }) ≡ Some (renewed told.shown hold 200 (begun 100 false)) in
-      let Q : Link × ℕ → Type 0 = λ e. link_at after 0 (record { addr = peer }) ≡ Some (renewed told.shown settings.times.link_hold 200 e) in
-      subst Q (sym (made_is settings r)) (subst P (sym r.link_hold) refl)
+  renewed_link = grind (arith, common_steps, peer, renewed, made_is)
 
   pub after_hello : AfterHello settings 200 0 told hello nothing after
   after_hello = record {

@@ -1,6 +1,5 @@
 -- The receiver of the worked HELLOs is told no quality of its senders, so that it admits whatever it hears.
-use Rattle.mesh_laws.proofs.Common.{◌≡◌, ℕ, refl, ◌∙◌, ap, min, List, [], ◌∷◌, map, filter, Option, Some, None, Bool, true, false, nat_le, nat_lt, fold, list_any, le-leb, le-ltb, Addr4, Admit, SenderMetric, RouterSettings, Link, made, addr_eq, quality_of, quality_at, rule_in, rule_of, by_quality, admit_on, peer, one, link, IsReceiver}
-use Rattle.mesh_atoms.specs.declared.admit.SenderQuality.{SenderQuality}
+use Rattle.mesh_laws.proofs.Common.{arith, common_steps, ◌≡◌, ℕ, refl, List, [], ◌∷◌, map, Some, None, Bool, false, Addr4, Admit, RouterSettings, Link, made, quality_at, rule_of, by_quality, admit_on, peer, one, link, IsReceiver}
 use Rattle.mesh_laws.proofs.Qualities.{below_all}
 use Rattle.mesh_laws.proofs.WorkedHello.{told, face_at}
 
@@ -30,22 +29,13 @@ module _ (settings : RouterSettings) (r : IsReceiver settings) where
   rule = rule_of settings 0
 
   no_qualities : rule.senders ≡ []
-  no_qualities =
-      let same : rule ≡ r.face.admit = ap rule_in (face_at settings r) in
-      let none : map (λ (q : SenderQuality). q.sender) r.face.admit.senders ≡ [] = r.face.same_senders ∙ ap (λ (l : List SenderMetric). map (λ (m : SenderMetric). m.sender) l) r.senders in
-      ap (λ (a : Admit). a.senders) same ∙ mapped_none (λ (q : SenderQuality). q.sender) r.face.admit.senders none
+  no_qualities = grind (arith, common_steps, face_at, mapped_none)
 
   best : (addrs : List Addr4) (now : ℕ) → quality_at rule addrs now ≡ 100
-  best addrs now =
-      ap (λ (l : List SenderQuality). fold min 100 (map (λ s. quality_of s.steps now) (filter (λ s. list_any (addr_eq s.sender) addrs) l))) no_qualities
+  best addrs now = grind (arith, common_steps, no_qualities)
 
   pub made_is : made rule told.shown 200 ≡ begun 100 false
-  made_is =
-      ap (λ (q : ℕ). begun q (nat_lt q rule.accept)) (best (peer ∷ []) 200)
-      ∙ ap (begun 100) (le-ltb 100 rule.accept (below_all rule))
+  made_is = grind (arith, common_steps, best, peer, below_all)
 
   pub link_admitted : admit_on settings 0 300 (Some (link, 98504)) ≡ Some (link, 98504)
-  link_admitted =
-      let accepted : nat_le rule.accept 100 ≡ true = le-leb rule.accept 100 (below_all rule) in
-      let as_best : ◌≡◌ {A = Option (Link × ℕ)} (Some (by_quality rule settings.times.link_hold 300 100 (link, 98504))) (Some (link, 98504)) = rw accepted refl in
-      ap (λ (q : ℕ). let o : Option (Link × ℕ) = Some (by_quality rule settings.times.link_hold 300 q (link, 98504)) in o) (best (peer ∷ []) 300) ∙ as_best
+  link_admitted = grind (arith, common_steps, below_all, by_quality, best, peer)

@@ -1,5 +1,5 @@
 -- The definitions of a router refuse wrong states.
-use Rattle.mesh_laws.proofs.Common.{◌≡◌, ℕ, ◌+◌, ◌<◌, ◌≤◌, inl, inr, refl, sym, ◌∙◌, ap, subst, arith, slice_index_or, length, Option, Some, None, IsTrue, Bool, false, cond, nat_lt, Contains, cases_Bool, le-ltb, Addr4, NetAddr, Hello, LinkStatus, Heard, TcRow, LinkKey, Pending as Is_pending, Symmetric as Is_symmetric, Link, TwoHop, Route, RouterSettings, GivesAsSelector, IsTcRow, Of_address, Of_network, AfterHello, StoodOn, Same_link, New_link, TellsTwoHop, By_row, By_none, host, if_live, Says, Link_symmetric, Other_symmetric, link_part, Told, trim, is_symmetric_at, IsBefore, IsAtMost, quality_at, rule_of, admitted, admit_on, State, Neighbourhood, link_at, two_hop_at, state_of, HasLink, IsValue, true_false, none_not}
+use Rattle.mesh_laws.proofs.Common.{common_steps, ◌≡◌, ℕ, ◌+◌, ◌<◌, inl, inr, refl, sym, ◌∙◌, ap, subst, arith, slice_index_or, length, Option, Some, None, IsTrue, Contains, cases_Bool, Addr4, NetAddr, Hello, LinkStatus, Heard, TcRow, LinkKey, Pending as Is_pending, Symmetric as Is_symmetric, Link, TwoHop, Route, RouterSettings, GivesAsSelector, IsTcRow, Of_address, Of_network, AfterHello, StoodOn, Same_link, New_link, TellsTwoHop, By_row, By_none, host, Says, Link_symmetric, Other_symmetric, link_part, Told, is_symmetric_at, IsBefore, IsAtMost, admitted, State, Neighbourhood, two_hop_at, state_of, HasLink, IsValue, true_false, none_not}
 use Rattle.std.proofs.lemmas.Option.{slice_get_within, get_or_from_slice_get}
 use Rattle.mesh_atoms.specs.declared.hello.LinkStatus.TheVariants.{Lost as Down, Symmetric}
 use Rattle.mesh_atoms.specs.declared.tuples.LinkState.TheVariants.{Lost as Is_lost, Heard as Is_heard}
@@ -11,14 +11,7 @@ use Rattle.mesh_paths.proofs.SettledDecisions.{shows_link}
 -- Expiry, HELLOs and TCs
 
 pub expired_link : RefusesExpiredLink
-expired_link settings now old new i key link until e stood late stands live =
-    let left : Link × ℕ = admitted (rule_of settings i) settings.times.link_hold now (link, until) in
-    let at : admit_on settings i now (link_at old i key) ≡ Some left = ap (admit_on settings i now) stood in
-    let sooner : left.1 ≤ until = no_later (rule_of settings i) settings.times.link_hold now (quality_at (rule_of settings i) link.addrs now) (link, until) in
-    let gone : nat_lt now left.1 ≡ false = le-ltb now left.1 (omega (arith, late, sooner)) in
-    none_not (live.links i key
-    ∙ (ap (λ (o : Option (Link × ℕ)). trim now (if_live now o)) at
-    ∙ ap (λ (b : Bool). trim now (cond b (Some left) None)) gone)) stands
+expired_link settings now old new i key link until e stood late stands live = grind (arith, common_steps, admitted, no_later, none_not)
 
 -- the tuple of an address of the sending link
 after : {settings : RouterSettings} {now i : ℕ} {told : Told} {hello : Hello} {old new : Neighbourhood} (a : Addr4) (t : TwoHop × ℕ) →
@@ -57,8 +50,7 @@ two_hop_of_ended_link settings now i told hello old new e a t at other quiet sta
     told_of (By_none no_row same) f = none_not (same ∙ f) stands
 
 pub tuple_of_old_number : RefusesTupleOfOldNumber
-tuple_of_old_number now tc old new key t until complete mine stands other after_tc =
-    other (numbered_so tc (now + tc.validity) _ _ _ key (t, until) (after_tc.addresses.at key) (λ w given. given.1) complete mine stands)
+tuple_of_old_number now tc old new key t until complete mine stands other after_tc = grind (arith, common_steps, numbered_so)
 
 pub hidden_neighbour : RefusesHiddenNeighbour
 hidden_neighbour s i now hello a o n has hidden is = elim (shows_link s i now a) [
@@ -106,13 +98,7 @@ dearer_relays g relays f c stands offered dearer covers =
     absurd (omega (arith, low, dearer e by_relays))
 
 not_after : (p q : NetAddr) → IsBefore p q → IsAtMost q p → ⊥
-not_after p q before at_most = elim before [
-  | inl x ↦ elim at_most [ inl y ↦ absurd (omega arith) | inr y ↦ absurd (let e : q.addr.0 ≡ p.addr.0 = y.0 in omega arith) ]
-  | inr x ↦ elim at_most [
-    | inl y ↦ absurd (let e : p.addr.0 ≡ q.addr.0 = x.0 in omega arith)
-    | inr y ↦ absurd (omega (arith, x.1, y.1))
-  ]
-]
+not_after p q before at_most = grind (arith, common_steps)
 
 pub greater_parent : RefusesGreaterParent
 greater_parent s now self row p stands fits before routes = not_after p row.parent before ((routes.parent row stands).least p fits)
