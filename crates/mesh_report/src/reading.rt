@@ -10,7 +10,7 @@ use crate::piece::TextBuffer;
 use crate::pieces::{put_choice, put_number_or_none, put_numbered, put_router};
 use mesh_atoms::Willing;
 use mesh_packet::Message;
-use mesh_wire::{HelloSummary, TcSummary, WireFault, hello_summary, tc_summary};
+use mesh_wire::{HelloHeader, Summary, TcHeader, WireFault, hello_summary, tc_summary};
 use std::alloc::{AllocError, Global};
 
 // Puts the times that a message tells.
@@ -61,7 +61,7 @@ trait MessageReading: Sized + Drop {
         ensures len { length line.new ≤ 320 };
 }
 
-impl MessageReading for HelloSummary {
+impl MessageReading for Summary<HelloHeader> {
     ghost use Rattle.mesh_report.specs.Readings.{hello_summary_line};
 
     ghost line_of = { hello_summary_line };
@@ -71,36 +71,41 @@ impl MessageReading for HelloSummary {
         put_times(
             line,
             *b" reading hello validity ",
-            self.validity,
-            self.interval,
+            self.header.validity,
+            self.header.interval,
         );
-        put_willing(line, self.willing);
+        put_willing(line, self.header.willing);
         put_rows(line, self.row_count);
     }
 }
 
 // Puts who sent a TC, by which numbers, and whether it tells all rows.
-fn put_content(line: &mut TextBuffer, tc: &TcSummary)
+fn put_content(line: &mut TextBuffer, tc: &TcHeader)
     requires { length line.old ≤ 10 }
     ensures text { line.new ≡ line.old ++ (addressed_by_number (codes " reading tc originator ") tc.now.originator
-        ++ numbered (codes " sequence ") tc.now.sequence ++ numbered (codes " ansn ") tc.now.ansn ++ chosen (codes " complete ") tc.now.complete) }
+        ++ numbered (codes " sequence ") tc.now.sequence ++ numbered (codes " ansn ") tc.now.content.ansn ++ chosen (codes " complete ") tc.now.content.complete) }
     ensures len { length line.new ≤ 120 }
 {
     put_router(line, *b" reading tc originator ", tc.originator);
     put_numbered(line, *b" sequence ", u64::from(tc.sequence));
-    put_numbered(line, *b" ansn ", u64::from(tc.ansn));
-    put_choice(line, *b" complete ", tc.complete);
+    put_numbered(line, *b" ansn ", u64::from(tc.content.ansn));
+    put_choice(line, *b" complete ", tc.content.complete);
 }
 
-impl MessageReading for TcSummary {
+impl MessageReading for Summary<TcHeader> {
     ghost use Rattle.mesh_report.specs.Readings.{tc_summary_line};
 
     ghost line_of = { tc_summary_line };
 
     #[tactic(auto, unfolding(crate::specs::Readings::tc_summary_line))]
     fn put_line(&self, line: &mut TextBuffer) {
-        put_content(line, self);
-        put_times(line, *b" validity ", self.validity, self.interval);
+        put_content(line, &self.header);
+        put_times(
+            line,
+            *b" validity ",
+            self.header.validity,
+            self.header.interval,
+        );
         put_rows(line, self.row_count);
     }
 }

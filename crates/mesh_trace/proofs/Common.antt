@@ -104,7 +104,7 @@ pub use Rattle.mesh_trace.specs.Reading.Lines.{IsLineOf, begun, lines_of}
 pub use Rattle.mesh_trace.specs.Reading.Readers.{IsRest, lines_from}
 pub use Rattle.mesh_trace.specs.Spelling.Looks.{IsLocal, LooksHello, LooksTc, Saying, SaysHello, SaysOnly, SaysTc, TellsOnly}
 pub use Rattle.mesh_wire.specs.Hello.{HelloIs, local_value}
-pub use Rattle.mesh_wire.specs.Kinds.{local_if}
+pub use Rattle.mesh_atoms.specs.declared.tlv_type.TheConstants.{LOCAL_IF}
 pub use Rattle.mesh_wire.specs.Parts.{IsIn, octets_of, value_at}
 pub use Rattle.mesh_wire.specs.Rows.{HasPart, HasType, HoldsAddress, OctetIs}
 pub use Rattle.mesh_wire.specs.Rules.{Keeps}

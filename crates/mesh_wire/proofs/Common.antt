@@ -25,6 +25,7 @@ pub use Rattle.mesh_atoms.specs.declared.hello.LocalIf.{LocalIf}
 pub use Rattle.mesh_atoms.specs.declared.hello.Willing.{Willing}
 pub use Rattle.mesh_atoms.specs.declared.tc.Tc.{Tc}
 pub use Rattle.mesh_atoms.specs.declared.tc.TcRow.{TcRow}
+pub use Rattle.mesh_atoms.specs.declared.tlv_type.TheConstants.{CONT_SEQ_NUM, GATEWAY, INTERVAL_TIME, LINK_METRIC, LINK_STATUS, LOCAL_IF, MPR, MPR_WILLING, NBR_ADDR_TYPE, VALIDITY_TIME}
 pub use Rattle.mesh_packet.specs.Fields.{BlockFields, MessageFields, PacketFields, fields_of_block, fields_of_message}
 pub use Rattle.mesh_packet.specs.Grammar.{Spells, SpellsHeaderTlvs, SpellsMessage, SpellsNumber, SpellsOctet, SpellsOriginator, SpellsPair}
 pub use Rattle.mesh_packet.specs.Least.{IsEncodableBlock, IsEncodableMessage, IsPaddedOriginator, LeastForm, LeastMessage, LeastPair, least_number, least_octet, least_originator}
@@ -35,25 +36,24 @@ pub use Rattle.mesh_tlv.specs.Grammar.{HasEqualParts, SpellsAddrTlvBlock, Spells
 pub use Rattle.mesh_tlv.specs.Items.{SpellsItems}
 pub use Rattle.mesh_tlv.specs.Least.{IsFit, covers_all, is_several, least_addr_tlv, least_block, least_length, least_short, least_tlv, least_value, octet_if}
 pub use Rattle.mesh_tlv.specs.declared.tlv.AddrTlv.{AddrTlv}
-pub use Rattle.mesh_wire.specs.Answers.{GivesValue, IfBroken, RefusesAt, Sums}
+pub use Rattle.mesh_wire.specs.Answers.{GivesValue, IfBroken, ReadsOrRefuses, RefusesAt, Sums}
 pub use Rattle.mesh_wire.specs.Collects.{AreCollected, PlacedNetwork}
 pub use Rattle.mesh_wire.specs.Drafts.{FitsAlone, HasHelloValues, HasTcValues, IsCodeIfSome, IsCodeOf, IsHelloMessage, IsTcMessage, heading_of, octet_of, saying, whole}
 pub use Rattle.mesh_wire.specs.Entries.{Entry, collected, entry_on, is_of, of_block, of_blocks, of_tlv, of_tlvs, put_said, standing, tellings}
 pub use Rattle.mesh_wire.specs.Examples.{bare, local, lone, lone_hello, near, near_net, odd_types, own, own_block, own_net, own_row, pair, states, two_near, unknown}
 pub use Rattle.mesh_wire.specs.Hello.{HasWilling, HelloIs, IsReadHelloRow, OriginatorIs, TellsOther, WillingIs, link_value, local_value, other_value, row_octet}
-pub use Rattle.mesh_wire.specs.HelloHeading.{HeadingIs, IsOther}
+pub use Rattle.mesh_wire.specs.HelloHeading.{HelloHeaderIs, IsOther}
 pub use Rattle.mesh_wire.specs.HelloRows.{hello_row, link_from, local_from, other_from, row_with, sender_row}
 pub use Rattle.mesh_wire.specs.HelloRules.{BreaksHello, HopCount, HopLimit, TwoValues, Undefined, WrongWilling}
 pub use Rattle.mesh_wire.specs.KeptParts.{has_other_length, has_same_code, is_flag_set, metric_at, metrics_also, no_parts, octet_in, octets_also, octets_if, shown_in, take_part}
-pub use Rattle.mesh_wire.specs.Kinds.{cont_seq_num, gateway, interval_time, link_metric, link_status, local_if, mpr, mpr_willing, nbr_addr_type, validity_time}
 pub use Rattle.mesh_wire.specs.Laws.{HasOctets, ReadsOrBreaks}
 pub use Rattle.mesh_wire.specs.Lines.{column_text, columns, columns_text, flagged, hello_line, is_wide, kind_of, laid, metric_columns, most_of, narrow, octet_pair, tc_line, value_of, width_of}
-pub use Rattle.mesh_wire.specs.Made.{BreakNone, HasBroken}
+pub use Rattle.mesh_wire.specs.Made.{BreakNone, BreaksFirst, HasBroken, HasKept}
 pub use Rattle.mesh_wire.specs.Metrics.{HasTwoMetrics, HasWrongMetric, Link_in, Link_out, MetricIs, MetricKind, Near_in, Near_out, ShowsMetric, flag_of, metric_in, metric_kinds, metric_of}
 pub use Rattle.mesh_wire.specs.OctetKinds.{IsOctetOf, IsStatusType, at, by_kind, flags_number, hello_kinds, is_value, is_within, kinds, statuses, tc_kinds, type_of}
 pub use Rattle.mesh_wire.specs.Parts.{IsIn, octets_of, part_at, share_of, value_at, values_of}
 pub use Rattle.mesh_wire.specs.Rehop.{CanHop, HasHop, IsElsewhere, after_hops, count_place, flags_of, has_count, hopped, hopped_at, limit_place, one_hop_on}
-pub use Rattle.mesh_wire.specs.RowRules.{first_passed, first_rule, has_status, has_two, has_wrong_gateway, has_wrong_metric, has_wrong_type, hello_rule, hello_tests, is_undefined, some_status, sooner, tc_rule, tc_tests}
+pub use Rattle.mesh_wire.specs.RowRules.{first_passed, first_rule, has_status, has_two, has_wrong_gateway, has_wrong_metric, has_wrong_type, hello_rule, hello_tests, is_undefined, rule_of, some_status, sooner, tc_rule, tc_tests}
 pub use Rattle.mesh_wire.specs.Rows.{AreRows, HasOtherLength, HasPart, HasTwoValues, HasType, HasValue, HoldsAddress, HoldsAddressAt, OctetIs, SaysFlag}
 pub use Rattle.mesh_wire.specs.Rules.{FirstBroken, IsLow, Keeps}
 pub use Rattle.mesh_wire.specs.Runs.{Adds, AreBlocks, IsBlock, IsColumnTlv, Lays, LaysAll, LaysFirst, first_pair, has_part, have_pair, host_octets, is_same_pair, leading, present, raw_of, run_of}
@@ -61,11 +61,11 @@ pub use Rattle.mesh_wire.specs.Singles.{also, also_some, is_conflict, is_said, v
 pub use Rattle.mesh_wire.specs.Standing.{AreAt, ArePlacedNetworks, Ascend, IsKeyPut, IsRowOf, IsStood, IsTable, Rise, TellsRows, addresses, after, fresh, rank, take_at, tell}
 pub use Rattle.mesh_wire.specs.Summaries.{hello_summary_of, tc_summary_of}
 pub use Rattle.mesh_wire.specs.Tc.{ContentIs, IsReadTcRow, TcIs, contents_of}
-pub use Rattle.mesh_wire.specs.TcHeading.{TcHeadingIs, contents_in, tc_row}
+pub use Rattle.mesh_wire.specs.TcHeading.{TcHeaderIs, contents_in, tc_row}
 pub use Rattle.mesh_wire.specs.TcRules.{AddrType, AddressWidth, Beside, BreaksTc, Content, GatewayOctet, NoOriginator, NoSequence, NoValidity, ShortPrefix, TwoAddrTypes, TwoGateways, WrongInterval, WrongMetric}
 pub use Rattle.mesh_wire.specs.Times.{HasTime, IntervalIs, ValidityIs, distance_of}
 pub use Rattle.mesh_wire.specs.Values.{values_in}
-pub use Rattle.mesh_wire.specs.Writes.{HasBriefBlocks, HasFlag, HasInterval, IsReadOfHello, IsReadOfHelloAddress, IsReadOfOther, IsReadOfTc, IsReadOfTcAddress, IsSoleMessage, ReadsBackHello, ReadsBackTc, SpellsBriefly, WritesHello, WritesLeastHello, WritesLeastTc, WritesTc, alone}
+pub use Rattle.mesh_wire.specs.Writes.{HasBriefBlocks, HasFlag, HasInterval, IsReadOfHello, IsReadOfHelloAddress, IsReadOfOther, IsReadOfTc, IsReadOfTcAddress, IsSoleMessage, ReadsBack, SpellsBriefly, WritesHello, WritesLeastHello, WritesLeastTc, WritesTc, alone}
 pub use Rattle.mesh_wire.specs.declared.collect.AddressParts.{AddressParts}
 pub use Rattle.mesh_wire.specs.declared.fault.WireFault.{WireFault}
 pub use Rattle.mesh_wire.specs.declared.hello.HelloHeader.{HelloHeader}
@@ -78,6 +78,7 @@ pub use Rattle.mesh_wire.specs.declared.octets.OctetKind.TheVariants.{Gateway, L
 pub use Rattle.mesh_wire.specs.declared.octets.Octets.{Octets}
 pub use Rattle.mesh_wire.specs.declared.parts.MetricParts.{MetricParts}
 pub use Rattle.mesh_wire.specs.declared.parts.RowParts.{RowParts}
+pub use Rattle.mesh_wire.specs.declared.rows.Summary.{Summary}
 pub use Rattle.mesh_wire.specs.declared.singles.Single.{Single}
 pub use Rattle.mesh_wire.specs.declared.singles.Single.TheVariants.{Absent, Conflict, Value}
 pub use Rattle.mesh_wire.specs.declared.tc.TcHeader.{TcHeader}
@@ -89,7 +90,7 @@ pub use Rattle.std.proofs.lemmas.Grind.{common_steps, flat_map-append}
 pub use Rattle.std.proofs.lemmas.List.{at_drop_more, drop-drop, drop_all, get_or-append-add, get_or-map, get_or-replicate, get_or_append_left, get_or_past, length-map, length_push, map-append, take-append-drop, take_all, take_more, take_rest}
 pub use Rattle.std.proofs.lemmas.List.Elements.{All-contains, All-from_recursion, Contains-append_cases, Contains-append_left, Contains-append_right, Contains-push, Contains-push_cases}
 pub use Rattle.std.proofs.lemmas.Option.{get_or_from_slice_get, slice_get-map, slice_get_within}
-pub use Rattle.std.proofs.lemmas.Result.{IfOk-weaker, on_ok_weaker}
+pub use Rattle.std.proofs.lemmas.Result.{IfOk-weaker, err_from_is_err_and, on_ok_weaker}
 pub use Rattle.std.specs.List.{AllByRecursion, flat_map, list_any}
 pub use Rattle.std.specs.Option.{is_none, is_some, option_copied, option_eq, option_map}
 pub use Rattle.std.specs.Ordering.{is_lt, ordering_reverse}

@@ -1,5 +1,5 @@
 -- What a message says before its rows is told, or it isn't there.
-use Rattle.mesh_wire.proofs.Common.{◌≡◌, ℕ, ◌<◌, ◌%◌, ◌*◌, ◌+◌, ◌⊎◌, inl, inr, refl, sym, ap, subst, ◌∙◌, arith, Bool, true, false, cond, List, [], ◌∷◌, map, filter, length, ◌==◌, ◌&&◌, Contains, Option, Some, None, cases_Bool, cases_lt, cases_eq, time_at_distance, MessageFields, TlvFields, HasWilling, IsOther, interval_time, validity_time, mpr_willing, HasOctets, octets_of, values_of, ContentIs, contents_of, HasTime, ValidityIs, IntervalIs, contains_head as at_head, contains_tail as in_tail, contains_cases, contains_none as none_in}
+use Rattle.mesh_wire.proofs.Common.{◌≡◌, ℕ, ◌<◌, ◌%◌, ◌*◌, ◌+◌, ◌⊎◌, inl, inr, refl, sym, ap, subst, ◌∙◌, arith, Bool, true, false, cond, List, [], ◌∷◌, map, filter, length, ◌==◌, ◌&&◌, Contains, Option, Some, None, cases_Bool, cases_lt, cases_eq, time_at_distance, MessageFields, TlvFields, HasWilling, IsOther, INTERVAL_TIME, VALIDITY_TIME, MPR_WILLING, HasOctets, octets_of, values_of, ContentIs, contents_of, HasTime, ValidityIs, IntervalIs, contains_head as at_head, contains_tail as in_tail, contains_cases, contains_none as none_in}
 use Rattle.mesh_wire.proofs.Single.{one_time}
 
 -- there is one, or there is none
@@ -26,15 +26,15 @@ time_or m kind distance (v ∷ []) e = elim (cases_eq (length v % 2) 1) [
 ]
 
 pub validity_or : (m : MessageFields) (distance : ℕ) → IsThere ℕ (ValidityIs m distance)
-validity_or m distance = elim (time_or m validity_time distance (values_of validity_time m) refl) [
-  | inl (t, h) ↦ elim (cases_lt 0 t) [ inl lt ↦ inl (t, (h, lt)) | inr zero ↦ inr (λ u (k, lt). omega (arith, zero, lt, one_time m validity_time distance t u h k)) ]
+validity_or m distance = elim (time_or m VALIDITY_TIME distance (values_of VALIDITY_TIME m) refl) [
+  | inl (t, h) ↦ elim (cases_lt 0 t) [ inl lt ↦ inl (t, (h, lt)) | inr zero ↦ inr (λ u (k, lt). omega (arith, zero, lt, one_time m VALIDITY_TIME distance t u h k)) ]
   | inr none ↦ inr (λ u h. none u h.0)
 ]
 
 pub interval_or : (m : MessageFields) (distance : ℕ) → IsThere (Option ℕ) (IntervalIs m distance)
-interval_or m distance = by (values_of interval_time m) refl
+interval_or m distance = by (values_of INTERVAL_TIME m) refl
   where
-    of_time : IsThere ℕ (HasTime m interval_time distance) → (values_of interval_time m ≡ [] → ⊥) → IsThere (Option ℕ) (IntervalIs m distance)
+    of_time : IsThere ℕ (HasTime m INTERVAL_TIME distance) → (values_of INTERVAL_TIME m ≡ [] → ⊥) → IsThere (Option ℕ) (IntervalIs m distance)
     of_time (inl (t, h)) some = inl (Some t, h)
     of_time (inr none) some = inr never
       where
@@ -42,20 +42,20 @@ interval_or m distance = by (values_of interval_time m) refl
         never None h = some h
         never (Some t) h = none t h
 
-    by : (values : List (List ℕ)) → values_of interval_time m ≡ values → IsThere (Option ℕ) (IntervalIs m distance)
+    by : (values : List (List ℕ)) → values_of INTERVAL_TIME m ≡ values → IsThere (Option ℕ) (IntervalIs m distance)
     by [] e = inl (None, e)
-    by (v ∷ rest) e = of_time (time_or m interval_time distance (v ∷ rest) e) (λ f. let g : v ∷ rest ≡ [] = sym e ∙ f in cc)
+    by (v ∷ rest) e = of_time (time_or m INTERVAL_TIME distance (v ∷ rest) e) (λ f. let g : v ∷ rest ≡ [] = sym e ∙ f in cc)
 
 -- ---- willingness
 
 pub willing_or : (m : MessageFields) → IsThere ℕ (HasWilling m)
-willing_or m = by (values_of mpr_willing m) refl
+willing_or m = by (values_of MPR_WILLING m) refl
   where
-    never : (v : List ℕ) (rest : List (List ℕ)) → values_of mpr_willing m ≡ v ∷ rest → ((n : ℕ) → v ∷ rest ≡ (n ∷ []) ∷ [] → ⊥) → (n : ℕ) → HasWilling m n → ⊥
+    never : (v : List ℕ) (rest : List (List ℕ)) → values_of MPR_WILLING m ≡ v ∷ rest → ((n : ℕ) → v ∷ rest ≡ (n ∷ []) ∷ [] → ⊥) → (n : ℕ) → HasWilling m n → ⊥
     never v rest e none n (inl (f, is)) = (let g : v ∷ rest ≡ [] = sym e ∙ f in cc)
     never v rest e none n (inr f) = none n (sym e ∙ f)
 
-    by : (values : List (List ℕ)) → values_of mpr_willing m ≡ values → IsThere ℕ (HasWilling m)
+    by : (values : List (List ℕ)) → values_of MPR_WILLING m ≡ values → IsThere ℕ (HasWilling m)
     by [] e = inl (119, inl (e, refl))
     by ((n ∷ []) ∷ []) e = inl (n, inr e)
     by ([] ∷ []) e = inr (never [] [] e (λ n f. cc))
@@ -87,7 +87,7 @@ tlv_saying kind (t ∷ tlvs) v h = elim (cases_Bool (t.kind == kind && t.ext == 
 pub willing_octet : (m : MessageFields) → HasOctets m → (n : ℕ) → HasWilling m n → n < 256
 willing_octet m octets n (inl (e, is)) = omega (arith, is)
 willing_octet m octets n (inr e) =
-    let (tlv, there, is) = tlv_saying mpr_willing m.tlvs (n ∷ []) (subst (λ (l : List (List ℕ)). Contains l (n ∷ [])) (sym e) (at_head (n ∷ []) [])) in
+    let (tlv, there, is) = tlv_saying MPR_WILLING m.tlvs (n ∷ []) (subst (λ (l : List (List ℕ)). Contains l (n ∷ [])) (sym e) (at_head (n ∷ []) [])) in
     octets.tlvs tlv there n (subst (λ (l : List ℕ). Contains l n) (sym is) (at_head n []))
 
 -- ---- content

@@ -1,39 +1,16 @@
 -- Each message reads as a HELLO or breaks a first rule of one.
-use Rattle.mesh_wire.proofs.Common.{◌≡◌, ℕ, ◌<◌, ◌/◌, ◌%◌, inl, inr, refl, arith, List, map, Option, Some, None, cases_eq, Addr4, Hello, address_in, RawAddr, MessageFields, HelloHeader, AddressParts, of_blocks, OriginatorIs, HelloIs, HeadingIs, hello_row, BreaksHello, HopLimit, HopCount, WrongWilling, HasOctets, ReadsOrBreaks, BreakNone, hello_rule, Keeps}
+use Rattle.mesh_wire.proofs.Common.{hello_summary_of, ◌≡◌, ℕ, ◌<◌, ◌/◌, ◌%◌, inl, inr, refl, arith, None, cases_eq, MessageFields, HelloIs, HelloHeaderIs, hello_row, BreaksHello, HopLimit, HopCount, WrongWilling, HasOctets, ReadsOrBreaks, hello_rule}
 use Rattle.mesh_wire.specs.HelloRules.{AddressWidth, NoValidity, WrongInterval}
 use Rattle.mesh_wire.proofs.Deciding.{other_or, validity_or, interval_or, willing_or, willing_octet}
 use Rattle.mesh_wire.proofs.HelloHeading.{first_number, width_kept, limit_kept, count_kept, validity_kept, interval_kept, willing_kept}
-use Rattle.mesh_wire.proofs.HelloRead.{rule_found, rows_found}
-use Rattle.mesh_wire.proofs.InOrder.{NoneBelow, Decided, Outcome, first_or_none, of_either, of_rows}
-
-originator_of : (o : Option RawAddr) → (a : Option Addr4) × OriginatorIs o a
-originator_of None = (None, tt)
-originator_of (Some address) = (Some (record { 0 = address_in address.octets }), refl)
+use Rattle.mesh_wire.proofs.HelloRead.{hello_laws}
+use Rattle.mesh_wire.proofs.Reading.{outcome_of}
+use Rattle.mesh_wire.proofs.InOrder.{NoneBelow, Decided, Outcome, first_or_none, of_either}
 
 -- ---- the rules in order
 
 module _ (m : MessageFields) (octets : HasOctets m) where
-  of_heading : (heading : HelloHeader) → HeadingIs m heading → Outcome (HelloIs m) (BreaksHello m)
-  of_heading heading h = of_rows m hello_rule (HelloIs m) (BreaksHello m) (rule_found m heading h) value
-    where
-      value : (told : List AddressParts) → BreakNone hello_rule (of_blocks m.blocks) told → (hello : Hello) × HelloIs m hello × Keeps (BreaksHello m)
-      value told has =
-          let (keeps, true_rows) = rows_found m heading h told has in
-          let o = originator_of m.originator in
-          let octet = willing_octet m octets heading.willing h.willing in (
-            record {
-              originator = o.0;
-              validity = heading.validity;
-              interval = heading.interval;
-              willing = record { flooding = heading.willing / 16; routing = heading.willing % 16; flooding_within = omega (arith, octet); routing_within = omega arith };
-              rows = map hello_row told;
-              ascending = true_rows.ascending;
-            },
-            record { originator = o.1; validity = h.validity; interval = h.interval; willing = (heading.willing, h.willing, refl, refl); rows = true_rows },
-            keeps,
-          )
-
-  -- each rule on the heading is broken or kept
+  -- each rule on the header is broken or kept
   decided : Decided (BreaksHello m) 20 6
   decided = (
     elim (cases_eq m.width 4) [ inl w ↦ inr (width_kept m w) | inr other ↦ inl (AddressWidth other) ],
@@ -52,20 +29,25 @@ module _ (m : MessageFields) (octets : HasOctets m) where
     ),
   )
 
-  -- where each is kept, there is a heading
+  -- where each is kept, there is a header
   of_kept : NoneBelow (BreaksHello m) 26 → Outcome (HelloIs m) (BreaksHello m)
   of_kept kept =
       let width : m.width ≡ 4 = elim (cases_eq m.width 4) [ inl w ↦ w | inr other ↦ absurd (never 20 (AddressWidth other) (omega arith)) ] in
       let v = of_either (never 23) (omega arith) (validity_or m 1) NoValidity in
       let i = of_either (never 24) (omega arith) (interval_or m 1) WrongInterval in
       let w = of_either (never 25) (omega arith) (willing_or m) WrongWilling in
-      of_heading (record { validity = v.0; interval = i.0; willing = w.0 }) (record {
+      let octet = willing_octet m octets w.0 w.1 in
+      outcome_of m hello_rule (BreaksHello m) (HelloHeaderIs m) (HelloIs m) hello_row _ hello_summary_of (hello_laws m) (record {
+        validity = v.0;
+        interval = i.0;
+        willing = record { flooding = w.0 / 16; routing = w.0 % 16; flooding_within = omega (arith, octet); routing_within = omega arith };
+      }) (record {
         width = width;
         limit = λ (limit, is, other). never 21 (HopLimit limit is other) (omega arith);
         count = λ (count, is, other). never 22 (HopCount count is other) (omega arith);
         validity = v.1;
         interval = i.1;
-        willing = w.1;
+        willing = (w.0, w.1, refl, refl);
       })
     where
       never : (k : ℕ) → BreaksHello m k None → k < 26 → ⊥

@@ -1,9 +1,10 @@
 -- Each message reads as a TC or breaks a first rule of one.
-use Rattle.mesh_wire.proofs.Common.{common_steps, ◌≡◌, ℕ, ◌<◌, ◌⊎◌, inl, inr, refl, arith, List, map, Option, Some, None, cases_eq, Addr4, Tc, address_in, none_not, RawAddr, MessageFields, TcHeader, AddressParts, of_blocks, OriginatorIs, HasOctets, ReadsOrBreaks, BreakNone, tc_rule, Keeps, TcIs, TcHeadingIs, tc_row, BreaksTc, AddressWidth, NoOriginator, NoSequence, NoValidity, WrongInterval, Content, distance_of}
+use Rattle.mesh_wire.proofs.Common.{tc_summary_of, common_steps, ◌≡◌, ℕ, ◌<◌, ◌⊎◌, inl, inr, refl, arith, Option, Some, None, cases_eq, Addr4, address_in, none_not, RawAddr, MessageFields, OriginatorIs, HasOctets, ReadsOrBreaks, tc_rule, TcIs, TcHeaderIs, tc_row, BreaksTc, AddressWidth, NoOriginator, NoSequence, NoValidity, WrongInterval, Content, distance_of}
 use Rattle.mesh_wire.proofs.Deciding.{validity_or, interval_or, content_or}
-use Rattle.mesh_wire.proofs.InOrder.{NoneBelow, Decided, Outcome, first_or_none, of_either, of_rows}
+use Rattle.mesh_wire.proofs.InOrder.{NoneBelow, Decided, Outcome, first_or_none, of_either}
 use Rattle.mesh_wire.proofs.TcHeading.{first_number, width_kept, header_kept, validity_kept, interval_kept, content_kept, an_originator}
-use Rattle.mesh_wire.proofs.TcRead.{rule_found, rows_found}
+use Rattle.mesh_wire.proofs.TcRead.{tc_laws}
+use Rattle.mesh_wire.proofs.Reading.{outcome_of}
 
 self_of : RawAddr → Addr4
 self_of address = record { 0 = address_in address.octets }
@@ -17,26 +18,7 @@ there_or None = inr refl
 there_or (Some a) = inl (a, refl)
 
 module _ (m : MessageFields) (octets : HasOctets m) where
-  of_heading : (heading : TcHeader) → TcHeadingIs m heading → Outcome (TcIs m) (BreaksTc m)
-  of_heading heading h = of_rows m tc_rule (TcIs m) (BreaksTc m) (rule_found m heading h) value
-    where
-      value : (told : List AddressParts) → BreakNone tc_rule (of_blocks m.blocks) told → (tc : Tc) × TcIs m tc × Keeps (BreaksTc m)
-      value told has = let (keeps, true_rows) = rows_found m heading h told has in (
-        record {
-          originator = heading.originator;
-          sequence = heading.sequence;
-          ansn = heading.ansn;
-          complete = heading.complete;
-          validity = heading.validity;
-          interval = heading.interval;
-          rows = map tc_row told;
-          ascending = true_rows.ascending;
-        },
-        record { originator = h.originator; sequence = h.sequence; content = h.content; validity = h.validity; interval = h.interval; rows = true_rows },
-        keeps,
-      )
-
-  -- each rule on the heading is broken or kept
+  -- each rule on the header is broken or kept
   decided : Decided (BreaksTc m) 32 5
   decided = (
     elim (cases_eq m.width 4) [ inl w ↦ inr (width_kept m w) | inr other ↦ inl (AddressWidth other) ],
@@ -55,7 +37,7 @@ module _ (m : MessageFields) (octets : HasOctets m) where
     ),
   )
 
-  -- where each is kept, there is a heading
+  -- where each is kept, there is a header
   of_kept : NoneBelow (BreaksTc m) 37 → Outcome (TcIs m) (BreaksTc m)
   of_kept kept =
       let width : m.width ≡ 4 = elim (cases_eq m.width 4) [ inl w ↦ w | inr other ↦ absurd (never 32 (AddressWidth other) (omega arith)) ] in
@@ -64,7 +46,7 @@ module _ (m : MessageFields) (octets : HasOctets m) where
       let v = of_either (never 34) (omega arith) (validity_or m (distance_of m.count)) NoValidity in
       let i = of_either (never 35) (omega arith) (interval_or m (distance_of m.count)) WrongInterval in
       let c = of_either (never 36) (omega arith) (content_or m) (λ none. Content (λ ansn complete. none (ansn, complete))) in
-      of_heading (record { originator = self_of o.0; sequence = s.0; ansn = c.0.0; complete = c.0.1; validity = v.0; interval = i.0 })
+      outcome_of m tc_rule (BreaksTc m) (TcHeaderIs m) (TcIs m) tc_row _ tc_summary_of (tc_laws m) (record { originator = self_of o.0; sequence = s.0; content = record { ansn = c.0.0; complete = c.0.1 }; validity = v.0; interval = i.0 })
       (record { width = width; originator = self_is o.0 m.originator o.1; sequence = s.1; validity = v.1; interval = i.1; content = c.1 })
     where
       never : (k : ℕ) → BreaksTc m k None → k < 37 → ⊥

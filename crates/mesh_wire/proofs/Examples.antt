@@ -1,5 +1,5 @@
 -- Small messages and what they read as.
-use Rattle.mesh_wire.proofs.Common.{common_steps, ◌≡◌, ℕ, ◌≤◌, inl, inr, List, [], ◌∷◌, refl, sym, ap, subst, ◌∙◌, arith, lit≤, lit<, Contains, Option, Some, None, slice_get, NetAddr, HelloRow, HelloIs, IsReadHelloRow, local_if, link_status, link_metric, TlvFields, AddrTlvFields, BlockFields, MessageFields, part_at, octets_of, HoldsAddressAt, HoldsAddress, HasPart, HasValue, BreaksHello, HopLimit, HopCount, WrongWilling, Undefined, TwoValues, FirstBroken, Keeps, own, own_net, local, own_block, lone, own_row, lone_hello, bare, near, near_net, states, two_near, OctetKind, Local, type_of, is_value, IsOctetOf, same_net, contains_one as only}
+use Rattle.mesh_wire.proofs.Common.{common_steps, ◌≡◌, ℕ, ◌≤◌, inl, inr, List, [], ◌∷◌, refl, sym, ap, subst, ◌∙◌, arith, lit≤, lit<, Contains, Option, Some, None, slice_get, NetAddr, HelloRow, HelloIs, IsReadHelloRow, LOCAL_IF, LINK_STATUS, LINK_METRIC, TlvFields, AddrTlvFields, BlockFields, MessageFields, part_at, octets_of, HoldsAddressAt, HoldsAddress, HasPart, HasValue, BreaksHello, HopLimit, HopCount, WrongWilling, Undefined, TwoValues, FirstBroken, Keeps, own, own_net, local, own_block, lone, own_row, lone_hello, bare, near, near_net, states, two_near, OctetKind, Local, type_of, is_value, IsOctetOf, same_net, contains_one as only}
 use Rattle.mesh_wire.specs.HelloRules.{AddressWidth, NoValidity, WrongInterval, ShortPrefix, WrongMetric}
 use Rattle.mesh_wire.proofs.OctetKinds.{same_type}
 
@@ -20,8 +20,8 @@ says m block place net tlv kind octets at there first last is =
 own_at : HoldsAddressAt lone own_block 0 own_net
 own_at = record { address = own; in_message = (0, lit< tt, refl); in_block = refl; is_in = record { prefix = refl; number = refl } }
 
-own_local : HasValue lone own_net local_if (0 ∷ [])
-own_local = says lone own_block 0 own_net local local_if (0 ∷ []) own_at (0, lit< tt, refl) (lit≤ tt) (lit≤ tt) refl
+own_local : HasValue lone own_net LOCAL_IF (0 ∷ [])
+own_local = says lone own_block 0 own_net local LOCAL_IF (0 ∷ []) own_at (0, lit< tt, refl) (lit≤ tt) (lit≤ tt) refl
 
 own_row_is : IsReadHelloRow lone own_row
 own_row_is = grind (arith, common_steps, own_local)
@@ -52,8 +52,8 @@ says_only net kind octets (value, h, is) =
     let part = part_only net (record { kind = kind; ext = 0; value = value }) h in
     (ap (λ (p : TlvFields). p.kind) part, is ∙ ap (λ (p : TlvFields). octets_of p.value) part, only_own net (h.block, h.place, h.address))
 
-no_metric : (net : NetAddr) (octets : List ℕ) → HasValue lone net link_metric octets → ⊥
-no_metric net octets said = (let e : ◌≡◌ {A = ℕ} 7 2 = (says_only net link_metric octets said).0 in omega arith)
+no_metric : (net : NetAddr) (octets : List ℕ) → HasValue lone net LINK_METRIC octets → ⊥
+no_metric net octets said = (let e : ◌≡◌ {A = ℕ} 7 2 = (says_only net LINK_METRIC octets said).0 in omega arith)
 
 defined : (kind : OctetKind) → type_of kind ≡ 2 → IsOctetOf kind (0 ∷ [])
 defined kind e = (0, refl, ap (λ (k : OctetKind). is_value k 0) (same_type kind Local e))
@@ -90,5 +90,5 @@ bare_broken = record {
 near_at : HoldsAddressAt two_near (record { width = 4; addrs = own ∷ (own ∷ (near ∷ [])); tlvs = states ∷ [] }) 2 near_net
 near_at = record { address = near; in_message = (0, lit< tt, refl); in_block = refl; is_in = record { prefix = refl; number = refl } }
 
-pub heard_of_last : HasValue two_near near_net link_status (2 ∷ [])
-heard_of_last = says two_near _ 2 near_net states link_status (2 ∷ []) near_at (0, lit< tt, refl) (lit≤ tt) (lit≤ tt) refl
+pub heard_of_last : HasValue two_near near_net LINK_STATUS (2 ∷ [])
+heard_of_last = says two_near _ 2 near_net states LINK_STATUS (2 ∷ []) near_at (0, lit< tt, refl) (lit≤ tt) (lit≤ tt) refl

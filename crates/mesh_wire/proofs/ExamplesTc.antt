@@ -1,13 +1,13 @@
 -- A TC whose addresses are of no known type: the first rule that is broken, and the least address.
-use Rattle.mesh_wire.proofs.Common.{common_steps, ◌≡◌, ℕ, ◌≤◌, ◌⊎◌, List, [], ◌∷◌, false, refl, sym, ap, ◌∙◌, arith, lit≤, lit<, Option, Some, None, slice_get, false≢true, NetAddr, IsAtMost, nbr_addr_type, RawAddr, IsIn, HoldsAddressAt, HoldsAddress, HasValue, FirstBroken, IsLow, is_value, IsOctetOf, BreaksTc, AddressWidth, NoOriginator, NoSequence, NoValidity, WrongInterval, Content, AddrType, TwoAddrTypes, ShortPrefix, own, own_net, near, unknown, pair, odd_types}
+use Rattle.mesh_wire.proofs.Common.{common_steps, ◌≡◌, ℕ, ◌≤◌, ◌⊎◌, List, [], ◌∷◌, false, refl, sym, ap, ◌∙◌, arith, lit≤, lit<, Option, Some, None, slice_get, false≢true, NetAddr, IsAtMost, NBR_ADDR_TYPE, RawAddr, IsIn, HoldsAddressAt, HoldsAddress, HasValue, FirstBroken, IsLow, is_value, IsOctetOf, BreaksTc, AddressWidth, NoOriginator, NoSequence, NoValidity, WrongInterval, Content, AddrType, TwoAddrTypes, ShortPrefix, own, own_net, near, unknown, pair, odd_types}
 use Rattle.mesh_wire.specs.declared.octets.OctetKind.TheVariants as kinds
 use Rattle.mesh_wire.proofs.Examples.{says}
 
 own_at : HoldsAddressAt odd_types pair 1 own_net
 own_at = record { address = own; in_message = (0, lit< tt, refl); in_block = refl; is_in = record { prefix = refl; number = refl } }
 
-own_unknown : HasValue odd_types own_net nbr_addr_type (4 ∷ [])
-own_unknown = says odd_types pair 1 own_net unknown nbr_addr_type (4 ∷ []) own_at (0, lit< tt, refl) (lit≤ tt) (lit≤ tt) refl
+own_unknown : HasValue odd_types own_net NBR_ADDR_TYPE (4 ∷ [])
+own_unknown = says odd_types pair 1 own_net unknown NBR_ADDR_TYPE (4 ∷ []) own_at (0, lit< tt, refl) (lit≤ tt) (lit≤ tt) refl
 
 not_four : (octets : List ℕ) → octets ≡ 4 ∷ [] → IsOctetOf kinds.AddrType octets → ⊥
 not_four octets e (octet, is, valid) = (let same : octet ≡ 4 = cc in false≢true (ap (is_value kinds.AddrType) (sym same) ∙ valid))
@@ -39,9 +39,9 @@ first_is n a (Content none) = absurd (none 7 false (record { kind = 8; ext = 1; 
 first_is n a other = lit≤ tt
 
 low : (n : ℕ) (a : Option NetAddr) → BreaksTc odd_types n a → 37 ≤ n → n ≤ 37 → IsLow (Some own_net) a
-low n a (AddrType net (octets, said, wrong)) up down = said_of net nbr_addr_type octets said
-low n a (TwoAddrTypes net (x, y, said, said_y, other)) up down = said_of net nbr_addr_type x said
-low n a (ShortPrefix net (octets, said) short) up down = said_of net nbr_addr_type octets said
+low n a (AddrType net (octets, said, wrong)) up down = said_of net NBR_ADDR_TYPE octets said
+low n a (TwoAddrTypes net (x, y, said, said_y, other)) up down = said_of net NBR_ADDR_TYPE x said
+low n a (ShortPrefix net (octets, said) short) up down = said_of net NBR_ADDR_TYPE octets said
 low n a other up down = absurd (omega arith)
 
 pub types_broken : FirstBroken (BreaksTc odd_types) 37 (Some own_net)

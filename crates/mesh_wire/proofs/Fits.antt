@@ -2,7 +2,6 @@
 use Rattle.mesh_wire.proofs.Common.{common_steps, ◌≡◌, ℕ, ◌+◌, ◌*◌, ◌<◌, ◌≤◌, List, [], ◌∷◌, ◌++◌, length, take, map, refl, sym, ap, subst, ◌∙◌, arith, lit≤, lit<, length-append, Contains, All, Option, Bool, cond, option_map, flat_map, AllByRecursion, length-map, All-from_recursion, Contains-append_left, Contains-append_right, Addr4, RawAddr, prefixes, SpellsMids, SpellsBlock, AreAtMost, AreRaw, BlockFields, MessageFields, IsPaddedOriginator, IsEncodableBlock, IsEncodableMessage, least_octet, least_number, least_originator, LeastPair, SpellsItems, IsFit, least_short, least_addr_tlv, least_tlv, least_block, Octet, LinkIn, LinkOut, NearIn, NearOut, AddressRecord, OctetKind, whole, saying, heading_of, FitsAlone, columns, metric_columns, raw_of, has_part, IsBlock, AreBlocks, contains_head as at_head, contains_tail as in_tail, contains_map_cases}
 use Rattle.mesh_addr.specs.Least.{IsLeast}
 use Rattle.mesh_packet.specs.Least as packets
-use Rattle.mesh_tlv.specs.Least as tlvs
 use Rattle.mesh_wire.proofs.Laid.{runs_of_all, all_short, octets_in}
 use Rattle.mesh_wire.proofs.RunLaws.{head_long, length_short}
 

@@ -1,5 +1,5 @@
 -- The validity that a value of times tells, at each distance.
-use Rattle.mesh_wire.proofs.Common.{common_steps, ◌≡◌, ℕ, ◌%◌, ◌<◌, List, [], ◌∷◌, length, refl, arith, Bool, cond, time_value, IsSentCode, time_at_distance, IsTimeValue, Everywhere, Up_to, time-less, MessageFields, validity_time, values_of, ValidityIs}
+use Rattle.mesh_wire.proofs.Common.{common_steps, ◌≡◌, ℕ, ◌%◌, ◌<◌, List, [], ◌∷◌, length, refl, arith, Bool, cond, time_value, IsSentCode, time_at_distance, IsTimeValue, Everywhere, Up_to, time-less, MessageFields, VALIDITY_TIME, values_of, ValidityIs}
 
 pub code_above : (code : ℕ) → IsSentCode code → 0 < time_value code
 code_above code sent = let less : time_value 0 < time_value code = time-less 0 code (omega (arith, sent.0)) in omega (arith, less)
@@ -16,5 +16,5 @@ above distance value (Everywhere {code} sent) = code_above code sent
 above distance value (Up_to {code} {value = rest} hops sent times) = grind (arith, common_steps, either, code_above, (above distance rest times))
 
 -- whatever the distance, the time that the value has there is a validity
-pub further : (m : MessageFields) (value : List ℕ) → IsTimeValue value → values_of validity_time m ≡ value ∷ [] → (distance : ℕ) → ValidityIs m distance (time_at_distance distance value)
+pub further : (m : MessageFields) (value : List ℕ) → IsTimeValue value → values_of VALIDITY_TIME m ≡ value ∷ [] → (distance : ℕ) → ValidityIs m distance (time_at_distance distance value)
 further m value times told distance = ((value, told, odd value times, refl), above distance value times)

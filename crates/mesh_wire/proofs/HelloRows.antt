@@ -1,5 +1,5 @@
 -- Rows that are made of what is kept are the rows of the HELLO.
-use Rattle.mesh_wire.proofs.Common.{arith, common_steps, ◌≡◌, ℕ, inl, inr, refl, sym, subst, Bool, false, List, [], ◌∷◌, map, Contains, ◌↔◌, Option, Some, None, IsTrue, option_map, NetAddr, Metric, LocalIf, HelloRow, MessageFields, AddressParts, Single, Absent, Value, Conflict, OctetKind, Local, Mpr, ByKind, Octets, MetricParts, local_value, IsReadHelloRow, local_from, row_with, hello_row, octet_in, metric_at, local_if, mpr, link_metric, MetricKind, metric_of, ShowsMetric, MetricIs, statuses, type_of, at, HasValue, OctetIs, SaysFlag, AreRows, is_conflict, value_from}
+use Rattle.mesh_wire.proofs.Common.{arith, common_steps, ◌≡◌, ℕ, inl, inr, refl, sym, subst, Bool, false, List, [], ◌∷◌, map, Contains, ◌↔◌, Option, Some, None, IsTrue, option_map, NetAddr, Metric, LocalIf, HelloRow, MessageFields, AddressParts, Single, Absent, Value, Conflict, OctetKind, Local, Mpr, ByKind, Octets, MetricParts, local_value, IsReadHelloRow, local_from, row_with, hello_row, octet_in, metric_at, LOCAL_IF, MPR, LINK_METRIC, MetricKind, metric_of, ShowsMetric, MetricIs, statuses, type_of, at, HasValue, OctetIs, SaysFlag, AreRows, is_conflict, value_from}
 use Rattle.mesh_wire.proofs.HelloRuled.{Sound}
 use Rattle.mesh_wire.proofs.Kept.{AreTold, octet_back, read_or, kept_value, metrics_told}
 use Rattle.mesh_wire.proofs.Made.{rows_made}
@@ -22,7 +22,7 @@ octet_is m net kind o h wrong one = octet_of m net kind o.one h.one (λ x s. eli
 kept_metric : (m : MessageFields) (net : NetAddr) (kind : MetricKind) (one : Single Metric) → OneIs (ShowsMetric m net kind) one → is_conflict one ≡ false → MetricIs m net kind (value_from one)
 kept_metric m net kind one h e = grind (arith, common_steps)
 
-pub metric_is : (m : MessageFields) (net : NetAddr) (parts : MetricParts) → MetricsAre (HasValue m net link_metric) parts → (kind : MetricKind) → is_conflict (metric_at kind parts) ≡ false → MetricIs m net kind (value_from (metric_at kind parts))
+pub metric_is : (m : MessageFields) (net : NetAddr) (parts : MetricParts) → MetricsAre (HasValue m net LINK_METRIC) parts → (kind : MetricKind) → is_conflict (metric_at kind parts) ≡ false → MetricIs m net kind (value_from (metric_at kind parts))
 metric_is m net parts h kind e = kept_metric m net kind (metric_at kind parts) (metrics_told m net parts h kind) e
 
 -- ---- flags
@@ -49,21 +49,21 @@ module _ (m : MessageFields) (t : AddressParts) (kept : RowIs (HasValue m t.net)
   kept_status : (kind : OctetKind) → IsKept t kind
   kept_status kind = kept_value kind (HasValue m t.net (type_of kind)) (at kind octets) (kept.octets kind)
 
-  row_by : (local : Option LocalIf) → option_map local_from (value_from octets.local.one) ≡ local → OctetIs m t.net local_if (option_map local_value local) → IsReadHelloRow m (row_with t local)
+  row_by : (local : Option LocalIf) → option_map local_from (value_from octets.local.one) ≡ local → OctetIs m t.net LOCAL_IF (option_map local_value local) → IsReadHelloRow m (row_with t local)
   row_by (Some x) e said = record { local = said; of_other = λ none. cc; of_sender = λ some. sender_alone t.net (Some x) }
   row_by None e said = record {
     local = said;
     of_other = λ none. record {
       status = λ kind among. subst (OctetIs m t.net (type_of kind)) (sym (made t e kind among (kept_status kind))) (status kind among);
       metric = λ kind. subst (MetricIs m t.net kind) (metric_made t kind) (metric_is m t.net t.parts.metrics kept.metrics kind (sound.metric kind));
-      flooding = flag_is m t.net mpr 1 octets.mpr.first (kept.octets Mpr).first;
-      routing = flag_is m t.net mpr 2 octets.mpr.second (kept.octets Mpr).second;
+      flooding = flag_is m t.net MPR 1 octets.mpr.first (kept.octets Mpr).first;
+      routing = flag_is m t.net MPR 2 octets.mpr.second (kept.octets Mpr).second;
     };
     of_sender = λ some. absurd (cc);
   }
 
   pub row_is : IsReadHelloRow m (hello_row t)
-  row_is = row_by (option_map local_from (value_from octets.local.one)) refl (subst (OctetIs m t.net local_if) (sym (local_made t (kept_status Local))) (status Local local_among))
+  row_is = row_by (option_map local_from (value_from octets.local.one)) refl (subst (OctetIs m t.net LOCAL_IF) (sym (local_made t (kept_status Local))) (status Local local_among))
 
 -- ---- all rows
 

@@ -1,5 +1,5 @@
 -- What is written of a HELLO reads as it, breaks no rule, and has nothing that is ignored.
-use Rattle.mesh_wire.proofs.Common.{common_steps, ◌≡◌, ℕ, ◌≤◌, ◌⊎◌, inl, inr, List, [], ◌∷◌, length, take, map, refl, sym, ap, subst, ◌∙◌, arith, length-take, slice_range, drop, Contains, AllPairs, Option, Some, None, IsSome, Bool, option_map, is_some, length-map, Contains-append_cases, Addr4, NetAddr, LocalIf, HelloRow, Hello, Metric, IsBefore, RawAddr, HaveSenderAlone, HaveStatusWhole, IsAlone, MessageFields, PacketFields, Span, Spells, IsEncodableMessage, LeastForm, TlvFields, AddressTlvKind, Octet, LinkIn, LinkOut, NearIn, NearOut, OctetKind, Local, Mpr, octet_of, whole, HasHelloValues, heading_of, IsHelloMessage, FitsAlone, local_value, row_octet, OriginatorIs, TellsOther, IsReadHelloRow, HelloIs, sender_row, BreaksHello, HopLimit, HopCount, WrongWilling, Undefined, TwoValues, validity_time, local_if, link_metric, mpr, mpr_willing, kind_of, value_of, hello_line, MetricKind, Link_in, Link_out, Near_in, Near_out, metric_of, statuses, hello_kinds, type_of, at, flags_number, IsOctetOf, octets_of, values_of, HasType, HasPart, HasValue, OctetIs, Keeps, IsSoleMessage, HasFlag, IsReadOfOther, IsReadOfHelloAddress, WritesHello, WritesLeastHello, alone, ReadsBackHello, contains_one, none_not, some_equal}
+use Rattle.mesh_wire.proofs.Common.{common_steps, ◌≡◌, ℕ, ◌≤◌, ◌⊎◌, inl, inr, List, [], ◌∷◌, length, take, map, refl, sym, ap, subst, ◌∙◌, arith, length-take, slice_range, drop, Contains, AllPairs, Option, Some, None, IsSome, Bool, option_map, is_some, length-map, Contains-append_cases, Addr4, NetAddr, LocalIf, HelloRow, Hello, Metric, IsBefore, RawAddr, HaveSenderAlone, HaveStatusWhole, IsAlone, MessageFields, PacketFields, Span, Spells, IsEncodableMessage, LeastForm, TlvFields, AddressTlvKind, Octet, LinkIn, LinkOut, NearIn, NearOut, OctetKind, Local, Mpr, octet_of, whole, HasHelloValues, heading_of, IsHelloMessage, FitsAlone, local_value, row_octet, OriginatorIs, TellsOther, IsReadHelloRow, HelloIs, sender_row, BreaksHello, HopLimit, HopCount, WrongWilling, Undefined, TwoValues, VALIDITY_TIME, LOCAL_IF, LINK_METRIC, MPR, MPR_WILLING, kind_of, value_of, hello_line, MetricKind, Link_in, Link_out, Near_in, Near_out, metric_of, statuses, hello_kinds, type_of, at, flags_number, IsOctetOf, octets_of, values_of, HasType, HasPart, HasValue, OctetIs, Keeps, IsSoleMessage, HasFlag, IsReadOfOther, IsReadOfHelloAddress, WritesHello, WritesLeastHello, alone, ReadsBack, contains_one, none_not, some_equal}
 use Rattle.mesh_wire.specs.HelloRules.{AddressWidth, NoValidity, WrongInterval, ShortPrefix, WrongMetric}
 use Rattle.mesh_wire.proofs.Fits.{message_fits, HasFewParts, narrow_most, metric_most, lines_few, fits_alone}
 use Rattle.mesh_wire.proofs.Headings.{validity_told, one_validity, interval_is, interval_told, willing_is, read_of_hello}
@@ -7,7 +7,7 @@ use Rattle.mesh_wire.proofs.Laid.{whole_number}
 use Rattle.mesh_wire.proofs.LinesSay.{octet_value, metric_octets, has_flag, metric_value, column_of}
 use Rattle.mesh_wire.proofs.OctetKinds.{at_by_kind}
 use Rattle.mesh_wire.proofs.OneHello.{one_hello}
-use Rattle.mesh_wire.proofs.RowLines.{alone_again}
+use Rattle.mesh_wire.proofs.RowLines.{reads_back}
 use Rattle.mesh_wire.proofs.Statuses.{apart, row_kind, defined, alone_row}
 use Rattle.mesh_wire.proofs.RowsSay.{rows_said, part_there, said_of, row_of, not_two, right_metric, octet_said, flags_said, metric_said}
 
@@ -32,7 +32,7 @@ flags_octet a b octets e = grind (arith, common_steps)
 pub metric_flagged : (k : MetricKind) (o : Option Metric) (octets : List ℕ) → option_map (metric_octets k) o ≡ Some octets → HasFlag k octets
 metric_flagged k o octets e = grind (arith, common_steps, has_flag)
 
-metric_read : (row : HelloRow) (k : MetricKind) (kind : ℕ) (octets : List ℕ) → kind ≡ link_metric → value_of (column_of k) (hello_line row) ≡ Some octets → IsReadOfOther kind octets
+metric_read : (row : HelloRow) (k : MetricKind) (kind : ℕ) (octets : List ℕ) → kind ≡ LINK_METRIC → value_of (column_of k) (hello_line row) ≡ Some octets → IsReadOfOther kind octets
 metric_read row k kind octets e v = inr (inr (e, (k, metric_flagged k (metric_of k row.metrics) octets (sym (metric_value k (hello_line row)) ∙ v))))
 
 -- a value of a line is of a type of a HELLO
@@ -54,15 +54,15 @@ other_read row kind octets NearIn e v = metric_read row Near_in kind octets e v
 other_read row kind octets NearOut e v = metric_read row Near_out kind octets e v
 
 -- a type that is read is one of an octet, or that of metrics
-pub read_kind : (kind : ℕ) (octets : List ℕ) → IsReadOfOther kind octets → ((k : OctetKind) × (kind ≡ type_of k) × (kind ≡ mpr → IsOctetOf Mpr octets)) ⊎ ((kind ≡ link_metric) × ((metric : MetricKind) × HasFlag metric octets))
+pub read_kind : (kind : ℕ) (octets : List ℕ) → IsReadOfOther kind octets → ((k : OctetKind) × (kind ≡ type_of k) × (kind ≡ MPR → IsOctetOf Mpr octets)) ⊎ ((kind ≡ LINK_METRIC) × ((metric : MetricKind) × HasFlag metric octets))
 read_kind kind octets (inl (k, among, e)) = inl (k, e, λ f. absurd ((apart kind (k, among, e)).0 f))
 read_kind kind octets (inr (inl (e, is))) = inl (Mpr, e, λ f. is)
 read_kind kind octets (inr (inr h)) = inr h
 
-sender_read : (addr : NetAddr) (local : Option LocalIf) (kind : ℕ) (octets : List ℕ) (c : AddressTlvKind) → kind ≡ kind_of c → value_of c (hello_line (sender_row addr local)) ≡ Some octets → kind ≡ local_if
+sender_read : (addr : NetAddr) (local : Option LocalIf) (kind : ℕ) (octets : List ℕ) (c : AddressTlvKind) → kind ≡ kind_of c → value_of c (hello_line (sender_row addr local)) ≡ Some octets → kind ≡ LOCAL_IF
 sender_read addr local kind octets c e v = grind (arith, common_steps)
 
-only_local : (row : HelloRow) (kind : ℕ) (octets : List ℕ) (c : AddressTlvKind) → kind ≡ kind_of c → value_of c (hello_line row) ≡ Some octets → IsAlone row → kind ≡ local_if
+only_local : (row : HelloRow) (kind : ℕ) (octets : List ℕ) (c : AddressTlvKind) → kind ≡ kind_of c → value_of c (hello_line row) ≡ Some octets → IsAlone row → kind ≡ LOCAL_IF
 only_local row kind octets c e v t = sender_read row.addr row.local kind octets c e (subst (λ (r : HelloRow). value_of c (hello_line r) ≡ Some octets) (alone_row row t) v)
 
 -- ---- the rows
@@ -91,17 +91,17 @@ module _ (hello : Hello) (values : List ℕ) (m : MessageFields) (h : IsHelloMes
   two : slice_range values 1 3 ≡ has.1 ∷ (octet_of hello.willing ∷ [])
   two = let (v, i, is_v, is_i, is) = has in ap (λ (l : List ℕ). slice_range l 1 3) is
 
-  heading : m.tlvs ≡ heading_of (has.0 ∷ []) (has.1 ∷ (octet_of hello.willing ∷ [])) (is_some hello.interval) mpr_willing 0
-  heading = h.tlvs ∙ ap (λ (l : List ℕ). heading_of l (slice_range values 1 3) (is_some hello.interval) mpr_willing 0) first ∙ ap (λ (l : List ℕ). heading_of (has.0 ∷ []) l (is_some hello.interval) mpr_willing 0) two
+  heading : m.tlvs ≡ heading_of (has.0 ∷ []) (has.1 ∷ (octet_of hello.willing ∷ [])) (is_some hello.interval) MPR_WILLING 0
+  heading = h.tlvs ∙ ap (λ (l : List ℕ). heading_of l (slice_range values 1 3) (is_some hello.interval) MPR_WILLING 0) first ∙ ap (λ (l : List ℕ). heading_of (has.0 ∷ []) l (is_some hello.interval) MPR_WILLING 0) two
 
-  validity_there : values_of validity_time m ≡ (has.0 ∷ []) ∷ []
-  validity_there = validity_told (has.0 ∷ []) has.1 (octet_of hello.willing ∷ []) 0 m mpr_willing (inl refl) (is_some hello.interval) heading
+  validity_there : values_of VALIDITY_TIME m ≡ (has.0 ∷ []) ∷ []
+  validity_there = validity_told (has.0 ∷ []) has.1 (octet_of hello.willing ∷ []) 0 m MPR_WILLING (inl refl) (is_some hello.interval) heading
 
   hello_is : HelloIs m hello
   hello_is = record {
     originator = originator_is m.originator hello.originator h.originator;
     validity = one_validity has.0 m 1 hello.validity validity_there has.2;
-    interval = interval_is (has.0 ∷ []) has.1 (octet_of hello.willing ∷ []) 0 m mpr_willing (inl refl) 1 hello.interval heading has.3;
+    interval = interval_is (has.0 ∷ []) has.1 (octet_of hello.willing ∷ []) 0 m MPR_WILLING (inl refl) 1 hello.interval heading has.3;
     willing = willing_is (has.0 ∷ []) has.1 (is_some hello.interval) m hello.willing heading;
     rows = rows_said hello_line hello.rows m h.blocks up (IsReadHelloRow m) row_is;
   }
@@ -139,17 +139,17 @@ module _ (hello : Hello) (values : List ℕ) (m : MessageFields) (h : IsHelloMes
 
   -- ---- nothing is ignored
 
-  no_local : (row : HelloRow) → Contains hello.rows row → row.local ≡ None → HasType m row.addr local_if → ⊥
+  no_local : (row : HelloRow) → Contains hello.rows row → row.local ≡ None → HasType m row.addr LOCAL_IF → ⊥
   no_local row there e (octets, s) =
       none_not {o = option_map (λ (n : ℕ). n ∷ []) (option_map local_value row.local)} (ap (λ (o : Option LocalIf). option_map (λ (n : ℕ). n ∷ []) (option_map local_value o)) e)
-      (said_of hello_line hello.rows m h.blocks up row there Local local_if refl octets s)
+      (said_of hello_line hello.rows m h.blocks up row there Local LOCAL_IF refl octets s)
 
   part_read : (net : NetAddr) (part : TlvFields) → HasPart m net part → IsReadOfHelloAddress m net part
   part_read net part p =
       let (row, c, there, here, k, ext, value) = part_there hello_line hello.rows m h.blocks up net part p in
       record {
         kind = elim (local_or_not row.local) [
-          | inl e ↦ inr (subst (λ (n : NetAddr). HasType m n local_if → ⊥) here (no_local row there e), other_read row part.kind (octets_of part.value) c k value)
+          | inl e ↦ inr (subst (λ (n : NetAddr). HasType m n LOCAL_IF → ⊥) here (no_local row there e), other_read row part.kind (octets_of part.value) c k value)
           | inr some ↦ inl (only_local row part.kind (octets_of part.value) c k value (sender row there some))
         ];
         ext = ext;
@@ -158,7 +158,7 @@ module _ (hello : Hello) (values : List ℕ) (m : MessageFields) (h : IsHelloMes
   -- ---- the whole
 
   pub fits : length hello.rows ≤ 1100 → FitsAlone m
-  fits most = fits_alone m (map hello_line hello.rows) (take 1 values) (slice_range values 1 3) (is_some hello.interval) mpr_willing 0 h.width (omega (arith, length-take 1 values)) (omega (arith, length-take 2 (drop 1 values))) h.tlvs h.blocks (omega (arith, most, length-map hello.rows hello_line)) (lines_few hello_line hello.rows few_of)
+  fits most = fits_alone m (map hello_line hello.rows) (take 1 values) (slice_range values 1 3) (is_some hello.interval) MPR_WILLING 0 h.width (omega (arith, length-take 1 values)) (omega (arith, length-take 2 (drop 1 values))) h.tlvs h.blocks (omega (arith, most, length-map hello.rows hello_line)) (lines_few hello_line hello.rows few_of)
 
   pub encodable : IsEncodableMessage m
   encodable = message_fits m (map hello_line hello.rows) hello.originator h.width h.originator h.blocks
@@ -183,14 +183,8 @@ module _ (hello : Hello) (values : List ℕ) (m : MessageFields) (h : IsHelloMes
     writes = written bytes is;
     least = least;
     validity_is = (has.0, validity_there, has.2.1);
-    interval_is = interval_told (has.0 ∷ []) has.1 (octet_of hello.willing ∷ []) 0 m mpr_willing (inl refl) hello.interval heading has.3;
+    interval_is = interval_told (has.0 ∷ []) has.1 (octet_of hello.willing ∷ []) 0 m MPR_WILLING (inl refl) hello.interval heading has.3;
   }
 
-  pub back : (bytes : List ℕ) → IsSoleMessage m bytes → (packet : PacketFields) (spans : List Span) → Spells packet spans bytes → ReadsBackHello hello packet
-  back bytes is packet spans spelled = record {
-    message = m;
-    one = alone_again m bytes is packet spans spelled;
-    kind = h.kind;
-    keeps = keeps;
-    same = λ other reads. one_hello m keeps other hello reads hello_is;
-  }
+  pub back : (bytes : List ℕ) → IsSoleMessage m bytes → (packet : PacketFields) (spans : List Span) → Spells packet spans bytes → ReadsBack 0 HelloIs BreaksHello hello packet
+  back bytes is = reads_back 0 HelloIs BreaksHello hello m h.kind keeps (λ other reads. one_hello m keeps other hello reads hello_is) bytes is

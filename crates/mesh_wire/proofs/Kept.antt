@@ -1,5 +1,5 @@
 -- What is kept of the addresses of a message.
-use Rattle.mesh_wire.proofs.Common.{arith, common_steps, ◌≡◌, ℕ, ◌⊎◌, inl, inr, refl, sym, ◌∙◌, ap, subst, Bool, true, false, cond, List, [], ◌∷◌, Contains, Option, Some, None, ◌≢◌, NetAddr, Metric, has, none_not, some_equal, MessageFields, AddressParts, Single, Absent, Value, Conflict, OctetKind, Octets, MetricParts, RowParts, AreCollected, of_blocks, collected, octet_in, shown_in, metric_at, link_metric, MetricKind, flag_of, metric_in, ShowsMetric, is_value, IsOctetOf, HoldsAddress, HasValue, AreRows, is_conflict, is_said, value_from}
+use Rattle.mesh_wire.proofs.Common.{arith, common_steps, ◌≡◌, ℕ, ◌⊎◌, inl, inr, refl, sym, ◌∙◌, ap, subst, Bool, true, false, cond, List, [], ◌∷◌, Contains, Option, Some, None, ◌≢◌, NetAddr, Metric, has, none_not, some_equal, MessageFields, AddressParts, Single, Absent, Value, Conflict, OctetKind, Octets, MetricParts, RowParts, AreCollected, of_blocks, collected, octet_in, shown_in, metric_at, LINK_METRIC, MetricKind, flag_of, metric_in, ShowsMetric, is_value, IsOctetOf, HoldsAddress, HasValue, AreRows, is_conflict, is_said, value_from}
 use Rattle.mesh_wire.proofs.Collected.{AnyOf, At, StandsOf, SaysOf, collected_is}
 use Rattle.mesh_wire.proofs.Entries.{says_of, of_says, has_of, of_has}
 use Rattle.mesh_wire.proofs.Slots.{OneIs, one_same, Reads, OctetsAre, MetricsAre, RowIs, row_same}
@@ -107,15 +107,15 @@ module _ (kind : OctetKind) (S : List ℕ → Type 0) (o : Octets) (h : OctetsAr
 -- ---- metrics
 
 -- the metrics of a kind that are shown
-pub metrics_told : (m : MessageFields) (net : NetAddr) (parts : MetricParts) → MetricsAre (HasValue m net link_metric) parts → (kind : MetricKind) → OneIs (ShowsMetric m net kind) (metric_at kind parts)
-metrics_told m net parts h kind = one_same (Reads (shown_in (flag_of kind)) (HasValue m net link_metric)) (ShowsMetric m net kind) (metric_at kind parts)
+pub metrics_told : (m : MessageFields) (net : NetAddr) (parts : MetricParts) → MetricsAre (HasValue m net LINK_METRIC) parts → (kind : MetricKind) → OneIs (ShowsMetric m net kind) (metric_at kind parts)
+metrics_told m net parts h kind = one_same (Reads (shown_in (flag_of kind)) (HasValue m net LINK_METRIC)) (ShowsMetric m net kind) (metric_at kind parts)
     (λ metric (high, low, s, on, is). (high ∷ low ∷ [], s, ap (λ (b : Bool). cond b (Some (metric_in high low)) None) on ∙ ap Some (sym is)))
     (λ metric (x, s, e). shown x metric s e) (h.each kind)
   where
-    by : (high low : ℕ) (metric : Metric) → HasValue m net link_metric (high ∷ low ∷ []) → (b : Bool) → has high (flag_of kind) ≡ b → cond b (Some (metric_in high low)) None ≡ Some metric → ShowsMetric m net kind metric
+    by : (high low : ℕ) (metric : Metric) → HasValue m net LINK_METRIC (high ∷ low ∷ []) → (b : Bool) → has high (flag_of kind) ≡ b → cond b (Some (metric_in high low)) None ≡ Some metric → ShowsMetric m net kind metric
     by high low metric s true on e = (high, low, s, on, sym (some_equal (metric_in high low) metric e))
     by high low metric s false on e = cc
 
-    shown : (x : List ℕ) (metric : Metric) → HasValue m net link_metric x → shown_in (flag_of kind) x ≡ Some metric → ShowsMetric m net kind metric
+    shown : (x : List ℕ) (metric : Metric) → HasValue m net LINK_METRIC x → shown_in (flag_of kind) x ≡ Some metric → ShowsMetric m net kind metric
     shown (high ∷ low ∷ []) metric s e = by high low metric s (has high (flag_of kind)) refl e
     shown x metric s e = cc

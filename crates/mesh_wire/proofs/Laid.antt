@@ -1,5 +1,5 @@
 -- Blocks of lines say what the lines say.
-use Rattle.mesh_wire.proofs.Common.{common_steps, ◌≡◌, ℕ, ◌+◌, ◌-◌, ◌*◌, ◌/◌, ◌%◌, ◌<◌, ◌≤◌, inl, inr, List, [], ◌∷◌, ◌++◌, length, map, refl, sym, ap, subst, ◌∙◌, arith, slice_get, Contains, Option, Some, None, option_map, flat_map, mod-eq-sub-div-mul, div-mul-le_self, take_all, Contains-append_left, Contains-append_right, Contains-append_cases, flat_map-append, slice_get-map, Addr4, NetAddr, same_net, address_in, RawAddr, BlockFields, MessageFields, TlvFields, AddrTlvFields, least_addr_tlv, AddressTlvKind, Octet, LinkIn, LinkOut, NearIn, NearOut, AddressRecord, kind_of, most_of, value_of, columns, metric_columns, kinds, octets_of, IsIn, value_at, HoldsAddressAt, HoldsAddress, HasPart, HasValue, host_octets, raw_of, present, IsColumnTlv, LaysAll, IsBlock, AreBlocks, contains_at as at_place, contains_map, place_of, contains_head as at_head, contains_tail as in_tail, contains_cases, contains_none as none_in, same_addr, same_some}
+use Rattle.mesh_wire.proofs.Common.{common_steps, ◌≡◌, ℕ, ◌+◌, ◌*◌, ◌/◌, ◌%◌, ◌<◌, ◌≤◌, inl, inr, List, [], ◌∷◌, ◌++◌, length, map, refl, sym, ap, subst, ◌∙◌, arith, slice_get, Contains, Option, Some, None, option_map, flat_map, mod-eq-sub-div-mul, div-mul-le_self, take_all, Contains-append_left, Contains-append_right, Contains-append_cases, flat_map-append, slice_get-map, Addr4, NetAddr, same_net, address_in, RawAddr, BlockFields, MessageFields, TlvFields, AddrTlvFields, least_addr_tlv, AddressTlvKind, Octet, LinkIn, LinkOut, NearIn, NearOut, AddressRecord, kind_of, most_of, value_of, columns, metric_columns, kinds, octets_of, IsIn, value_at, HoldsAddressAt, HoldsAddress, HasPart, HasValue, host_octets, raw_of, present, IsColumnTlv, LaysAll, IsBlock, AreBlocks, contains_at as at_place, contains_map, place_of, contains_head as at_head, contains_tail as in_tail, contains_cases, contains_none as none_in, same_addr, same_some}
 use Rattle.mesh_wire.proofs.OctetKinds.{each_kind}
 
 -- ---- places of lists

@@ -16,7 +16,6 @@ pub mod Standing  -- machine, probe, replay, trace
 -- Lemmas of this crate alone.
 mod Addresses
 mod Collected
-mod Counted
 mod Deciding
 mod EachHello
 mod EachTc
@@ -42,6 +41,7 @@ mod LinesSay
 mod Made
 mod OctetKinds
 mod Ranks
+mod Reading
 mod RowsSay
 mod Ruled
 mod RunLaws

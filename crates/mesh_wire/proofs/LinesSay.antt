@@ -1,5 +1,5 @@
 -- What a message says of an address, by the fields of its line.
-use Rattle.mesh_wire.proofs.Common.{common_steps, ◌≡◌, ℕ, ◌+◌, ◌/◌, ◌%◌, ◌<◌, ◌⊎◌, inl, inr, List, [], ◌∷◌, refl, sym, ap, subst, ◌∙◌, arith, ◌↔◌, ◌==◌, Contains, Option, Some, None, Bool, true, false, IsTrue, if◌then◌else◌, option_map, eq-eqb, eqb-true, Metric, has, same_metric, MessageFields, AddressTlvKind, Octet, LinkIn, LinkOut, NearIn, NearOut, AddressRecord, OctetKind, link_metric, kind_of, narrow, flagged, value_of, MetricKind, Link_in, Link_out, Near_in, Near_out, flag_of, metric_in, metric_of, ShowsMetric, MetricIs, type_of, at, flags_number, HasValue, OctetIs, SaysFlag, AreBlocks, none_not}
+use Rattle.mesh_wire.proofs.Common.{common_steps, ◌≡◌, ℕ, ◌+◌, ◌/◌, ◌%◌, ◌<◌, ◌⊎◌, inl, inr, List, [], ◌∷◌, refl, sym, ap, subst, ◌∙◌, arith, ◌↔◌, ◌==◌, Contains, Option, Some, None, Bool, true, false, IsTrue, if◌then◌else◌, option_map, eq-eqb, eqb-true, Metric, has, same_metric, MessageFields, AddressTlvKind, Octet, LinkIn, LinkOut, NearIn, NearOut, AddressRecord, OctetKind, LINK_METRIC, kind_of, narrow, flagged, value_of, MetricKind, Link_in, Link_out, Near_in, Near_out, flag_of, metric_in, metric_of, ShowsMetric, MetricIs, type_of, at, flags_number, HasValue, OctetIs, SaysFlag, AreBlocks, none_not}
 use Rattle.mesh_packet.proofs.FlagSums.{tells_128, tells_64, tells_32, tells_16}
 use Rattle.mesh_wire.proofs.Laid.{said, says}
 use Rattle.mesh_wire.proofs.OctetKinds.{same_type, not_metric}
@@ -21,11 +21,11 @@ column_of Link_out = LinkOut
 column_of Near_in = NearIn
 column_of Near_out = NearOut
 
-pub column_kind : (k : MetricKind) → kind_of (column_of k) ≡ link_metric
+pub column_kind : (k : MetricKind) → kind_of (column_of k) ≡ LINK_METRIC
 column_kind k = grind (arith, common_steps)
 
 -- a column of that type is one of a kind of metric
-pub metric_column : (c : AddressTlvKind) → link_metric ≡ kind_of c → (k : MetricKind) × (c ≡ column_of k)
+pub metric_column : (c : AddressTlvKind) → LINK_METRIC ≡ kind_of c → (k : MetricKind) × (c ≡ column_of k)
 metric_column (Octet kind) e = absurd (not_metric kind (sym e))
 metric_column LinkIn e = (Link_in, refl)
 metric_column LinkOut e = (Link_out, refl)
@@ -132,7 +132,7 @@ module _ (m : MessageFields) (lines : List AddressRecord) (are : AreBlocks lines
 
   pub shown : (j : MetricKind) (metric : Metric) → ShowsMetric m line.net j metric → metric_of j line.metrics ≡ Some metric
   shown j metric (x, y, s, flag, is) =
-      let (c, kind, v) = line_says link_metric (x ∷ (y ∷ [])) s in
+      let (c, kind, v) = line_says LINK_METRIC (x ∷ (y ∷ [])) s in
       let (k, same) = metric_column c kind in
       let value : value_of (column_of k) line ≡ Some (x ∷ (y ∷ [])) = subst (λ (d : AddressTlvKind). value_of d line ≡ Some (x ∷ (y ∷ []))) same v in
       from_metric k j (metric_of k line.metrics) x y refl (sym (metric_value k line) ∙ value) flag ∙ ap Some (sym is)
@@ -152,9 +152,9 @@ module _ (m : MessageFields) (lines : List AddressRecord) (are : AreBlocks lines
   metric_is k = metric_from k (metric_of k line.metrics) refl
 
   -- each metric that is said has two octets
-  pub two_octets : (octets : List ℕ) → HasValue m line.net link_metric octets → (x : ℕ) × (y : ℕ) × (octets ≡ x ∷ (y ∷ []))
+  pub two_octets : (octets : List ℕ) → HasValue m line.net LINK_METRIC octets → (x : ℕ) × (y : ℕ) × (octets ≡ x ∷ (y ∷ []))
   two_octets octets s =
-      let (c, kind, v) = line_says link_metric octets s in
+      let (c, kind, v) = line_says LINK_METRIC octets s in
       let (k, same) = metric_column c kind in
       let value : value_of (column_of k) line ≡ Some octets = subst (λ (d : AddressTlvKind). value_of d line ≡ Some octets) same v in
       from k (metric_of k line.metrics) (sym (metric_value k line) ∙ value)

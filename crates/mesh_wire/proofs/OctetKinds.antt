@@ -1,5 +1,5 @@
 -- Laws of the types of address TLV whose values are one octet, by their list.
-use Rattle.mesh_wire.proofs.Common.{common_steps, ◌≡◌, ℕ, ◌+◌, ap, ◌∙◌, arith, List, [], ◌∷◌, Decides, Contains, Some, slice_get, ◌==◌, if◌then◌else◌, OctetKind, link_metric, kinds, statuses, type_of, IsStatusType, at, by_kind, list_any, Decides-some, contains_at, same_some}
+use Rattle.mesh_wire.proofs.Common.{common_steps, ◌≡◌, ℕ, ◌+◌, ap, ◌∙◌, arith, List, [], ◌∷◌, Decides, Contains, Some, slice_get, ◌==◌, if◌then◌else◌, OctetKind, LINK_METRIC, kinds, statuses, type_of, IsStatusType, at, by_kind, list_any, Decides-some, contains_at, same_some}
 use Rattle.std.proofs.lemmas.Bool.Decides.{Decides-eqb}
 
 -- the place of the first of that number
@@ -18,7 +18,7 @@ each_kind k = contains_at kinds (place_of (type_of k) kinds) k (at_place k)
 pub same_type : (a b : OctetKind) → type_of a ≡ type_of b → a ≡ b
 same_type a b e = same_some (at_place a) (ap (λ (n : ℕ). slice_get kinds (place_of n kinds)) e ∙ at_place b)
 
-pub not_metric : (k : OctetKind) → type_of k ≡ link_metric → ⊥
+pub not_metric : (k : OctetKind) → type_of k ≡ LINK_METRIC → ⊥
 not_metric k e = grind (arith, common_steps)
 
 pub at_by_kind : {T : Type 0} (f : OctetKind → T) (k : OctetKind) → at k (by_kind f) ≡ f k

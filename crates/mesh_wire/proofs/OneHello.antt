@@ -1,5 +1,5 @@
 -- A message that keeps the rules of a HELLO reads as one HELLO.
-use Rattle.mesh_wire.proofs.Common.{arith, common_steps, ◌≡◌, ℕ, inr, List, Bool, refl, sym, ap, subst, ◌∙◌, ◌↔◌, AllPairs, Contains, Option, Some, None, IsSome, IsTrue, Addr4, NetAddr, IsBefore, ascends_prop, LocalIf, Willing, HelloRow, Hello, IsAlone, same_answer, row_octet, HasWilling, WillingIs, TellsOther, IsReadHelloRow, HelloIs, sender_row, BreaksHello, TwoValues, local_if, mpr, OctetKind, Local, MessageFields, MetricKind, Link_in, Link_out, Near_in, Near_out, metric_of, MetricIs, HasTwoMetrics, statuses, type_of, OctetIs, SaysFlag, Keeps}
+use Rattle.mesh_wire.proofs.Common.{arith, common_steps, ◌≡◌, ℕ, inr, List, Bool, refl, sym, ap, subst, ◌∙◌, ◌↔◌, AllPairs, Contains, Option, Some, None, IsSome, IsTrue, Addr4, NetAddr, IsBefore, ascends_prop, LocalIf, Willing, HelloRow, Hello, IsAlone, same_answer, row_octet, HasWilling, WillingIs, TellsOther, IsReadHelloRow, HelloIs, sender_row, BreaksHello, TwoValues, LOCAL_IF, MPR, OctetKind, Local, MessageFields, MetricKind, Link_in, Link_out, Near_in, Near_out, metric_of, MetricIs, HasTwoMetrics, statuses, type_of, OctetIs, SaysFlag, Keeps}
 use Rattle.mesh_atoms.specs.declared.hello.Metrics.{Metrics}
 use Rattle.mesh_atoms.specs.declared.hello.Mpr.{Mpr}
 use Rattle.mesh_atoms.proofs.Equal.{same_willing}
@@ -31,7 +31,7 @@ module _ (message : MessageFields) (keeps : Keeps (BreaksHello message)) where
   others_alike r s a h g =
       let metric : (kind : MetricKind) → metric_of kind r.metrics ≡ metric_of kind s.metrics =
       λ kind. one_metric message r.addr kind _ _ (not_two_metrics r.addr) (h.metric kind) (subst (λ (net : NetAddr). MetricIs message net kind (metric_of kind s.metrics)) (sym a) (g.metric kind)) in
-      let flag : (n : ℕ) (b : Bool) → IsTrue b ↔ SaysFlag message s.addr mpr n → IsTrue b ↔ SaysFlag message r.addr mpr n = λ n b said. subst (λ (net : NetAddr). IsTrue b ↔ SaysFlag message net mpr n) (sym a) said in
+      let flag : (n : ℕ) (b : Bool) → IsTrue b ↔ SaysFlag message s.addr MPR n → IsTrue b ↔ SaysFlag message r.addr MPR n = λ n b said. subst (λ (net : NetAddr). IsTrue b ↔ SaysFlag message net MPR n) (sym a) said in
       same_row r s a
       (λ kind among. one_status r.addr kind among (row_octet r kind) (row_octet s kind) (h.status kind among) (subst (λ (net : NetAddr). OctetIs message net (type_of kind) (row_octet s kind)) (sym a) (g.status kind among)))
       (same_metrics r.metrics s.metrics (metric Link_in) (metric Link_out) (metric Near_in) (metric Near_out))
@@ -47,7 +47,7 @@ module _ (message : MessageFields) (keeps : Keeps (BreaksHello message)) where
   -- a row is told by its address
   told : (r s : HelloRow) → r.addr ≡ s.addr → IsReadHelloRow message r → IsReadHelloRow message s → r ≡ s
   told r s a h g =
-      let there : OctetIs message r.addr local_if (row_octet s Local) = subst (λ (net : NetAddr). OctetIs message net local_if (row_octet s Local)) (sym a) g.local in
+      let there : OctetIs message r.addr LOCAL_IF (row_octet s Local) = subst (λ (net : NetAddr). OctetIs message net LOCAL_IF (row_octet s Local)) (sym a) g.local in
       alike r s s.local a (same_local r s (one_status r.addr Local local_among (row_octet r Local) (row_octet s Local) h.local there)) refl h g
 
 -- ---- the whole

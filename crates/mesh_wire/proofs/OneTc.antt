@@ -1,5 +1,5 @@
 -- A message that keeps the rules of a TC reads as one TC.
-use Rattle.mesh_wire.proofs.Common.{arith, common_steps, ◌≡◌, ℕ, ◌+◌, ◌*◌, inr, List, [], ◌∷◌, Bool, refl, sym, ap, subst, ◌∙◌, AllPairs, Option, Some, Addr4, NetAddr, IsBefore, ascends_prop, Metric, TcRow, Tc, gateway, TlvFields, MessageFields, Near_out, Keeps, ContentIs, IsReadTcRow, TcIs, BreaksTc, TwoGateways, WrongMetric, distance_of, same_some, same_answer}
+use Rattle.mesh_wire.proofs.Common.{arith, common_steps, ◌≡◌, ℕ, ◌+◌, ◌*◌, inr, List, [], ◌∷◌, Bool, refl, sym, ap, subst, ◌∙◌, AllPairs, Option, Some, Addr4, NetAddr, IsBefore, ascends_prop, Metric, TcRow, Tc, GATEWAY, TlvFields, MessageFields, Near_out, Keeps, ContentIs, IsReadTcRow, TcIs, BreaksTc, TwoGateways, WrongMetric, distance_of, same_some, same_answer}
 use Rattle.mesh_wire.proofs.Single.{one_time, one_interval, one_originator, one_octet, one_metric, one_rows}
 
 -- ---- rows
@@ -12,7 +12,7 @@ module _ (message : MessageFields) (keeps : Keeps (BreaksTc message)) where
   told_here r o q g m h k =
       ap (λ (x : Bool). row_of r.dest x r.routable r.gateway r.metric) (same_answer r.origin o h.origin k.origin)
       ∙ ap (λ (x : Bool). row_of r.dest o x r.gateway r.metric) (same_answer r.routable q h.routable k.routable)
-      ∙ ap (λ (x : Option ℕ). row_of r.dest o q x r.metric) (one_octet message r.dest gateway r.gateway g (λ values. keeps 38 (Some r.dest) (TwoGateways r.dest values)) h.gateway_is k.gateway_is)
+      ∙ ap (λ (x : Option ℕ). row_of r.dest o q x r.metric) (one_octet message r.dest GATEWAY r.gateway g (λ values. keeps 38 (Some r.dest) (TwoGateways r.dest values)) h.gateway_is k.gateway_is)
       ∙ ap (λ (x : Option Metric). row_of r.dest o q g x) (one_metric message r.dest Near_out r.metric m (λ metrics. keeps 39 (Some r.dest) (WrongMetric r.dest (inr metrics))) h.metric k.metric)
 
   -- a row is told by its address

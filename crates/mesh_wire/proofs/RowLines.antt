@@ -1,5 +1,5 @@
 -- The lines of rows in ascending order: one for each address.
-use Rattle.mesh_wire.proofs.Common.{◌≡◌, ℕ, inl, inr, List, [], ◌∷◌, map, sym, ap, ◌∙◌, Contains, AllPairs, NetAddr, IsBefore, MessageFields, PacketFields, Span, Spells, AddressRecord, IsSoleMessage, alone, contains_map_cases as unmapped, contains_cases, contains_none as none_in, all_pairs_tail, all_pairs_head, not_before_itself, same_ok}
+use Rattle.mesh_wire.proofs.Common.{◌≡◌, ℕ, inl, inr, List, [], ◌∷◌, map, sym, ap, ◌∙◌, Contains, AllPairs, NetAddr, IsBefore, MessageFields, PacketFields, Span, Spells, AddressRecord, IsSoleMessage, alone, contains_map_cases as unmapped, contains_cases, contains_none as none_in, all_pairs_tail, all_pairs_head, not_before_itself, same_ok, Option, Keeps, ReadsBack}
 use Rattle.mesh_packet.proofs.Packets.{packet_again}
 
 module _ {Row : Type 0} (addr_of : Row → NetAddr) where
@@ -30,3 +30,8 @@ one_line addr_of f rows of up a b has_a has_b e =
 pub alone_again : (m : MessageFields) (bytes : List ℕ) → IsSoleMessage m bytes → (packet : PacketFields) (spans : List Span) → Spells packet spans bytes → packet.messages ≡ m ∷ []
 alone_again m bytes is packet spans spelled =
     ap (λ (x : PacketFields × List Span). x.0.messages) (same_ok {a = (packet, spans)} {b = (alone m, is.span ∷ [])} (packet_again bytes packet spans spelled) (packet_again bytes (alone m) (is.span ∷ []) is.spelled))
+
+-- so they read back as the value that the message says, where it says no other
+pub reads_back : {X : Type 0} (kind : ℕ) (Is : MessageFields → X → Type 0) (Breaks : MessageFields → ℕ → Option NetAddr → Type 0) (value : X) (m : MessageFields) → m.kind ≡ kind → Keeps (Breaks m) → ((other : X) → Is m other → other ≡ value) →
+    (bytes : List ℕ) → IsSoleMessage m bytes → (packet : PacketFields) (spans : List Span) → Spells packet spans bytes → ReadsBack kind Is Breaks value packet
+reads_back kind Is Breaks value m of_type keeps same bytes is packet spans spelled = record { message = m; one = alone_again m bytes is packet spans spelled; of_type = of_type; keeps = keeps; same = same }

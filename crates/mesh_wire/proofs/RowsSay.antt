@@ -1,5 +1,5 @@
 -- What a message of lines says of the rows that the lines are of.
-use Rattle.mesh_wire.proofs.Common.{◌≡◌, ℕ, inl, inr, List, [], ◌∷◌, length, map, refl, sym, ap, subst, ◌∙◌, ◌↔◌, Contains, AllPairs, Some, Bool, IsTrue, option_map, NetAddr, Metric, IsBefore, MessageFields, TlvFields, AddressTlvKind, AddressRecord, OctetKind, link_metric, kind_of, value_of, MetricKind, metric_of, ShowsMetric, MetricIs, HasWrongMetric, type_of, at, flags_number, octets_of, HoldsAddress, HasPart, HasValue, HasTwoValues, OctetIs, SaysFlag, AreRows, AreBlocks, contains_map as mapped, contains_map_cases as unmapped, same_some}
+use Rattle.mesh_wire.proofs.Common.{◌≡◌, ℕ, inl, inr, List, [], ◌∷◌, length, map, refl, sym, ap, subst, ◌∙◌, ◌↔◌, Contains, AllPairs, Some, Bool, IsTrue, option_map, NetAddr, Metric, IsBefore, MessageFields, TlvFields, AddressTlvKind, AddressRecord, OctetKind, LINK_METRIC, kind_of, value_of, MetricKind, metric_of, ShowsMetric, MetricIs, HasWrongMetric, type_of, at, flags_number, octets_of, HoldsAddress, HasPart, HasValue, HasTwoValues, OctetIs, SaysFlag, AreRows, AreBlocks, contains_map as mapped, contains_map_cases as unmapped, same_some}
 use Rattle.mesh_wire.proofs.Laid.{said, stands, standing_line}
 use Rattle.mesh_wire.proofs.LinesSay.{says_only, octet_is, flags_are, metric_is, two_octets, shown}
 use Rattle.mesh_wire.proofs.RowLines.{one_line}
@@ -60,12 +60,12 @@ module _ {Row : Type 0} (line_of : Row → AddressRecord) (rows : List Row) (m :
   -- metrics are of two octets, one of each kind on an address
   pub right_metric : (net : NetAddr) → HasWrongMetric m net → ⊥
   right_metric net (inl (octets, s, other)) =
-      let (row, there, of) = row_there net link_metric octets s in
-      let (x, y, is) = two_octets m (map line_of rows) are unique (line_of row) (among row there) octets (at_row row net of link_metric octets s) in
+      let (row, there, of) = row_there net LINK_METRIC octets s in
+      let (x, y, is) = two_octets m (map line_of rows) are unique (line_of row) (among row there) octets (at_row row net of LINK_METRIC octets s) in
       other (ap length is)
   right_metric net (inr (k, a, b, s, t, other)) =
       let (high, low, is, flag, shown_is) = s in
-      let (row, there, of) = row_there net link_metric (high ∷ (low ∷ [])) is in
+      let (row, there, of) = row_there net LINK_METRIC (high ∷ (low ∷ [])) is in
       other (one_metric row there k a b (subst (λ (p : NetAddr). ShowsMetric m p k a) (sym of) s) (subst (λ (p : NetAddr). ShowsMetric m p k b) (sym of) t))
 
   -- ---- what is said of a row

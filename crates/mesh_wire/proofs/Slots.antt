@@ -1,5 +1,5 @@
 -- What is kept of values, and that one value more is kept too.
-use Rattle.mesh_wire.proofs.Common.{arith, common_steps, ◌≡◌, ℕ, ◌⊎◌, inl, inr, refl, sym, ◌∙◌, ap, subst, Bool, true, false, cond, List, length, [], ◌∷◌, ◌==◌, ◌||◌, ◌↔◌, ◌≢◌, nat_eq, IsTrue, Option, Some, None, is_none, cases_Bool, eq-eqb, ne_eqb, eqb-true, eqb-false, or_cases, or_left, or_right, Metric, same_metric, none_not, some_equal, Single, Absent, Value, Conflict, OctetKind, Octets, MetricParts, RowParts, link_metric, octet_in, is_flag_set, octets_also, octets_if, has_same_code, shown_in, has_other_length, metric_at, metrics_also, no_parts, take_part, MetricKind, flag_of, type_of, at, also, also_some}
+use Rattle.mesh_wire.proofs.Common.{arith, common_steps, ◌≡◌, ℕ, ◌⊎◌, inl, inr, refl, sym, ◌∙◌, ap, subst, Bool, true, false, cond, List, length, [], ◌∷◌, ◌==◌, ◌||◌, ◌↔◌, ◌≢◌, nat_eq, IsTrue, Option, Some, None, is_none, cases_Bool, eq-eqb, ne_eqb, eqb-true, eqb-false, or_cases, or_left, or_right, Metric, same_metric, none_not, some_equal, Single, Absent, Value, Conflict, OctetKind, Octets, MetricParts, RowParts, LINK_METRIC, octet_in, is_flag_set, octets_also, octets_if, has_same_code, shown_in, has_other_length, metric_at, metrics_also, no_parts, take_part, MetricKind, flag_of, type_of, at, also, also_some}
 use Rattle.mesh_wire.proofs.OctetKinds.{at_by_kind}
 
 -- ---- several values
@@ -143,20 +143,20 @@ kept_at Is change S U type new more K same further a h = grind (arith, common_st
 
 pub record RowIs (S : ℕ → List ℕ → Type 0) (r : RowParts) : Type 0 where
   pub octets : (kind : OctetKind) → OctetsAre kind (S (type_of kind)) (at kind r.octets)
-  pub metrics : MetricsAre (S link_metric) r.metrics
+  pub metrics : MetricsAre (S LINK_METRIC) r.metrics
 
 pub row_more : (S U : ℕ → List ℕ → Type 0) (type : ℕ) (new : List ℕ) (r : RowParts) → IsMoreOf S U type new → RowIs S r → RowIs U (take_part type new r)
 row_more S U type new r more h = record {
   octets = λ kind. subst (OctetsAre kind (U (type_of kind))) (sym (at_by_kind (λ k. octets_if type new k (at k r.octets)) kind))
       (kept_at (OctetsAre kind) (octets_also kind new) S U type new more (type_of kind) (octets_same kind (S (type_of kind)) (U (type_of kind))) (octets_more kind (S (type_of kind)) (U (type_of kind)) new) (at kind r.octets) (h.octets kind));
-  metrics = kept_at MetricsAre (metrics_also new) S U type new more link_metric (metrics_same (S link_metric) (U link_metric)) (metrics_more (S link_metric) (U link_metric) new) r.metrics h.metrics;
+  metrics = kept_at MetricsAre (metrics_also new) S U type new more LINK_METRIC (metrics_same (S LINK_METRIC) (U LINK_METRIC)) (metrics_more (S LINK_METRIC) (U LINK_METRIC) new) r.metrics h.metrics;
 }
 
 -- the same values
 pub row_same : (S U : ℕ → List ℕ → Type 0) → ((k : ℕ) (x : List ℕ) → U k x → S k x) → ((k : ℕ) (x : List ℕ) → S k x → U k x) → (r : RowParts) → RowIs S r → RowIs U r
 row_same S U back keep r h = record {
   octets = λ kind. octets_same kind (S (type_of kind)) (U (type_of kind)) (record { back = back (type_of kind); keep = keep (type_of kind) }) (at kind r.octets) (h.octets kind);
-  metrics = metrics_same (S link_metric) (U link_metric) (record { back = back link_metric; keep = keep link_metric }) r.metrics h.metrics;
+  metrics = metrics_same (S LINK_METRIC) (U LINK_METRIC) (record { back = back LINK_METRIC; keep = keep LINK_METRIC }) r.metrics h.metrics;
 }
 
 -- nothing is said

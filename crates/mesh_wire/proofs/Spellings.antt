@@ -1,5 +1,5 @@
 -- A HELLO spelled otherwise than the writers spell it may be sent; messages with what a reading ignores may not.
-use Rattle.mesh_wire.proofs.Common.{◌≡◌, ℕ, zero, suc, ◌+◌, ◌-◌, ◌<◌, ◌≤◌, ◌⊎◌, inl, inr, Bool, true, false, List, [], ◌∷◌, ◌++◌, length, drop, get_or, None, refl, sym, ap, subst, ◌∙◌, arith, lit≤, lit<, Contains, slice_index, replicate, cond, ltb, length-append, append_assoc, append-nil, ltb-true, false≢true, get_or_append_left, get_or-append-add, get_or-replicate, get_or_past, NetAddr, Hello, has, SpellsBlock, SpellsHead, SpellsTail, Span, MessageFields, Spells, SpellsMessage, SpellsPair, SpellsNumber, SpellsHeaderTlvs, TlvFields, SpellsTlvBlock, SpellsAddrTlvBlock, own, own_net, local, own_block, near, near_net, lone, lone_hello, BreaksHello, Undefined, OctetKind, Local, Link, Mpr, local_if, link_status, link_metric, mpr, MetricKind, Link_in, Link_out, Near_in, Near_out, flag_of, statuses, type_of, is_value, IsOctetOf, Keeps, HasPart, HasValue, HoldsAddressAt, HasBriefBlocks, IsSoleMessage, HasFlag, IsReadOfHello, IsReadOfOther, IsReadOfHelloAddress, WritesHello, alone, contains_at, heads_equal, tails_equal}
+use Rattle.mesh_wire.proofs.Common.{◌≡◌, ℕ, zero, suc, ◌+◌, ◌-◌, ◌<◌, ◌≤◌, ◌⊎◌, inl, inr, Bool, true, false, List, [], ◌∷◌, ◌++◌, length, drop, get_or, None, refl, sym, ap, subst, ◌∙◌, arith, lit≤, lit<, Contains, slice_index, replicate, cond, ltb, length-append, append_assoc, append-nil, ltb-true, false≢true, get_or_append_left, get_or-append-add, get_or-replicate, get_or_past, NetAddr, Hello, has, SpellsBlock, SpellsHead, SpellsTail, Span, MessageFields, Spells, SpellsMessage, SpellsPair, SpellsNumber, SpellsHeaderTlvs, TlvFields, SpellsTlvBlock, SpellsAddrTlvBlock, own, own_net, local, own_block, near, near_net, lone, lone_hello, BreaksHello, Undefined, OctetKind, Local, Link, Mpr, LOCAL_IF, LINK_STATUS, LINK_METRIC, MPR, MetricKind, Link_in, Link_out, Near_in, Near_out, flag_of, statuses, type_of, is_value, IsOctetOf, Keeps, HasPart, HasValue, HoldsAddressAt, HasBriefBlocks, IsSoleMessage, HasFlag, IsReadOfHello, IsReadOfOther, IsReadOfHelloAddress, WritesHello, alone, contains_at, heads_equal, tails_equal}
 use Rattle.mesh_wire.specs.Spellings.{wordy_tlvs, wordy_local, short_block, long_block, message_with, wordy, too_wordy, IsForNone, IsSentForNone, unknown_tlv, beside, two, with_near, status, own_two, status_of_sender}
 use Rattle.mesh_wire.proofs.Examples.{says, part_only, lone_is, lone_keeps}
 use Rattle.mesh_wire.proofs.Behind.{behind_head, behind_tlvs}
@@ -296,7 +296,7 @@ beside_said kind octets = says (with_near kind octets) (two kind octets) 1 near_
 
 -- a reading that looks at it is of one octet, or of a metric
 beside_read : (kind : ℕ) (octets : List ℕ) (hello : Hello) (bytes : List ℕ) (spans : List Span) → Spells (alone (with_near kind octets)) spans bytes → WritesHello hello bytes →
-    ((k : OctetKind) × (kind ≡ type_of k) × (kind ≡ mpr → IsOctetOf Mpr octets)) ⊎ ((kind ≡ link_metric) × ((metric : MetricKind) × HasFlag metric octets))
+    ((k : OctetKind) × (kind ≡ type_of k) × (kind ≡ MPR → IsOctetOf Mpr octets)) ⊎ ((kind ≡ LINK_METRIC) × ((metric : MetricKind) × HasFlag metric octets))
 beside_read kind octets hello bytes spans spelled w =
     let (value, part, same) = beside_said kind octets in
     elim (part_read (with_near kind octets) hello bytes spans spelled w near_net _ part).kind [
@@ -349,8 +349,8 @@ both_said = record { address = own; in_message = (0, lit< tt, refl); in_block = 
 
 pub sender_never : IsSentForNone status_of_sender
 sender_never hello bytes spans spelled w =
-    let own_status = says status_of_sender own_two 0 own_net status link_status (1 ∷ []) both_said (1, lit< tt, refl) (lit≤ tt) (lit≤ tt) refl in
-    let own_local = says status_of_sender own_two 0 own_net local local_if (0 ∷ []) both_said (0, lit< tt, refl) (lit≤ tt) (lit≤ tt) refl in
+    let own_status = says status_of_sender own_two 0 own_net status LINK_STATUS (1 ∷ []) both_said (1, lit< tt, refl) (lit≤ tt) (lit≤ tt) refl in
+    let own_local = says status_of_sender own_two 0 own_net local LOCAL_IF (0 ∷ []) both_said (0, lit< tt, refl) (lit≤ tt) (lit≤ tt) refl in
     elim (part_read status_of_sender hello bytes spans spelled w own_net _ own_status.1).kind [
       | inl h ↦ absurd (omega (arith, h))
       | inr h ↦ h.0 (0 ∷ [], own_local)

@@ -1,9 +1,7 @@
 -- Laws of what rows of a HELLO say by LOCAL_IF, LINK_STATUS and OTHER_NEIGHB, type by type.
-use Rattle.mesh_wire.proofs.Common.{common_steps, ◌≡◌, ℕ, ◌<◌, ◌⊎◌, refl, arith, true, Contains, Option, Some, None, IsSome, nat_le, nat_lt, option_map, ltb-true, and_parts as both, All-from_recursion, All-contains, NetAddr, LocalIf, HelloRow, IsAlone, contains_at, some_equal, AddressParts, OctetKind, local_value, link_value, other_value, row_octet, local_from, link_from, other_from, sender_row, row_with, statuses, hello_kinds, type_of, IsStatusType, is_within, is_value, at, mpr, link_metric, value_from}
+use Rattle.mesh_wire.proofs.Common.{common_steps, ◌≡◌, ℕ, ◌<◌, ◌⊎◌, refl, arith, true, Contains, Option, Some, None, IsSome, nat_le, nat_lt, option_map, ltb-true, and_parts as both, All-from_recursion, All-contains, NetAddr, LocalIf, HelloRow, IsAlone, contains_at, some_equal, AddressParts, OctetKind, local_value, link_value, other_value, row_octet, local_from, link_from, other_from, sender_row, row_with, statuses, hello_kinds, type_of, IsStatusType, is_within, is_value, at, MPR, LINK_METRIC, value_from}
 use Rattle.mesh_atoms.specs.declared.hello.LinkStatus.{LinkStatus}
-use Rattle.mesh_atoms.specs.declared.hello.LinkStatus.TheVariants as link
 use Rattle.mesh_atoms.specs.declared.hello.OtherStatus.{OtherStatus}
-use Rattle.mesh_atoms.specs.declared.hello.OtherStatus.TheVariants as other
 use Rattle.mesh_wire.specs.declared.octets.OctetKind.TheVariants as kinds
 use Rattle.mesh_wire.proofs.OctetKinds.{place_of}
 use Rattle.mesh_wire.proofs.Single.{told_by}
@@ -23,7 +21,7 @@ row_kind row kinds.Gateway n e = cc
 row_kind row kind n e = contains_at hello_kinds (place_of (type_of kind) hello_kinds) kind refl
 
 -- they are of other types than relays and metrics
-pub apart : (type : ℕ) → IsStatusType type → (type ≡ mpr → ⊥) × (type ≡ link_metric → ⊥)
+pub apart : (type : ℕ) → IsStatusType type → (type ≡ MPR → ⊥) × (type ≡ LINK_METRIC → ⊥)
 apart type h1 = grind (arith, common_steps, type_of)
 
 -- ---- rows that are made of what is kept

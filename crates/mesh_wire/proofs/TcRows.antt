@@ -1,5 +1,5 @@
 -- Rows that are made of what is kept are the rows of the TC.
-use Rattle.mesh_wire.proofs.Common.{◌≡◌, refl, false, List, map, Contains, TcRow, MessageFields, AddressParts, Gateway, nbr_addr_type, Near_out, HasValue, AreRows, IsReadTcRow, tc_row, is_conflict}
+use Rattle.mesh_wire.proofs.Common.{◌≡◌, refl, false, List, map, Contains, TcRow, MessageFields, AddressParts, Gateway, NBR_ADDR_TYPE, Near_out, HasValue, AreRows, IsReadTcRow, tc_row, is_conflict}
 use Rattle.mesh_wire.specs.declared.octets.OctetKind.TheVariants.{AddrType}
 use Rattle.mesh_wire.proofs.HelloRows.{octet_is, metric_is, flag_is}
 use Rattle.mesh_wire.proofs.Kept.{AreTold}
@@ -15,8 +15,8 @@ pub record IsSound (t : AddressParts) : Type 0 where
 row_is : (m : MessageFields) (t : AddressParts) → RowIs (HasValue m t.net) t.parts → IsSound t → IsReadTcRow m (tc_row t)
 row_is m t kept sound =
     let typed = kept.octets AddrType in record {
-      origin = flag_is m t.net nbr_addr_type 1 t.parts.octets.addr_type.first typed.first;
-      routable = flag_is m t.net nbr_addr_type 2 t.parts.octets.addr_type.second typed.second;
+      origin = flag_is m t.net NBR_ADDR_TYPE 1 t.parts.octets.addr_type.first typed.first;
+      routable = flag_is m t.net NBR_ADDR_TYPE 2 t.parts.octets.addr_type.second typed.second;
       gateway_is = octet_is m t.net Gateway t.parts.octets.gateway (kept.octets Gateway) sound.gateway sound.one;
       metric = metric_is m t.net t.parts.metrics kept.metrics Near_out sound.metric;
     }

@@ -1,5 +1,5 @@
 -- The rules on the addresses of a TC, by tests of what is kept.
-use Rattle.mesh_wire.proofs.Common.{common_steps, ◌≡◌, ℕ, ◌≤◌, inl, inr, refl, ap, arith, Bool, true, List, Contains, lit≤, ◌||◌, ◌&&◌, Option, Some, None, nat_lt, slice_get, ltb-true, lt-ltb, and_parts as both, or_parts, or_cases, or_left, or_right, and_from as and_both, NetAddr, MessageFields, AddressParts, Octets, RowParts, has_wrong_type, has_wrong_gateway, has_wrong_metric, tc_tests, tc_rule, nbr_addr_type, gateway, HasValue, BreaksTc, AddressWidth, AddrType, TwoAddrTypes, ShortPrefix, GatewayOctet, TwoGateways, Beside, WrongMetric, is_conflict, is_said}
+use Rattle.mesh_wire.proofs.Common.{common_steps, ◌≡◌, ℕ, ◌≤◌, inl, inr, refl, ap, arith, Bool, true, List, Contains, lit≤, ◌||◌, ◌&&◌, Option, Some, None, nat_lt, slice_get, ltb-true, lt-ltb, and_parts as both, or_parts, or_cases, or_left, or_right, and_from as and_both, NetAddr, MessageFields, AddressParts, Octets, RowParts, has_wrong_type, has_wrong_gateway, has_wrong_metric, tc_tests, tc_rule, NBR_ADDR_TYPE, GATEWAY, HasValue, BreaksTc, AddressWidth, AddrType, TwoAddrTypes, ShortPrefix, GatewayOctet, TwoGateways, Beside, WrongMetric, is_conflict, is_said}
 use Rattle.mesh_wire.specs.declared.octets.OctetKind.TheVariants as kinds
 use Rattle.mesh_wire.proofs.FirstTest.{AtMost, given, passed, at_most_more}
 use Rattle.mesh_wire.proofs.Kept.{AreTold, says_has, no_value, none_read, said_found, type_said, two_found, two_said}
@@ -18,10 +18,10 @@ module _ (m : MessageFields) (net : NetAddr) (r : RowParts) (h : RowIs (HasValue
   distance = r.octets.gateway
 
   abbrev typed : List ℕ → Type 0
-  typed = HasValue m net nbr_addr_type
+  typed = HasValue m net NBR_ADDR_TYPE
 
   abbrev distant : List ℕ → Type 0
-  distant = HasValue m net gateway
+  distant = HasValue m net GATEWAY
 
   type_broken : has_wrong_type net.prefix r ≡ true → BreaksTc m 37 (Some net)
   type_broken e = elim (or_cases type.wrong (is_conflict type.one || (nat_lt net.prefix 32 && is_said type.one)) e) [
@@ -71,29 +71,29 @@ module _ (m : MessageFields) (rows : List AddressParts) (are : AreTold m rows) w
   of_said net type x said = at_row m rows are tc_rule net (says_has m net type x said)
 
   reaches : (k : ℕ) (a : Option NetAddr) → BreaksTc m k a → 37 ≤ k → Reaches tc_rule rows k a
-  reaches k a (AddrType net (x, said, bad)) e = of_said net nbr_addr_type x said 37 (λ t is h.
+  reaches k a (AddrType net (x, said, bad)) e = of_said net NBR_ADDR_TYPE x said 37 (λ t is h.
       wrong_type t (or_left _ _ ((h.octets kinds.AddrType).wrong.1 (x, said, none_read kinds.AddrType x bad))))
-  reaches k a (TwoAddrTypes net (x, y, said, said_y, d)) e = of_said net nbr_addr_type x said 37 (λ t is h.
-      wrong_type t (elim (two_found kinds.AddrType (HasValue m net nbr_addr_type) t.parts.octets.addr_type (h.octets kinds.AddrType) x y said said_y d) [
+  reaches k a (TwoAddrTypes net (x, y, said, said_y, d)) e = of_said net NBR_ADDR_TYPE x said 37 (λ t is h.
+      wrong_type t (elim (two_found kinds.AddrType (HasValue m net NBR_ADDR_TYPE) t.parts.octets.addr_type (h.octets kinds.AddrType) x y said said_y d) [
         | inl w ↦ or_left _ _ w
         | inr two ↦ or_right _ _ (or_left _ _ two)
       ]))
-  reaches k a (ShortPrefix net (x, said) lt) e = of_said net nbr_addr_type x said 37 (λ t is h.
-      wrong_type t (elim (said_found kinds.AddrType (HasValue m net nbr_addr_type) t.parts.octets.addr_type (h.octets kinds.AddrType) x said) [
+  reaches k a (ShortPrefix net (x, said) lt) e = of_said net NBR_ADDR_TYPE x said 37 (λ t is h.
+      wrong_type t (elim (said_found kinds.AddrType (HasValue m net NBR_ADDR_TYPE) t.parts.octets.addr_type (h.octets kinds.AddrType) x said) [
         | inl w ↦ or_left _ _ w
         | inr some ↦ let same : t.net.prefix ≡ net.prefix = ap (λ (n : NetAddr). n.prefix) is in or_right _ _ (or_right _ _ (and_both _ _ (lt-ltb t.net.prefix 32 (omega (arith, same, lt))) some))
       ]))
-  reaches k a (GatewayOctet net (x, said, other)) e = of_said net gateway x said 38 (λ t is h.
+  reaches k a (GatewayOctet net (x, said, other)) e = of_said net GATEWAY x said 38 (λ t is h.
       wrong_gateway t (or_left _ _ ((h.octets kinds.Gateway).wrong.1 (x, said, none_read kinds.Gateway x other))))
-  reaches k a (TwoGateways net (x, y, said, said_y, d)) e = of_said net gateway x said 38 (λ t is h.
-      wrong_gateway t (elim (two_found kinds.Gateway (HasValue m net gateway) t.parts.octets.gateway (h.octets kinds.Gateway) x y said said_y d) [
+  reaches k a (TwoGateways net (x, y, said, said_y, d)) e = of_said net GATEWAY x said 38 (λ t is h.
+      wrong_gateway t (elim (two_found kinds.Gateway (HasValue m net GATEWAY) t.parts.octets.gateway (h.octets kinds.Gateway) x y said said_y d) [
         | inl w ↦ or_left _ _ w
         | inr two ↦ or_right _ _ (or_left _ _ two)
       ]))
-  reaches k a (Beside net (x, said) (y, there)) e = of_said net gateway x said 38 (λ t is h.
-      elim (said_found kinds.AddrType (HasValue m net nbr_addr_type) t.parts.octets.addr_type (h.octets kinds.AddrType) y there) [
+  reaches k a (Beside net (x, said) (y, there)) e = of_said net GATEWAY x said 38 (λ t is h.
+      elim (said_found kinds.AddrType (HasValue m net NBR_ADDR_TYPE) t.parts.octets.addr_type (h.octets kinds.AddrType) y there) [
         | inl w ↦ at_most_more (tc_rule t) 37 38 (lit≤ tt) (wrong_type t (or_left _ _ w))
-        | inr typed ↦ wrong_gateway t (elim (said_found kinds.Gateway (HasValue m net gateway) t.parts.octets.gateway (h.octets kinds.Gateway) x said) [
+        | inr typed ↦ wrong_gateway t (elim (said_found kinds.Gateway (HasValue m net GATEWAY) t.parts.octets.gateway (h.octets kinds.Gateway) x said) [
           | inl w ↦ or_left _ _ w
           | inr some ↦ or_right _ _ (or_right _ _ (and_both _ _ some typed))
         ])

@@ -1,5 +1,5 @@
 -- Rules on addresses, by tests of what is kept: what the rules of a HELLO and of a TC have in common.
-use Rattle.mesh_wire.proofs.Common.{arith, common_steps, ◌≡◌, ℕ, inl, inr, refl, sym, ap, Bool, true, false, List, [], Contains, Decides, Option, Some, list_any, cases_Bool, or_parts, or_cases, or_left, or_right, NetAddr, Decides-some, contains_at, MessageFields, AddressParts, MetricParts, RowParts, metric_at, MetricKind, Link_in, Link_out, Near_in, Near_out, metric_kinds, ShowsMetric, HasWrongMetric, has_wrong_metric, HoldsAddress, HasValue, is_conflict}
+use Rattle.mesh_wire.proofs.Common.{arith, common_steps, ◌≡◌, ℕ, inl, inr, refl, sym, ap, Bool, true, false, List, Contains, Decides, Option, Some, list_any, cases_Bool, or_parts, or_cases, or_left, or_right, NetAddr, Decides-some, contains_at, MessageFields, AddressParts, MetricParts, RowParts, metric_at, MetricKind, Link_in, Link_out, Near_in, Near_out, metric_kinds, ShowsMetric, HasWrongMetric, has_wrong_metric, HoldsAddress, HasValue, is_conflict}
 use Rattle.mesh_wire.proofs.FirstTest.{AtMost}
 use Rattle.mesh_wire.proofs.Kept.{AreTold, told_of, says_has, differ_conflict, conflict_differ, metrics_told}
 use Rattle.mesh_wire.proofs.Ruled.{Reaches}

@@ -12,7 +12,7 @@ use Rattle.mesh_packet.specs.Fields.{MessageFields}
 use Rattle.mesh_packet.specs.Least.{LeastForm}
 use Rattle.mesh_tlv.specs.Fields.{TlvFields}
 use Rattle.mesh_wire.specs.declared.lines.AddressRecord.{AddressRecord}
-use Rattle.mesh_wire.specs.Kinds.{interval_time, validity_time, mpr_willing, cont_seq_num}
+use Rattle.mesh_atoms.specs.declared.tlv_type.TheConstants.{INTERVAL_TIME, VALIDITY_TIME, MPR_WILLING, CONT_SEQ_NUM}
 use Rattle.mesh_wire.specs.Lines.{columns, columns_text, hello_line, tc_line}
 use Rattle.mesh_wire.specs.Runs.{AreBlocks, host_octets}
 use Rattle.mesh_wire.specs.Writes.{alone}
@@ -52,8 +52,8 @@ saying kind ext octets = record { kind = kind; ext = ext; value = Some octets }
 -- the message TLVs: the validity, the first of the other octets as interval where there is one, and those behind it
 abbrev pub heading_of : List ℕ → List ℕ → Bool → ℕ → ℕ → List TlvFields
 heading_of validity values has_interval kind ext =
-    saying validity_time 0 validity
-    ∷ ((if has_interval then saying interval_time 0 (take 1 values) ∷ [] else []) ++ saying kind ext (drop 1 values) ∷ [])
+    saying VALIDITY_TIME 0 validity
+    ∷ ((if has_interval then saying INTERVAL_TIME 0 (take 1 values) ∷ [] else []) ++ saying kind ext (drop 1 values) ∷ [])
 
 -- the message of a HELLO
 pub record IsHelloMessage (hello : Hello) (lines : List AddressRecord) (values : List ℕ) (m : MessageFields) : Type 0 where
@@ -63,7 +63,7 @@ pub record IsHelloMessage (hello : Hello) (lines : List AddressRecord) (values :
   pub limit : m.limit ≡ None
   pub count : m.count ≡ None
   pub sequence : m.sequence ≡ None
-  pub tlvs : m.tlvs ≡ heading_of (take 1 values) (slice_range values 1 3) (is_some hello.interval) mpr_willing 0
+  pub tlvs : m.tlvs ≡ heading_of (take 1 values) (slice_range values 1 3) (is_some hello.interval) MPR_WILLING 0
   pub blocks : AreBlocks lines m.blocks
 
 -- the message of a TC
@@ -74,7 +74,7 @@ pub record IsTcMessage (tc : Tc) (hop_limit : ℕ) (validity : List ℕ) (lines 
   pub limit : m.limit ≡ Some hop_limit
   pub count : m.count ≡ Some 0
   pub sequence : m.sequence ≡ Some tc.sequence
-  pub tlvs : m.tlvs ≡ heading_of validity (take 3 values) (is_some tc.interval) cont_seq_num (if tc.complete then 0 else 1)
+  pub tlvs : m.tlvs ≡ heading_of validity (take 3 values) (is_some tc.interval) CONT_SEQ_NUM (if tc.complete then 0 else 1)
   pub blocks : AreBlocks lines m.blocks
 
 -- a message of the HELLO, with values that are laid for it

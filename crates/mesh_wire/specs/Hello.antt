@@ -13,7 +13,7 @@ use Rattle.mesh_atoms.specs.declared.hello.HelloRow.{HelloRow}
 use Rattle.mesh_atoms.specs.declared.hello.Hello.{Hello}
 use Rattle.mesh_atoms.specs.Writable.{IsAlone}
 use Rattle.mesh_atoms.specs.Octets.{address_in}
-use Rattle.mesh_wire.specs.Kinds.{mpr_willing, local_if, mpr}
+use Rattle.mesh_atoms.specs.declared.tlv_type.TheConstants.{MPR_WILLING, LOCAL_IF, MPR}
 use Rattle.mesh_wire.specs.declared.octets.OctetKind.{OctetKind}
 use Rattle.mesh_wire.specs.declared.octets.OctetKind.TheVariants as kinds
 use Rattle.mesh_addr.specs.declared.records.RawAddr.{RawAddr}
@@ -58,7 +58,7 @@ OriginatorIs (Some address) None = ⊥
 -- the octet of willingness: that of the one MPR_WILLING, or 7 and 7 without one (RFC 7181, section 13.3.1)
 abbrev pub HasWilling : MessageFields → ℕ → Type 0
 HasWilling message octet =
-    ((values_of mpr_willing message ≡ []) × (octet ≡ 119)) ⊎ (values_of mpr_willing message ≡ (octet ∷ []) ∷ [])
+    ((values_of MPR_WILLING message ≡ []) × (octet ≡ 119)) ⊎ (values_of MPR_WILLING message ≡ (octet ∷ []) ∷ [])
 
 -- how willing the sender is: for flooding by the high 4 bits, for routing by the low 4
 abbrev pub WillingIs : MessageFields → Willing → Type 0
@@ -68,12 +68,12 @@ WillingIs message willing = (octet : ℕ) × HasWilling message octet × (willin
 pub record TellsOther (message : MessageFields) (row : HelloRow) : Type 0 where
   pub status : (kind : OctetKind) → Contains statuses kind → OctetIs message row.addr (type_of kind) (row_octet row kind)
   pub metric : (kind : MetricKind) → MetricIs message row.addr kind (metric_of kind row.metrics)
-  pub flooding : IsTrue row.mpr.flooding ↔ SaysFlag message row.addr mpr 1
-  pub routing : IsTrue row.mpr.routing ↔ SaysFlag message row.addr mpr 2
+  pub flooding : IsTrue row.mpr.flooding ↔ SaysFlag message row.addr MPR 1
+  pub routing : IsTrue row.mpr.routing ↔ SaysFlag message row.addr MPR 2
 
 -- the row says of its address what the message does; of an address of the sender's it says no more than that
 pub record IsReadHelloRow (message : MessageFields) (row : HelloRow) : Type 0 where
-  pub local : OctetIs message row.addr local_if (option_map local_value row.local)
+  pub local : OctetIs message row.addr LOCAL_IF (option_map local_value row.local)
   pub of_other : row.local ≡ None → TellsOther message row
   pub of_sender : IsSome row.local → IsAlone row
 

@@ -3,7 +3,7 @@ use Rattle.std.specs.Prelude.{ℕ, List, [], ◌∷◌, length, Option, Some, No
 use Rattle.std.specs.Option.{is_none}
 use Rattle.mesh_atoms.specs.declared.codes.metric.Metric.{Metric}
 use Rattle.mesh_atoms.specs.Reading.{has}
-use Rattle.mesh_wire.specs.Kinds.{link_metric}
+use Rattle.mesh_atoms.specs.declared.tlv_type.TheConstants.{LINK_METRIC}
 use Rattle.mesh_wire.specs.declared.singles.Single.{Single}
 use Rattle.mesh_wire.specs.declared.singles.Single.TheVariants.{Absent}
 use Rattle.mesh_wire.specs.declared.octets.OctetKind.{OctetKind}
@@ -93,5 +93,5 @@ no_parts = record {
 abbrev pub take_part : ℕ → List ℕ → RowParts → RowParts
 take_part type octets r = record {
   octets = take_octets type octets r.octets;
-  metrics = if type == link_metric then metrics_also octets r.metrics else r.metrics;
+  metrics = if type == LINK_METRIC then metrics_also octets r.metrics else r.metrics;
 }

@@ -11,7 +11,6 @@ pub mod HelloHeading
 pub mod HelloRows
 pub mod HelloRules
 pub mod KeptParts
-pub mod Kinds
 pub mod Laws
 pub mod Lines
 pub mod Made

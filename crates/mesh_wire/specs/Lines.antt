@@ -6,7 +6,7 @@ use Rattle.mesh_atoms.specs.declared.hello.HelloRow.{HelloRow}
 use Rattle.mesh_atoms.specs.declared.codes.metric.Metric.{Metric}
 use Rattle.mesh_atoms.specs.declared.tc.TcRow.{TcRow}
 use Rattle.mesh_wire.specs.Hello.{row_octet}
-use Rattle.mesh_wire.specs.Kinds.{link_metric}
+use Rattle.mesh_atoms.specs.declared.tlv_type.TheConstants.{LINK_METRIC}
 use Rattle.mesh_wire.specs.declared.lines.AddressTlvKind.{AddressTlvKind}
 use Rattle.mesh_wire.specs.declared.lines.AddressTlvKind.TheVariants.{Octet, LinkIn, LinkOut, NearIn, NearOut}
 use Rattle.mesh_wire.specs.declared.lines.AddressRecord.{AddressRecord}
@@ -15,7 +15,7 @@ use Rattle.mesh_wire.specs.OctetKinds.{kinds, type_of, at, by_kind, flags_number
 -- the type of TLV
 abbrev pub kind_of : AddressTlvKind → ℕ
 kind_of (Octet kind) = type_of kind
-kind_of metric = link_metric
+kind_of metric = LINK_METRIC
 
 -- whether a value has two octets, as that of a metric, and not one
 abbrev pub is_wide : AddressTlvKind → Bool

@@ -6,7 +6,7 @@ use Rattle.mesh_atoms.specs.declared.addr.NetAddr.{NetAddr}
 use Rattle.mesh_atoms.specs.declared.codes.metric.Metric.{Metric}
 use Rattle.mesh_atoms.specs.declared.hello.Metrics.{Metrics}
 use Rattle.mesh_atoms.specs.Reading.{has}
-use Rattle.mesh_wire.specs.Kinds.{link_metric}
+use Rattle.mesh_atoms.specs.declared.tlv_type.TheConstants.{LINK_METRIC}
 use Rattle.mesh_packet.specs.Fields.{MessageFields}
 use Rattle.mesh_wire.specs.Rows.{HasValue, HasOtherLength}
 
@@ -42,7 +42,7 @@ metric_of Near_out m = m.near_out
 -- a LINK_METRIC shows that metric of the address: of two octets, four flags for its kinds and 12 bits
 abbrev pub ShowsMetric : MessageFields → NetAddr → MetricKind → Metric → Type 0
 ShowsMetric message net kind metric =
-    (high : ℕ) × (low : ℕ) × HasValue message net link_metric (high ∷ low ∷ []) × (has high (flag_of kind) ≡ true) × (metric ≡ metric_in high low)
+    (high : ℕ) × (low : ℕ) × HasValue message net LINK_METRIC (high ∷ low ∷ []) × (has high (flag_of kind) ≡ true) × (metric ≡ metric_in high low)
 
 -- the metric of that kind that is shown of the address, or that none is
 abbrev pub MetricIs : MessageFields → NetAddr → MetricKind → Option Metric → Type 0
@@ -56,4 +56,4 @@ HasTwoMetrics message net =
 
 -- a LINK_METRIC that isn't of two octets, or two metrics of one kind
 abbrev pub HasWrongMetric : MessageFields → NetAddr → Type 0
-HasWrongMetric message net = HasOtherLength message net link_metric 2 ⊎ HasTwoMetrics message net
+HasWrongMetric message net = HasOtherLength message net LINK_METRIC 2 ⊎ HasTwoMetrics message net

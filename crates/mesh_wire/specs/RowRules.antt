@@ -9,6 +9,8 @@ use Rattle.mesh_wire.specs.declared.octets.OctetKind.{OctetKind}
 use Rattle.mesh_wire.specs.declared.octets.ByKind.{ByKind}
 use Rattle.mesh_wire.specs.declared.octets.Octets.{Octets}
 use Rattle.mesh_wire.specs.declared.parts.RowParts.{RowParts}
+use Rattle.mesh_wire.specs.declared.rows.TypedKind.{TypedKind}
+use Rattle.mesh_wire.specs.declared.rows.TypedKind.TheVariants as typed
 use Rattle.mesh_wire.specs.KeptParts.{metric_at}
 use Rattle.mesh_wire.specs.Metrics.{MetricKind, metric_kinds}
 use Rattle.mesh_wire.specs.OctetKinds.{statuses, at}
@@ -65,6 +67,11 @@ tc_tests t =
 
 abbrev pub tc_rule : AddressParts → Option ℕ
 tc_rule t = first_passed (tc_tests t)
+
+-- the same of a message of that type
+abbrev pub rule_of : TypedKind → AddressParts → Option ℕ
+rule_of typed.Hello = hello_rule
+rule_of typed.Tc = tc_rule
 
 -- the rule and the address that were found, or those of a later row, where its rule has a lower number
 abbrev pub sooner : Option (ℕ × NetAddr) → Option ℕ → NetAddr → Option (ℕ × NetAddr)

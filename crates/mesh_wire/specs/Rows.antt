@@ -60,7 +60,3 @@ pub record AreRows {Row : Type 0} (message : MessageFields) (addr_of : Row → N
   pub ascending : AllPairs (λ a b. IsBefore (addr_of a) (addr_of b)) rows
   pub each : (row : Row) → Contains rows row → HoldsAddress message (addr_of row) × IsRow row
   pub all : (net : NetAddr) → HoldsAddress message net → (row : Row) × Contains rows row × (addr_of row ≡ net)
-
--- the message has so many rows, and each is true
-abbrev pub HasRowCount : {Row : Type 0} → MessageFields → (Row → NetAddr) → (Row → Type 0) → ℕ → Type 0
-HasRowCount {Row} message addr_of IsRow count = (rows : List Row) × AreRows message addr_of IsRow rows × (count ≡ length rows)

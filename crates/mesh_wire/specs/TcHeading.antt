@@ -6,23 +6,23 @@ use Rattle.mesh_packet.specs.Fields.{MessageFields}
 use Rattle.mesh_wire.specs.declared.collect.AddressParts.{AddressParts}
 use Rattle.mesh_wire.specs.declared.tc.TcHeader.{TcHeader}
 use Rattle.mesh_wire.specs.Hello.{OriginatorIs}
-use Rattle.mesh_wire.specs.Kinds.{cont_seq_num}
+use Rattle.mesh_atoms.specs.declared.tlv_type.TheConstants.{CONT_SEQ_NUM}
 use Rattle.mesh_wire.specs.Singles.{value_from}
 use Rattle.mesh_wire.specs.Tc.{ContentIs}
 use Rattle.mesh_wire.specs.Times.{distance_of, ValidityIs, IntervalIs}
 
 -- the TLVs CONT_SEQ_NUM of extension 0 or 1
 abbrev pub contents_in : List TlvFields → List TlvFields
-contents_in tlvs = filter (λ (p : TlvFields). p.kind == cont_seq_num && nat_lt p.ext 2) tlvs
+contents_in tlvs = filter (λ (p : TlvFields). p.kind == CONT_SEQ_NUM && nat_lt p.ext 2) tlvs
 
 -- no rule on it is broken, and it says this
-pub record TcHeadingIs (message : MessageFields) (heading : TcHeader) : Type 0 where
+pub record TcHeaderIs (message : MessageFields) (header : TcHeader) : Type 0 where
   pub width : message.width ≡ 4
-  pub originator : OriginatorIs message.originator (Some heading.originator)
-  pub sequence : message.sequence ≡ Some heading.sequence
-  pub validity : ValidityIs message (distance_of message.count) heading.validity
-  pub interval : IntervalIs message (distance_of message.count) heading.interval
-  pub content : ContentIs message heading.ansn heading.complete
+  pub originator : OriginatorIs message.originator (Some header.originator)
+  pub sequence : message.sequence ≡ Some header.sequence
+  pub validity : ValidityIs message (distance_of message.count) header.validity
+  pub interval : IntervalIs message (distance_of message.count) header.interval
+  pub content : ContentIs message header.content.ansn header.content.complete
 
 -- the row of what is kept of an address
 abbrev pub tc_row : AddressParts → TcRow

@@ -3,7 +3,7 @@ use Rattle.std.specs.Prelude.{◌≡◌, ℕ, ◌<◌, ◌≢◌, Option, Some, 
 use Rattle.mesh_atoms.specs.declared.addr.NetAddr.{NetAddr}
 use Rattle.mesh_atoms.specs.declared.tc_rule.TheConstants as rule
 use Rattle.mesh_wire.specs.declared.octets.OctetKind.TheVariants as kinds
-use Rattle.mesh_wire.specs.Kinds.{nbr_addr_type, gateway}
+use Rattle.mesh_atoms.specs.declared.tlv_type.TheConstants.{NBR_ADDR_TYPE, GATEWAY}
 use Rattle.mesh_packet.specs.Fields.{MessageFields}
 use Rattle.mesh_wire.specs.Metrics.{HasWrongMetric}
 use Rattle.mesh_wire.specs.Rows.{HasType, HasTwoValues}
@@ -25,11 +25,11 @@ pub data BreaksTc (message : MessageFields) : ℕ → Option NetAddr → Type 0 
   Content : ((ansn : ℕ) (complete : Bool) → ContentIs message ansn complete → ⊥) → BreaksTc message rule.CONTENT None
   -- NBR_ADDR_TYPE is one octet of 1 to 3, one value on each address, on whole addresses
   AddrType : (net : NetAddr) → HasUndefined message net kinds.AddrType → BreaksTc message rule.ADDR_TYPE (Some net)
-  TwoAddrTypes : (net : NetAddr) → HasTwoValues message net nbr_addr_type → BreaksTc message rule.ADDR_TYPE (Some net)
-  ShortPrefix : (net : NetAddr) → HasType message net nbr_addr_type → net.prefix < 32 → BreaksTc message rule.ADDR_TYPE (Some net)
+  TwoAddrTypes : (net : NetAddr) → HasTwoValues message net NBR_ADDR_TYPE → BreaksTc message rule.ADDR_TYPE (Some net)
+  ShortPrefix : (net : NetAddr) → HasType message net NBR_ADDR_TYPE → net.prefix < 32 → BreaksTc message rule.ADDR_TYPE (Some net)
   -- GATEWAY is one octet, one value on each address, and not beside NBR_ADDR_TYPE
   GatewayOctet : (net : NetAddr) → HasUndefined message net kinds.Gateway → BreaksTc message rule.GATEWAY (Some net)
-  TwoGateways : (net : NetAddr) → HasTwoValues message net gateway → BreaksTc message rule.GATEWAY (Some net)
-  Beside : (net : NetAddr) → HasType message net gateway → HasType message net nbr_addr_type → BreaksTc message rule.GATEWAY (Some net)
+  TwoGateways : (net : NetAddr) → HasTwoValues message net GATEWAY → BreaksTc message rule.GATEWAY (Some net)
+  Beside : (net : NetAddr) → HasType message net GATEWAY → HasType message net NBR_ADDR_TYPE → BreaksTc message rule.GATEWAY (Some net)
   -- metrics of two octets, with one code of each kind on an address
   WrongMetric : (net : NetAddr) → HasWrongMetric message net → BreaksTc message rule.METRIC (Some net)

@@ -1,7 +1,7 @@
 -- The times that a message tells at a distance (RFC 5497, section 7).
 use Rattle.std.specs.Prelude.{◌≡◌, ℕ, ◌+◌, ◌%◌, ◌<◌, List, [], ◌∷◌, length, Option, Some, None}
 use Rattle.mesh_atoms.specs.Codes.Codes.{time_at_distance}
-use Rattle.mesh_wire.specs.Kinds.{interval_time, validity_time}
+use Rattle.mesh_atoms.specs.declared.tlv_type.TheConstants.{INTERVAL_TIME, VALIDITY_TIME}
 use Rattle.mesh_packet.specs.Fields.{MessageFields}
 use Rattle.mesh_wire.specs.Parts.{values_of}
 
@@ -17,9 +17,9 @@ HasTime message kind distance ticks =
 
 -- the validity: a time above 0
 abbrev pub ValidityIs : MessageFields → ℕ → ℕ → Type 0
-ValidityIs message distance ticks = HasTime message validity_time distance ticks × (0 < ticks)
+ValidityIs message distance ticks = HasTime message VALIDITY_TIME distance ticks × (0 < ticks)
 
 -- the interval, which may be left out
 abbrev pub IntervalIs : MessageFields → ℕ → Option ℕ → Type 0
-IntervalIs message distance (Some ticks) = HasTime message interval_time distance ticks
-IntervalIs message distance None = values_of interval_time message ≡ []
+IntervalIs message distance (Some ticks) = HasTime message INTERVAL_TIME distance ticks
+IntervalIs message distance None = values_of INTERVAL_TIME message ≡ []

@@ -14,7 +14,7 @@ use Rattle.mesh_tlv.specs.Fields.{TlvFields}
 use Rattle.mesh_tlv.specs.Items.{SpellsItems}
 use Rattle.mesh_wire.specs.Hello.{HelloIs}
 use Rattle.mesh_wire.specs.HelloRules.{BreaksHello}
-use Rattle.mesh_wire.specs.Kinds.{interval_time, validity_time, mpr_willing, cont_seq_num, local_if, link_metric, mpr, nbr_addr_type, gateway}
+use Rattle.mesh_atoms.specs.declared.tlv_type.TheConstants.{INTERVAL_TIME, VALIDITY_TIME, MPR_WILLING, CONT_SEQ_NUM, LOCAL_IF, LINK_METRIC, MPR, NBR_ADDR_TYPE, GATEWAY}
 use Rattle.mesh_wire.specs.Metrics.{MetricKind, Near_out, flag_of}
 use Rattle.mesh_wire.specs.declared.octets.OctetKind.TheVariants.{Mpr}
 use Rattle.mesh_wire.specs.OctetKinds.{IsStatusType, IsOctetOf}
@@ -50,7 +50,7 @@ pub record IsSoleMessage (message : MessageFields) (bytes : List ℕ) : Type 0 w
 
 -- a reading of a HELLO looks at the message TLV
 pub record IsReadOfHello (tlv : TlvFields) : Type 0 where
-  pub kind : (tlv.kind ≡ validity_time) ⊎ ((tlv.kind ≡ interval_time) ⊎ (tlv.kind ≡ mpr_willing))
+  pub kind : (tlv.kind ≡ VALIDITY_TIME) ⊎ ((tlv.kind ≡ INTERVAL_TIME) ⊎ (tlv.kind ≡ MPR_WILLING))
   pub ext : tlv.ext ≡ 0
 
 -- a LINK_METRIC has the flag of that kind
@@ -60,11 +60,11 @@ HasFlag kind octets = (high : ℕ) × (low : ℕ) × (octets ≡ high ∷ low �
 -- a reading of a HELLO looks at what is said of an address that isn't the sender's
 abbrev pub IsReadOfOther : ℕ → List ℕ → Type 0
 IsReadOfOther kind octets =
-    IsStatusType kind ⊎ (((kind ≡ mpr) × IsOctetOf Mpr octets) ⊎ ((kind ≡ link_metric) × ((metric : MetricKind) × HasFlag metric octets)))
+    IsStatusType kind ⊎ (((kind ≡ MPR) × IsOctetOf Mpr octets) ⊎ ((kind ≡ LINK_METRIC) × ((metric : MetricKind) × HasFlag metric octets)))
 
 -- a reading of a HELLO looks at what an address TLV says of an address; of an address of the sender's only at LOCAL_IF
 pub record IsReadOfHelloAddress (message : MessageFields) (net : NetAddr) (part : TlvFields) : Type 0 where
-  pub kind : (part.kind ≡ local_if) ⊎ ((HasType message net local_if → ⊥) × IsReadOfOther part.kind (octets_of part.value))
+  pub kind : (part.kind ≡ LOCAL_IF) ⊎ ((HasType message net LOCAL_IF → ⊥) × IsReadOfOther part.kind (octets_of part.value))
   pub ext : part.ext ≡ 0
 
 -- The octets are a packet of one message alone, which reads as the HELLO, breaks no rule, and has nothing that the reading
@@ -84,11 +84,11 @@ pub record WritesHello (hello : Hello) (bytes : List ℕ) : Type 0 where
 -- a reading of a TC looks at the message TLV
 abbrev pub IsReadOfTc : TlvFields → Type 0
 IsReadOfTc tlv =
-    (((tlv.kind ≡ validity_time) ⊎ (tlv.kind ≡ interval_time)) × (tlv.ext ≡ 0)) ⊎ ((tlv.kind ≡ cont_seq_num) × (tlv.ext ≤ 1))
+    (((tlv.kind ≡ VALIDITY_TIME) ⊎ (tlv.kind ≡ INTERVAL_TIME)) × (tlv.ext ≡ 0)) ⊎ ((tlv.kind ≡ CONT_SEQ_NUM) × (tlv.ext ≤ 1))
 
 -- a reading of a TC looks at what an address TLV says of an address
 pub record IsReadOfTcAddress (part : TlvFields) : Type 0 where
-  pub kind : (part.kind ≡ nbr_addr_type) ⊎ ((part.kind ≡ gateway) ⊎ ((part.kind ≡ link_metric) × HasFlag Near_out (octets_of part.value)))
+  pub kind : (part.kind ≡ NBR_ADDR_TYPE) ⊎ ((part.kind ≡ GATEWAY) ⊎ ((part.kind ≡ LINK_METRIC) × HasFlag Near_out (octets_of part.value)))
   pub ext : part.ext ≡ 0
 
 -- The octets are a packet of one message alone with that hop limit and that value of VALIDITY_TIME, which has come no hop, reads as
@@ -100,7 +100,7 @@ pub record WritesTc (tc : Tc) (hop_limit : ℕ) (validity : List ℕ) (bytes : L
   pub limit : message.limit ≡ Some hop_limit
   pub count : message.count ≡ Some 0
   pub reads : TcIs message tc
-  pub validity_is : values_of validity_time message ≡ validity ∷ []
+  pub validity_is : values_of VALIDITY_TIME message ≡ validity ∷ []
   pub keeps : Keeps (BreaksTc message)
   pub tlvs : (tlv : TlvFields) → Contains message.tlvs tlv → IsReadOfTc tlv
   pub parts : (net : NetAddr) (part : TlvFields) → HasPart message net part → IsReadOfTcAddress part
@@ -113,13 +113,13 @@ HasCode message kind ticks = (code : ℕ) × (values_of kind message ≡ (code �
 
 -- such a TLV of the interval, where there is one
 abbrev pub HasInterval : MessageFields → Option ℕ → Type 0
-HasInterval message interval = (ticks : ℕ) → interval ≡ Some ticks → HasCode message interval_time ticks
+HasInterval message interval = (ticks : ℕ) → interval ≡ Some ticks → HasCode message INTERVAL_TIME ticks
 
 -- the octets may be sent for the HELLO, and are the least form of their packet; each time is one code
 pub record WritesLeastHello (hello : Hello) (bytes : List ℕ) : Type 0 where
   pub writes : WritesHello hello bytes
   pub least : LeastForm (alone writes.message) bytes
-  pub validity_is : HasCode writes.message validity_time hello.validity
+  pub validity_is : HasCode writes.message VALIDITY_TIME hello.validity
   pub interval_is : HasInterval writes.message hello.interval
 
 -- the octets may be sent for the TC, and are the least form of their packet; the interval is one code
@@ -130,18 +130,10 @@ pub record WritesLeastTc (tc : Tc) (hop_limit : ℕ) (validity : List ℕ) (byte
 
 -- ---- what is read of it
 
--- whatever the octets spell is a packet of one message, which as a HELLO reads as this one only
-pub record ReadsBackHello (hello : Hello) (packet : PacketFields) : Type 0 where
+-- whatever the octets spell is a packet of one message of that type, which reads as this value only
+pub record ReadsBack {X : Type 0} (kind : ℕ) (Is : MessageFields → X → Type 0) (Breaks : MessageFields → ℕ → Option NetAddr → Type 0) (value : X) (packet : PacketFields) : Type 0 where
   pub message : MessageFields
   pub one : packet.messages ≡ message ∷ []
-  pub kind : message.kind ≡ 0
-  pub keeps : Keeps (BreaksHello message)
-  pub same : (other : Hello) → HelloIs message other → other ≡ hello
-
--- whatever the octets spell is a packet of one message, which as a TC reads as this one only
-pub record ReadsBackTc (tc : Tc) (packet : PacketFields) : Type 0 where
-  pub message : MessageFields
-  pub one : packet.messages ≡ message ∷ []
-  pub kind : message.kind ≡ 1
-  pub keeps : Keeps (BreaksTc message)
-  pub same : (other : Tc) → TcIs message other → other ≡ tc
+  pub of_type : message.kind ≡ kind
+  pub keeps : Keeps (Breaks message)
+  pub same : (other : X) → Is message other → other ≡ value

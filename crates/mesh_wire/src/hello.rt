@@ -1,35 +1,33 @@
 //! HELLO messages read as typed values (RFC 6130, section 10, and RFC 7181, section 15).
-ghost use Rattle.std.specs.Prelude.{◌≡◌, ◌↔◌, ◌<◌, ◌/◌, ◌%◌, ◌^◌, ℕ, Option, map, IsTrue, IfOk, IfErr, Some, None};
+ghost use Rattle.std.specs.Prelude.{◌≡◌, ◌↔◌, ◌<◌, ◌/◌, ◌%◌, ◌^◌, IsTrue, IfOk, IfErr, None};
 ghost use Rattle.std.specs.Option.{option_map};
-ghost use Rattle.mesh_atoms.specs.declared.addr.NetAddr.{NetAddr};
-ghost use Rattle.mesh_atoms.specs.declared.hello.Hello.{Hello};
 ghost use Rattle.mesh_packet.specs.Fields.{fields_of_message};
-ghost use Rattle.mesh_wire.specs.Answers.{IfBroken, GivesValue, RefusesAt};
+ghost use Rattle.mesh_wire.specs.Answers.{ReadsOrRefuses};
 ghost use Rattle.mesh_wire.specs.Hello.{OriginatorIs, HelloIs};
-ghost use Rattle.mesh_wire.specs.HelloHeading.{IsOther, HeadingIs};
+ghost use Rattle.mesh_wire.specs.HelloHeading.{IsOther, HelloHeaderIs};
 ghost use Rattle.mesh_wire.specs.HelloRows.{local_from, link_from, other_from, sender_row, row_with};
 ghost use Rattle.mesh_wire.specs.HelloRules.{BreaksHello};
-ghost use Rattle.mesh_wire.specs.Rules.{Keeps, FirstBroken};
+ghost use Rattle.mesh_wire.specs.Rules.{FirstBroken};
 ghost use Rattle.mesh_wire.specs.Singles.{value_from};
 
 use crate::collect::AddressParts;
 use crate::fault::WireFault;
-use crate::rows::{Row, rows_in};
+use crate::rows::{Row, TypedKind, kept_of, rows_of};
 use crate::singles::Single;
 use crate::times;
 use mesh_atoms::{
-    Addr4, Hello, HelloRow, LinkStatus, LocalIf, Metrics, Mpr, NetAddr, OtherStatus, Seq, Willing,
+    Addr4, Hello, HelloRow, LinkStatus, LocalIf, Metrics, Mpr, NetAddr, OtherStatus, Willing,
     address_in, hello_rule,
 };
 use mesh_packet::Message;
 use std::alloc::Global;
 
-/// What a HELLO says before its rows.
+/// What a HELLO says before its rows, but for its originator. Times are in ticks.
 #[derive(Clone, Copy)]
-pub(crate) struct HelloHeader {
+pub struct HelloHeader {
     pub validity: u64,
     pub interval: Option<u64>,
-    pub willing: u8,
+    pub willing: Willing,
 }
 
 // Whether a number is there that isn't the wanted one.
@@ -42,10 +40,21 @@ fn is_other(value: Option<u8>, wanted: u8) -> bool
     }
 }
 
-// What the message says before its rows, or the first rule on it that is broken.
-fn heading_of(message: &Message) -> Result<HelloHeader, u8>
-    ensures heading { IfOk result (HeadingIs (fields_of_message message.now)) }
-    ensures bounded { IfOk result (λ heading. heading.validity < 2 ^ 35) }
+// How willing a sender is, by the octet of MPR_WILLING.
+fn willing_of(octet: u8) -> Willing
+    ensures flooding { result.flooding ≡ octet / 16 }
+    ensures routing { result.routing ≡ octet % 16 }
+{
+    Willing {
+        flooding: octet / 16,
+        routing: octet % 16,
+    }
+}
+
+/// What the message says before its rows, or the first rule on it that is broken.
+pub(crate) fn header_of(message: &Message) -> Result<HelloHeader, u8>
+    ensures header { IfOk result (HelloHeaderIs (fields_of_message message.now)) }
+    ensures bounded { IfOk result (λ header. header.validity < 2 ^ 35) }
     ensures broken { IfErr result (λ number. FirstBroken (BreaksHello (fields_of_message message.now)) number None) }
 {
     if message.width != 4 {
@@ -69,7 +78,7 @@ fn heading_of(message: &Message) -> Result<HelloHeader, u8>
     Ok(HelloHeader {
         validity,
         interval,
-        willing,
+        willing: willing_of(willing),
     })
 }
 
@@ -154,38 +163,13 @@ fn row_with(told: &AddressParts, local: Option<LocalIf>) -> HelloRow
 }
 
 impl Row for HelloRow {
-    ghost use Rattle.std.specs.Prelude.{◌<◌, ◌^◌};
-    ghost use Rattle.mesh_wire.specs.Hello.{IsReadHelloRow};
-    ghost use Rattle.mesh_wire.specs.HelloHeading.{HeadingIs};
     ghost use Rattle.mesh_wire.specs.HelloRows.{hello_row};
-    ghost use Rattle.mesh_wire.specs.HelloRules.{BreaksHello};
-    ghost use Rattle.mesh_wire.specs.RowRules.{hello_rule};
-
-    type Heading = HelloHeader;
 
     ghost row_of = { hello_row };
-
-    ghost rule = { hello_rule };
-
-    ghost addr_of = { λ row. row.addr };
-
-    ghost is_read = { IsReadHelloRow };
-
-    ghost is_heading = { λ m heading. HeadingIs m heading × (heading.validity < 2 ^ 35) };
-
-    ghost breaks = { BreaksHello };
 
     // The row of what is kept of an address.
     fn of_told(told: &AddressParts) -> HelloRow {
         row_with(told, local_from(told.parts.octets.local.one))
-    }
-
-    fn rule_of(told: &AddressParts) -> Option<u8> {
-        told.hello_rule()
-    }
-
-    fn heading_of(message: &Message) -> Result<HelloHeader, u8> {
-        heading_of(message)
     }
 }
 
@@ -200,54 +184,22 @@ pub fn originator_of(message: &Message) -> Option<Addr4>
     }
 }
 
-/// How willing a sender is, by the octet of MPR_WILLING.
-pub(crate) fn willing_of(octet: u8) -> Willing
-    ensures flooding { result.flooding ≡ octet / 16 }
-    ensures routing { result.routing ≡ octet % 16 }
-{
-    Willing {
-        flooding: octet / 16,
-        routing: octet % 16,
-    }
-}
-
-// The HELLO, or the first rule that is broken.
-fn read_hello(alloc: Global, message: &Message) -> Result<Hello, WireFault>
-    ensures reads { IfOk result (HelloIs (fields_of_message message.now)) }
-    ensures keeps { IfOk result (λ hello. Keeps (BreaksHello (fields_of_message message.now))) }
-    ensures bounded { IfOk result (λ hello. hello.validity < 2 ^ 35) }
-    ensures broken { IfErr result (IfBroken (FirstBroken (BreaksHello (fields_of_message message.now)))) }
-{
-    let (heading, rows) = rows_in::<HelloRow>(alloc, message)?;
-    Ok(Hello {
-        originator: originator_of(message),
-        validity: heading.validity,
-        interval: heading.interval,
-        willing: willing_of(heading.willing),
-        rows,
-    })
-}
-
 /// Reads a message of type HELLO (RFC 6130, section 10, and RFC 7181, section 15). TLVs with an extension, of other types, and
 /// MPR values other than 1, 2 and 3 are ignored. The rows are the distinct addresses of the message, each with all that the
 /// TLVs over it say, in ascending order. Where rules are broken, the fault is the one of least number, with the least
 /// address that breaks it where the rule is about addresses; else an allocation failure is the only fault.
 pub fn hello_of(alloc: Global, message: &Message) -> Result<Hello, WireFault>
     requires kind { message.now.kind ≡ 0 }
-    // What is read is what the message says.
-    ensures reads { IfOk result (HelloIs (fields_of_message message.now)) }
-    // It breaks no rule.
-    ensures keeps { IfOk result (λ hello. Keeps (BreaksHello (fields_of_message message.now))) }
+    ensures reads { ReadsOrRefuses (HelloIs (fields_of_message message.now)) (BreaksHello (fields_of_message message.now)) result }
     ensures bounded { IfOk result (λ hello. hello.validity < 2 ^ 35) }
-    // Else the fault is the first rule that is broken, at the least address.
-    ensures broken { IfErr result (IfBroken (FirstBroken (BreaksHello (fields_of_message message.now)))) }
-
-    // A message that says a HELLO and breaks no rule is read as that.
-    ensures only { (hello : Hello) → Keeps (BreaksHello (fields_of_message message.now))
-        → HelloIs (fields_of_message message.now) hello → GivesValue hello result }
-    // A message that breaks rules is refused by the first.
-    ensures first { (number : ℕ) (addr : Option NetAddr)
-        → FirstBroken (BreaksHello (fields_of_message message.now)) number addr → RefusesAt number addr result }
 {
-    read_hello(alloc, message)
+    let (header, told) = kept_of(alloc, message, header_of(message), TypedKind::Hello)?;
+    let rows = rows_of::<HelloRow>(alloc, told.as_slice())?;
+    Ok(Hello {
+        originator: originator_of(message),
+        validity: header.validity,
+        interval: header.interval,
+        willing: header.willing,
+        rows,
+    })
 }

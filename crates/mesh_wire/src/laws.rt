@@ -4,7 +4,7 @@ ghost use Rattle.mesh_wire.specs.Laws.{ReadsAsOneHello, ReadsAsOneTc, BreaksOneH
 ghost use Rattle.mesh_wire.specs.Examples.{lone, lone_hello, bare, two_near, near_net, odd_types, own_net};
 ghost use Rattle.mesh_wire.specs.Hello.{HelloIs};
 ghost use Rattle.mesh_wire.specs.HelloRules.{BreaksHello};
-ghost use Rattle.mesh_wire.specs.Kinds.{link_status};
+ghost use Rattle.mesh_atoms.specs.declared.tlv_type.TheConstants.{LINK_STATUS};
 ghost use Rattle.mesh_wire.specs.Rows.{HasValue};
 ghost use Rattle.mesh_wire.specs.Rules.{Keeps, FirstBroken};
 ghost use Rattle.mesh_wire.specs.Spellings.{wordy, too_wordy, IsForNone, IsSentForNone, unknown_tlv, with_near, status_of_sender};
@@ -39,7 +39,7 @@ pub fn worked_readings()
     ensures lone { HelloIs lone lone_hello }
     ensures lone_keeps { Keeps (BreaksHello lone) }
     ensures bare { FirstBroken (BreaksHello bare) 23 None }
-    ensures multivalue { HasValue two_near near_net link_status (2 ∷ []) }
+    ensures multivalue { HasValue two_near near_net LINK_STATUS (2 ∷ []) }
     ensures least { FirstBroken (BreaksTc odd_types) 37 (Some own_net) }
 {}
 

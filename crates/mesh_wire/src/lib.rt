@@ -21,14 +21,15 @@ mod write;
 
 pub use collect::{net_of, part_of, value_of};
 pub use fault::WireFault;
-pub use hello::{hello_of, originator_of};
+pub use hello::{HelloHeader, hello_of, originator_of};
 pub use hop::rehop;
 pub use laws::{
     each_is_read_or_refused, one_reading, worked_readings, worked_spellings,
     written_for_each_distance,
 };
 pub use octets::is_status_type;
-pub use summary::{HelloSummary, TcSummary, hello_summary, tc_summary};
-pub use tc::tc_of;
+pub use rows::Summary;
+pub use summary::{hello_summary, tc_summary};
+pub use tc::{TcContent, TcHeader, tc_of};
 pub use times::only_value;
 pub use write::{write_hello, write_tc};

@@ -11,8 +11,12 @@ ghost use Rattle.mesh_packet.specs.Fields.{fields_of_message, fields_of_packet, 
 ghost use Rattle.mesh_packet.specs.Grammar.{Spells};
 ghost use Rattle.mesh_packet.specs.Least.{IsEncodable, IsEncodableMessage, LeastForm};
 ghost use Rattle.mesh_wire.specs.Drafts.{IsCodeOf, IsCodeIfSome, octet_of, whole, HasHelloValues, HasTcValues, saying, heading_of, DraftsHello, DraftsTc, FitsAlone};
+ghost use Rattle.mesh_wire.specs.Hello.{HelloIs};
+ghost use Rattle.mesh_wire.specs.HelloRules.{BreaksHello};
 ghost use Rattle.mesh_wire.specs.Lines.{columns, columns_text, hello_line, tc_line};
-ghost use Rattle.mesh_wire.specs.Writes.{IsSoleMessage, WritesHello, WritesTc, WritesLeastHello, WritesLeastTc, alone, ReadsBackHello, ReadsBackTc};
+ghost use Rattle.mesh_wire.specs.Tc.{TcIs};
+ghost use Rattle.mesh_wire.specs.TcRules.{BreaksTc};
+ghost use Rattle.mesh_wire.specs.Writes.{IsSoleMessage, WritesHello, WritesTc, WritesLeastHello, WritesLeastTc, alone, ReadsBack};
 
 use crate::lay::lay;
 use crate::lines::{AddressRecord, hello_lines, tc_lines};
@@ -269,7 +273,7 @@ pub fn write_hello(alloc: Global, hello: &Hello) -> Result<Bytes, AllocError>
     ensures writes { IfOk result (WritesHello hello.now) }
     ensures least { IfOk result (WritesLeastHello hello.now) }
     // Whatever it is read as is that HELLO.
-    ensures back { IfOk result (λ bytes. (packet : PacketFields) (spans : List Span) → Spells packet spans bytes → ReadsBackHello hello.now packet) }
+    ensures back { IfOk result (λ bytes. (packet : PacketFields) (spans : List Span) → Spells packet spans bytes → ReadsBack 0 HelloIs BreaksHello hello.now packet) }
 {
     let lines = hello_lines(alloc, hello.rows.as_slice())?;
     let values = hello_values(alloc, hello, lines.as_slice())?;
@@ -293,7 +297,7 @@ pub fn write_tc(alloc: Global, tc: &Tc, hop_limit: u8, validity: &[u8]) -> Resul
     ensures writes { IfOk result (WritesTc tc.now hop_limit validity.now) }
     ensures least { IfOk result (WritesLeastTc tc.now hop_limit validity.now) }
     // Whatever it is read as is that TC.
-    ensures back { IfOk result (λ bytes. (packet : PacketFields) (spans : List Span) → Spells packet spans bytes → ReadsBackTc tc.now packet) }
+    ensures back { IfOk result (λ bytes. (packet : PacketFields) (spans : List Span) → Spells packet spans bytes → ReadsBack 1 TcIs BreaksTc tc.now packet) }
 {
     let lines = tc_lines(alloc, tc.rows.as_slice())?;
     let values = tc_values(alloc, tc, lines.as_slice())?;

@@ -6,7 +6,7 @@ use Rattle.mesh_wire.specs.Hello.{HelloIs}
 use Rattle.mesh_wire.specs.HelloRules.{BreaksHello}
 use Rattle.mesh_wire.specs.Rehop.{HasHop}
 use Rattle.mesh_wire.specs.Rules.{Keeps}
-use Rattle.mesh_wire.specs.Kinds.{nbr_addr_type}
+use Rattle.mesh_atoms.specs.declared.tlv_type.TheConstants.{NBR_ADDR_TYPE}
 use Rattle.mesh_wire.specs.Rows.{HasType, SaysFlag}
 use Rattle.mesh_wire.specs.Tc.{TcIs}
 use Rattle.mesh_topo.specs.Tuples.{HasHosts}
@@ -64,11 +64,11 @@ single net h = elim (cases_lt net.prefix 32) [ inl less ↦ absurd (h less) | in
 pub hosts_of : (message : MessageFields) (tc : Tc) → Keeps (BreaksTc message) → TcIs message tc → HasHosts tc
 hosts_of message tc keeps reads row has kind = single row.dest (λ short. keeps 37 (Some row.dest) (ShortPrefix row.dest (typed kind) short))
   where
-    flagged : (flag : ℕ) → SaysFlag message row.dest nbr_addr_type flag → HasType message row.dest nbr_addr_type
+    flagged : (flag : ℕ) → SaysFlag message row.dest NBR_ADDR_TYPE flag → HasType message row.dest NBR_ADDR_TYPE
     flagged flag (inl says) = (_, says)
     flagged flag (inr says) = (_, says)
 
-    typed : IsTrue row.origin ⊎ IsTrue row.routable → HasType message row.dest nbr_addr_type
+    typed : IsTrue row.origin ⊎ IsTrue row.routable → HasType message row.dest NBR_ADDR_TYPE
     typed (inl origin) = flagged 1 ((reads.rows.each row has).1.origin.0 origin)
     typed (inr routable) = flagged 2 ((reads.rows.each row has).1.routable.0 routable)
 

@@ -1,5 +1,5 @@
 -- What a reading of a HELLO looks at, by its rows.
-use Rattle.mesh_trace.proofs.Common.{arith, ◌≡◌, ℕ, eqb, inl, inr, List, [], ◌∷◌, refl, sym, subst, Option, Some, None, IsSome, ◌≢◌, common_steps, option_map, eqb-true, eqb-false, NetAddr, Hello, LocalIf, MessageFields, TlvFields, HelloIs, local_value, local_if, HasPart, HasType, OctetIs, HoldsAddress, Keeps, IsReadOfHelloAddress, WritesHello, IsLocal, LooksHello, TellsOnly, SaysHello}
+use Rattle.mesh_trace.proofs.Common.{arith, ◌≡◌, ℕ, eqb, inl, inr, List, [], ◌∷◌, refl, sym, subst, Option, Some, None, IsSome, ◌≢◌, common_steps, option_map, eqb-true, eqb-false, NetAddr, Hello, LocalIf, MessageFields, TlvFields, HelloIs, local_value, LOCAL_IF, HasPart, HasType, OctetIs, HoldsAddress, Keeps, IsReadOfHelloAddress, WritesHello, IsLocal, LooksHello, TellsOnly, SaysHello}
 use Rattle.mesh_wire.specs.HelloRules.{BreaksHello, AddressWidth}
 use Rattle.mesh_trace.proofs.SpellingLemmas.OneMessage.{IsSole}
 
@@ -11,23 +11,23 @@ pub hello_width : (m : MessageFields) → Keeps (BreaksHello m) → m.width ≡ 
 hello_width m keeps = four_octets m.width (λ not. keeps _ None (AddressWidth not))
 
 module _ (m : MessageFields) (hello : Hello) (is : HelloIs m hello) where
-  said : (net : NetAddr) (l : Option LocalIf) → OctetIs m net local_if (option_map local_value l) → IsSome l → HasType m net local_if
+  said : (net : NetAddr) (l : Option LocalIf) → OctetIs m net LOCAL_IF (option_map local_value l) → IsSome l → HasType m net LOCAL_IF
   said net None h some = absurd (cc)
   said net (Some l) h some = (local_value l ∷ [], h)
 
-  shown : (net : NetAddr) (l : Option LocalIf) → OctetIs m net local_if (option_map local_value l) → HasType m net local_if → IsSome l
+  shown : (net : NetAddr) (l : Option LocalIf) → OctetIs m net LOCAL_IF (option_map local_value l) → HasType m net LOCAL_IF → IsSome l
   shown net None none (octets, said) = absurd (none octets said)
   shown net (Some l) h has = refl
 
-  type_of_local : (net : NetAddr) → IsLocal hello.rows net → HasType m net local_if
+  type_of_local : (net : NetAddr) → IsLocal hello.rows net → HasType m net LOCAL_IF
   type_of_local net local =
       let row = local.0 in
-      subst (λ (n : NetAddr). HasType m n local_if) local.2 (said row.addr row.local (is.rows.each row local.1).1.local local.3)
+      subst (λ (n : NetAddr). HasType m n LOCAL_IF) local.2 (said row.addr row.local (is.rows.each row local.1).1.local local.3)
 
-  local_of_type : (net : NetAddr) → HoldsAddress m net → HasType m net local_if → IsLocal hello.rows net
+  local_of_type : (net : NetAddr) → HoldsAddress m net → HasType m net LOCAL_IF → IsLocal hello.rows net
   local_of_type net holds has =
       let (row, there, same) = is.rows.all net holds in
-      (row, there, same, shown row.addr row.local (is.rows.each row there).1.local (subst (λ (n : NetAddr). HasType m n local_if) (sym same) has))
+      (row, there, same, shown row.addr row.local (is.rows.each row there).1.local (subst (λ (n : NetAddr). HasType m n LOCAL_IF) (sym same) has))
 
   holds_part : (net : NetAddr) (part : TlvFields) → HasPart m net part → HoldsAddress m net
   holds_part net part p = (p.block, p.place, p.address)

@@ -9,7 +9,7 @@ use Rattle.mesh_packet.specs.Fields.{MessageFields}
 use Rattle.mesh_tlv.specs.Fields.{TlvFields, AddrTlvFields}
 use Rattle.mesh_wire.specs.Hello.{HelloIs}
 use Rattle.mesh_wire.specs.HelloRules.{BreaksHello}
-use Rattle.mesh_wire.specs.Kinds.{validity_time, local_if, nbr_addr_type, gateway, link_metric}
+use Rattle.mesh_atoms.specs.declared.tlv_type.TheConstants.{VALIDITY_TIME, LOCAL_IF, NBR_ADDR_TYPE, GATEWAY, LINK_METRIC}
 use Rattle.mesh_wire.specs.Metrics.{Near_out}
 use Rattle.mesh_wire.specs.Parts.{IsIn, octets_of, part_at, values_of}
 use Rattle.mesh_wire.specs.Rows.{HasPart}
@@ -42,11 +42,11 @@ IsLocal rows net = (row : HelloRow) × Contains rows row × (row.addr ≡ net) �
 
 -- a reading of a HELLO that gave these rows looks at it
 abbrev pub LooksHello : List HelloRow → Saying
-LooksHello rows net kind ext octets = (ext ≡ 0) × ((kind ≡ local_if) ⊎ ((IsLocal rows net → ⊥) × IsReadOfOther kind octets))
+LooksHello rows net kind ext octets = (ext ≡ 0) × ((kind ≡ LOCAL_IF) ⊎ ((IsLocal rows net → ⊥) × IsReadOfOther kind octets))
 
 -- a reading of a TC looks at it
 abbrev pub LooksTc : Saying
-LooksTc net kind ext octets = (ext ≡ 0) × ((kind ≡ nbr_addr_type) ⊎ ((kind ≡ gateway) ⊎ ((kind ≡ link_metric) × HasFlag Near_out octets)))
+LooksTc net kind ext octets = (ext ≡ 0) × ((kind ≡ NBR_ADDR_TYPE) ⊎ ((kind ≡ GATEWAY) ⊎ ((kind ≡ LINK_METRIC) × HasFlag Near_out octets)))
 
 -- the message has the header of a HELLO that is sent
 pub record HasHelloHeader (message : MessageFields) : Type 0 where
@@ -73,7 +73,7 @@ pub record HasTcHeader (message : MessageFields) (hop_limit : ℕ) : Type 0 wher
 pub record SaysTc (tc : Tc) (hop_limit : ℕ) (validity : List ℕ) (message : MessageFields) : Type 0 where
   pub header : HasTcHeader message hop_limit
   pub reads : TcIs message tc
-  pub validity_is : values_of validity_time message ≡ validity ∷ []
+  pub validity_is : values_of VALIDITY_TIME message ≡ validity ∷ []
   pub keeps : Keeps (BreaksTc message)
   pub tlvs : (tlv : TlvFields) → Contains message.tlvs tlv → IsReadOfTc tlv
   pub parts : (net : NetAddr) (part : TlvFields) → HasPart message net part → IsReadOfTcAddress part

@@ -4,7 +4,7 @@ ghost use Rattle.mesh_packet.specs.Fields.{fields_of_message, fields_of_packet};
 ghost use Rattle.mesh_packet.specs.Grammar.{Spells, SpellsMessage};
 ghost use Rattle.mesh_packet.specs.Least.{IsEncodable, IsEncodableMessage};
 ghost use Rattle.mesh_packet.specs.Placed.{ArePlaced};
-ghost use Rattle.mesh_wire.specs.Kinds.{validity_time};
+ghost use Rattle.mesh_atoms.specs.declared.tlv_type.TheConstants.{VALIDITY_TIME};
 ghost use Rattle.mesh_wire.specs.Metrics.{Near_out};
 ghost use Rattle.mesh_wire.specs.Parts.{values_of};
 ghost use Rattle.mesh_wire.specs.Rules.{Keeps};
@@ -47,7 +47,7 @@ fn has_header(message: &Message, hop_limit: u8) -> bool
 
 // Whether a message has one VALIDITY_TIME, of that value.
 fn has_validity(message: &Message, validity: &[u8]) -> bool
-    ensures { IsTrue result ↔ (values_of validity_time (fields_of_message message.now) ≡ validity.now ∷ []) }
+    ensures { IsTrue result ↔ (values_of VALIDITY_TIME (fields_of_message message.now) ≡ validity.now ∷ []) }
 {
     match only_value(message.tlvs.as_slice(), VALIDITY_TIME) {
         Some(octets) => octets == validity,

@@ -8,7 +8,7 @@ returns-in-0-clause-text c = on_ok_weaker c.put_read.result (λ wrote. (
   wrote.0,
   wrote.1,
   record {
-    hello = λ kind. told_reads hello_summary_of hello_summary_line c.hello_summary.result c.hello_summary.ensures.reads c.hello_summary.ensures.keeps c.hello_summary.ensures.broken wrote.2;
+    hello = λ kind. told_reads hello_summary_of hello_summary_line c.hello_summary.result c.hello_summary.ensures.reads.says c.hello_summary.ensures.reads.keeps c.hello_summary.ensures.reads.broken wrote.2;
     tc = λ kind. absurd (omega (arith, c.in-0.is, kind));
     other = λ no_hello no_tc. absurd (no_hello c.in-0.is);
   },
@@ -20,7 +20,7 @@ returns-in-1-clause-text c = on_ok_weaker c.put_read-in-1.result (λ wrote. (
   wrote.1,
   record {
     hello = λ kind. absurd (omega (arith, c.in-1.is, kind));
-    tc = λ kind. told_reads tc_summary_of tc_summary_line c.tc_summary.result c.tc_summary.ensures.reads c.tc_summary.ensures.keeps c.tc_summary.ensures.broken wrote.2;
+    tc = λ kind. told_reads tc_summary_of tc_summary_line c.tc_summary.result c.tc_summary.ensures.reads.says c.tc_summary.ensures.reads.keeps c.tc_summary.ensures.reads.broken wrote.2;
     other = λ no_hello no_tc. absurd (no_tc c.in-1.is);
   },
 )) c.put_read-in-1.ensures.text

@@ -1,13 +1,15 @@
-use Rattle.mesh_wire.proofs.Common.{fields_of_message, HelloIs, BreaksHello}
-use Rattle.mesh_wire.proofs.HelloRead.{gives_of, refuses_of}
-use Rattle.mesh_wire.proofs.OneHello.{one_hello}
+use Rattle.mesh_wire.proofs.Common.{fields_of_message, hello_rule, hello_row, hello_summary_of, HelloHeaderIs, HelloIs, BreaksHello}
+use Rattle.mesh_wire.proofs.HelloRead.{hello_laws}
+use Rattle.mesh_wire.proofs.Reading.{all_said, handed_on, read_answered}
 use Rattle.mesh_wire.proofs.hello.hello_of.Goals as goal
 
-pub returns-clause-only : goal.returns-clause-only
-returns-clause-only c = λ hello keeps is.
-    let m = fields_of_message c.args.message.now in
-    gives_of (HelloIs m) (BreaksHello m) c.read_hello.result (one_hello m keeps) c.read_hello.ensures.reads c.read_hello.ensures.broken keeps hello is
+pub returns-in_err-header-clause-reads : goal.returns-in_err-header-clause-reads
+returns-in_err-header-clause-reads c = let m = fields_of_message c.args.message.now in handed_on m hello_rule (BreaksHello m) (HelloHeaderIs m) (HelloIs m) hello_row _ hello_summary_of (hello_laws m) c.header_of.result c.header_of.ensures.header c.header_of.ensures.broken c.in_err-header.field-0.0 c.in_err-header.ensures.broken c.from_residual.result c.from_residual.ensures.1
 
-pub returns-clause-first : goal.returns-clause-first
-returns-clause-first c = λ number addr first.
-    refuses_of (BreaksHello (fields_of_message c.args.message.now)) c.read_hello.result c.read_hello.ensures.keeps c.read_hello.ensures.broken number addr first
+pub returns-clause-reads : goal.returns-clause-reads
+returns-clause-reads c = let m = fields_of_message c.args.message.now in
+    let (h, keeps, rows) = all_said m hello_rule (BreaksHello m) (HelloHeaderIs m) (HelloIs m) hello_row _ hello_summary_of (hello_laws m) c.header_of.result c.header_of.ensures.header c.header_of.ensures.broken c.in_ok-header.header c.in_ok-header.ensures.header c.in_ok-header.told.items c.in_ok-header.ensures.kept c.in_ok-rows.rows (rw c.as_slice.ensures.value at c.in_ok-rows.ensures) in
+    read_answered m hello_rule (BreaksHello m) (HelloHeaderIs m) (HelloIs m) hello_row _ hello_summary_of (hello_laws m) c.header_of.result c.header_of.ensures.header c.header_of.ensures.broken _ (record { originator = c.originator_of.ensures; validity = h.validity; interval = h.interval; willing = h.willing; rows = rows }) keeps
+
+pub invariant_of-result : goal.invariant_of-result
+invariant_of-result c = let m = fields_of_message c.args.message.now in record { ascending = (all_said m hello_rule (BreaksHello m) (HelloHeaderIs m) (HelloIs m) hello_row _ hello_summary_of (hello_laws m) c.header_of.result c.header_of.ensures.header c.header_of.ensures.broken c.in_ok-header.header c.in_ok-header.ensures.header c.in_ok-header.told.items c.in_ok-header.ensures.kept c.in_ok-rows.rows (rw c.as_slice.ensures.value at c.in_ok-rows.ensures)).2.ascending }

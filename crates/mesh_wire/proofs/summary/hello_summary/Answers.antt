@@ -1,16 +1,7 @@
-use Rattle.mesh_wire.proofs.Common.{refl, fields_of_message, Sums, HelloIs, BreaksHello, hello_summary_of}
-use Rattle.mesh_wire.proofs.Counted.{one_sum}
-use Rattle.mesh_wire.proofs.HelloRead.{gives_of, refuses_of}
-use Rattle.mesh_wire.proofs.OneHello.{one_hello}
+use Rattle.mesh_wire.proofs.Common.{fields_of_message, hello_rule, hello_row, hello_summary_of, HelloHeaderIs, HelloIs, BreaksHello}
+use Rattle.mesh_wire.proofs.HelloRead.{hello_laws}
+use Rattle.mesh_wire.proofs.Reading.{summary_answered}
 use Rattle.mesh_wire.proofs.summary.hello_summary.Goals as goal
 
-pub returns-clause-only : goal.returns-clause-only
-returns-clause-only c = λ hello keeps is.
-    let m = fields_of_message c.args.message.now in
-    let read = c.read_hello_summary in
-    gives_of (Sums hello_summary_of (HelloIs m)) (BreaksHello m) read.result (one_sum hello_summary_of (HelloIs m) (one_hello m keeps)) read.ensures.reads read.ensures.broken keeps (hello_summary_of hello) (hello, is, refl)
-
-pub returns-clause-first : goal.returns-clause-first
-returns-clause-first c = λ number addr first.
-    let read = c.read_hello_summary in
-    refuses_of (BreaksHello (fields_of_message c.args.message.now)) read.result read.ensures.keeps read.ensures.broken number addr first
+pub returns : goal.returns
+returns c = let m = fields_of_message c.args.message.now in record { reads = summary_answered m hello_rule (BreaksHello m) (HelloHeaderIs m) (HelloIs m) hello_row _ hello_summary_of (hello_laws m) c.header_of.result c.header_of.ensures.header c.header_of.ensures.broken c.summary_of.result c.summary_of.ensures.header c.summary_of.ensures.kept c.summary_of.ensures.broken }

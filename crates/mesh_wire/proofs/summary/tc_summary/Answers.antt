@@ -1,16 +1,7 @@
-use Rattle.mesh_wire.proofs.Common.{refl, fields_of_message, Sums, TcIs, BreaksTc, tc_summary_of}
-use Rattle.mesh_wire.proofs.Counted.{one_sum}
-use Rattle.mesh_wire.proofs.HelloRead.{gives_of, refuses_of}
-use Rattle.mesh_wire.proofs.OneTc.{one_tc}
+use Rattle.mesh_wire.proofs.Common.{fields_of_message, tc_rule, tc_row, tc_summary_of, TcHeaderIs, TcIs, BreaksTc}
+use Rattle.mesh_wire.proofs.TcRead.{tc_laws}
+use Rattle.mesh_wire.proofs.Reading.{summary_answered}
 use Rattle.mesh_wire.proofs.summary.tc_summary.Goals as goal
 
-pub returns-clause-only : goal.returns-clause-only
-returns-clause-only c = λ tc keeps is.
-    let m = fields_of_message c.args.message.now in
-    let read = c.read_tc_summary in
-    gives_of (Sums tc_summary_of (TcIs m)) (BreaksTc m) read.result (one_sum tc_summary_of (TcIs m) (one_tc m keeps)) read.ensures.reads read.ensures.broken keeps (tc_summary_of tc) (tc, is, refl)
-
-pub returns-clause-first : goal.returns-clause-first
-returns-clause-first c = λ number addr first.
-    let read = c.read_tc_summary in
-    refuses_of (BreaksTc (fields_of_message c.args.message.now)) read.result read.ensures.keeps read.ensures.broken number addr first
+pub returns : goal.returns
+returns c = let m = fields_of_message c.args.message.now in record { reads = summary_answered m tc_rule (BreaksTc m) (TcHeaderIs m) (TcIs m) tc_row _ tc_summary_of (tc_laws m) c.header_of.result c.header_of.ensures.header c.header_of.ensures.broken c.summary_of.result c.summary_of.ensures.header c.summary_of.ensures.kept c.summary_of.ensures.broken }

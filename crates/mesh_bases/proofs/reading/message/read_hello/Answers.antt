@@ -3,4 +3,4 @@ use Rattle.mesh_bases.proofs.ReadingLemmas.Faults.{if_broken_more}
 use Rattle.mesh_bases.proofs.reading.message.read_hello.Goals as goal
 
 pub returns-in-Err : goal.returns-in-Err
-returns-in-Err c = c.broken.ensures _ (if_broken_more c.in-Err.fault (λ number net first. Hello_breaks net c.requires.kind first) c.in-Err.ensures.broken)
+returns-in-Err c = c.broken.ensures _ (if_broken_more c.in-Err.fault (λ number net first. Hello_breaks net c.requires.kind first) c.in-Err.ensures.reads.broken)

@@ -1,7 +1,7 @@
 use Rattle.mesh_wire.proofs.Common.{◌≡◌, ℕ, subst, Option, Some, Addr4, none_not, MessageFields, fields_of_message, OriginatorIs, BreaksTc, AddressWidth, NoOriginator, NoSequence, NoValidity, WrongInterval, Content, ValidityIs, IntervalIs}
 use Rattle.mesh_wire.proofs.InOrder.{NoneBelow, first_at}
 use Rattle.mesh_wire.proofs.TcHeading.{first_number, past_width, past_header, past_validity, past_interval, no_originator, an_originator}
-use Rattle.mesh_wire.proofs.tc.heading_of.Goals as goal
+use Rattle.mesh_wire.proofs.tc.header_of.Goals as goal
 
 -- a message whose header keeps the rules, by its originator and its sequence number
 header : (m : MessageFields) (originator : Addr4) (sequence : ℕ) → m.width ≡ 4 → OriginatorIs m.originator (Some originator) → m.sequence ≡ Some sequence → NoneBelow (BreaksTc m) 34
@@ -38,8 +38,8 @@ returns-in_default-content_of-clause-broken c =
     let timed = past_validity m (header m c.in-Some.originator c.in-Some-sequence.sequence c.if-message-ne4.false c.in-Some.ensures c.in-Some-sequence.is) c.in-Some-validity.validity valid in
     first_at (BreaksTc m) 36 (past_interval m timed c.in-Some-interval.interval spaced) (Content c.in_default-content_of.ensures.none)
 
-pub returns-clause-heading : goal.returns-clause-heading
-returns-clause-heading c = record {
+pub returns-clause-header : goal.returns-clause-header
+returns-clause-header c = record {
   width = c.if-message-ne4.false;
   originator = c.in-Some.ensures;
   sequence = c.in-Some-sequence.is;

@@ -2,7 +2,7 @@ use Rattle.mesh_wire.proofs.Common.{iff_false, fields_of_message, IsOther, Break
 use Rattle.mesh_wire.specs.HelloRules.{AddressWidth, NoValidity, WrongInterval}
 use Rattle.mesh_wire.proofs.HelloHeading.{first_number, past_width, past_limit, past_count, past_validity, past_interval}
 use Rattle.mesh_wire.proofs.InOrder.{first_at}
-use Rattle.mesh_wire.proofs.hello.heading_of.Goals as goal
+use Rattle.mesh_wire.proofs.hello.header_of.Goals as goal
 
 pub returns-then-message-ne4-clause-broken : goal.returns-then-message-ne4-clause-broken
 returns-then-message-ne4-clause-broken c = let m = fields_of_message c.args.message.now in first_at (BreaksHello m) 20 (first_number m) (AddressWidth c.if-message-ne4.true)
