@@ -1,5 +1,5 @@
 -- The links of one interface: what they say of an address, and what each event makes of them.
-use Rattle.std.specs.Prelude.{◌≡◌, ℕ, ◌<◌, ◌^◌, ◌≢◌, List, Contains, Option, Some, None, option_map, nat_lt, Bool, true}
+use Rattle.std.specs.Prelude.{◌≡◌, ℕ, ◌<◌, ◌^◌, ◌≢◌, List, length, Contains, Option, Some, None, option_map, nat_lt, Bool, true}
 use Rattle.mesh_atoms.specs.declared.addr.Addr4.{Addr4}
 use Rattle.mesh_atoms.specs.declared.admit.Admit.{Admit}
 use Rattle.mesh_atoms.specs.declared.hello.Shown.{Shown}
@@ -11,7 +11,7 @@ use Rattle.mesh_atoms.specs.State.{is_symmetric, state_of}
 use Rattle.mesh_atoms.specs.Quality.{admitted}
 use Rattle.mesh_atoms.specs.Live.{trim}
 use Rattle.mesh_atoms.specs.AfterHello.{IsApart, LinkKeptOrMade, renewed}
-use Rattle.mesh_atoms.specs.Words.{Meets, IsBeyond, IsKept}
+use Rattle.mesh_atoms.specs.Words.{Meets, IsAscending, IsBeyond, IsKept}
 
 -- What is told of links
 
@@ -64,6 +64,15 @@ EndsOutside before listed old new =
 pub record HearsOn (rule : Admit) (shown : Shown) (least : LinkKey) (hold now : ℕ) (old new : Base LinkKey Link) : Type 0 where
   pub one : (start : Link × ℕ) × LinkKeptOrMade rule shown now (find link_eq old least) start × (find link_eq new least ≡ Some (renewed shown hold now start))
   pub others : (key : LinkKey) → key ≢ least → IsKept (λ e. IsApart shown.sending e.0) (find link_eq old key) (find link_eq new key)
+
+-- moments and times are in range, and the sending list is an ascending list of one address at least
+pub record CanHearHello (now hold : ℕ) (shown : Shown) : Type 0 where
+  pub now_range : now < 2 ^ 62
+  pub hold_range : hold < 2 ^ 62
+  pub lasts : 0 < shown.validity
+  pub validity_range : shown.validity < 2 ^ 62
+  pub ascending : IsAscending shown.sending
+  pub some : 0 < length shown.sending
 
 -- How far a link reaches
 

@@ -5,7 +5,8 @@ use Rattle.std.specs.Map.{lookup}
 use Rattle.mesh_atoms.specs.declared.addr.Addr4.{Addr4}
 use Rattle.mesh_atoms.specs.declared.tuples.LinkKey.{LinkKey}
 use Rattle.mesh_atoms.specs.declared.tuples.Link.{Link}
-use Rattle.mesh_atoms.specs.Base.{Base, find, link_eq, addr_eq}
+use Rattle.mesh_atoms.specs.Base.{Base, HasDistinctKeys, find, link_eq, addr_eq}
+use Rattle.mesh_links.specs.Links.{HasRoom}
 
 -- the key that is noted for an address
 abbrev pub owner_of : List (Addr4 × LinkKey) → Addr4 → Option LinkKey
@@ -15,6 +16,12 @@ owner_of owners a = lookup (addr_eq a) owners
 pub record HasLinkOwners (owners : List (Addr4 × LinkKey)) (links : Base LinkKey Link) : Type 0 where
   pub owner : (key : LinkKey) (e : Link × ℕ) (a : Addr4) → find link_eq links key ≡ Some e → Contains e.0.addrs a → owner_of owners a ≡ Some key
   pub first : (key : LinkKey) (e : Link × ℕ) → find link_eq links key ≡ Some e → slice_get e.0.addrs 0 ≡ Some key.addr
+
+-- keys are distinct, each link leaves room for a hold time, and the map leads from the addresses of links to them
+pub record SoundLinks (owners : List (Addr4 × LinkKey)) (links : Base LinkKey Link) : Type 0 where
+  pub distinct : HasDistinctKeys link_eq links
+  pub room : HasRoom links
+  pub owned : HasLinkOwners owners links
 
 -- these addresses have that key
 abbrev pub OwnsAll : List (Addr4 × LinkKey) → List Addr4 → LinkKey → Type 0

@@ -1,18 +1,18 @@
 //! What a HELLO makes of the links of the interface that hears it (RFC 6130, section 12.5).
-ghost use Rattle.std.specs.Prelude.{◌≡◌, ◌≢◌, ◌<◌, ◌^◌, ℕ, OnOk, OnErr, IfSome, IfNone, Some, length, slice_get};
+ghost use Rattle.std.specs.Prelude.{◌≡◌, ◌≢◌, ℕ, OnOk, OnErr, IfSome, IfNone, Some, slice_get};
 ghost use Rattle.mesh_atoms.specs.declared.tuples.Link.{Link};
 ghost use Rattle.mesh_atoms.specs.declared.tuples.LinkKey.{LinkKey};
 ghost use Rattle.mesh_atoms.specs.Base.{HasDistinctKeys, SetsOnly, find, link_eq};
 ghost use Rattle.mesh_atoms.specs.AfterHello.{LinkKeptOrMade, made, renewed};
-ghost use Rattle.mesh_links.specs.Links.{HasRoom, HearsOn};
-ghost use Rattle.mesh_links.specs.Owners.{HasLinkOwners, OwnsAll, IsFewer};
+ghost use Rattle.mesh_links.specs.Links.{CanHearHello, HasRoom, HearsOn};
+ghost use Rattle.mesh_links.specs.Owners.{SoundLinks, OwnsAll, IsFewer};
 
 use crate::addresses::are_same;
 use crate::ending::{LinksToEnd, end_all};
 use crate::owners::own_all;
-use crate::renewal::{make, renew};
+use crate::renewal::{LinkHearing, make, renew};
 use indexmap::IndexMap;
-use mesh_atoms::{Addr4, Admit, Link, LinkKey, Shown};
+use mesh_atoms::{Addr4, Link, LinkKey};
 use mesh_expire::Table;
 use std::alloc::AllocError;
 
@@ -34,22 +34,18 @@ fn renew_value<T: Table<LinkKey, Link>>(
     table: &mut T,
     key: &LinkKey,
     until: u64,
-    now: u64,
-    hold: u64,
-    shown: &Shown,
+    hearing: &LinkHearing,
 ) -> u64
-    requires now { now < 2 ^ 62 }
-    requires hold { hold < 2 ^ 62 }
-    requires validity { shown.now.validity < 2 ^ 62 }
+    requires ready { CanHearHello hearing.now.moment hearing.now.hold hearing.now.shown.now }
     requires room { HasRoom (T.content table.old) }
     ensures renewed { (link : Link) → find link_eq (T.content table.old) key.now ≡ Some (link, until)
-        → (after : Link) × ((after, result) ≡ renewed shown.now hold now (link, until)) × SetsOnly link_eq (T.content table.old) (T.content table.new) key.now (Some (after, until)) }
+        → (after : Link) × ((after, result) ≡ renewed hearing.now.shown.now hearing.now.hold hearing.now.moment (link, until)) × SetsOnly link_eq (T.content table.old) (T.content table.new) key.now (Some (after, until)) }
     ensures room { HasRoom (T.content table.new) }
     ensures distinct { HasDistinctKeys link_eq (T.content table.new) }
     ensures fewer { IsFewer (T.content table.old) (T.content table.new) }
 {
     match table.value_mut(key) {
-        Some(link) => renew(link, until, now, hold, shown),
+        Some(link) => renew(link, until, hearing),
         None => until,
     }
 }
@@ -59,21 +55,17 @@ fn renew_standing<T: Table<LinkKey, Link>>(
     table: &mut T,
     key: LinkKey,
     until: u64,
-    now: u64,
-    hold: u64,
-    shown: &Shown,
+    hearing: &LinkHearing,
 ) -> Result<(), AllocError>
-    requires now { now < 2 ^ 62 }
-    requires hold { hold < 2 ^ 62 }
-    requires validity { shown.now.validity < 2 ^ 62 }
+    requires ready { CanHearHello hearing.now.moment hearing.now.hold hearing.now.shown.now }
     requires room { HasRoom (T.content table.old) }
     ensures ok { (link : Link) → find link_eq (T.content table.old) key ≡ Some (link, until)
-        → OnOk result (SetsOnly link_eq (T.content table.old) (T.content table.new) key (Some (renewed shown.now hold now (link, until)))) }
+        → OnOk result (SetsOnly link_eq (T.content table.old) (T.content table.new) key (Some (renewed hearing.now.shown.now hearing.now.hold hearing.now.moment (link, until)))) }
     ensures room { HasRoom (T.content table.new) }
     ensures distinct { HasDistinctKeys link_eq (T.content table.new) }
     ensures fewer { IsFewer (T.content table.old) (T.content table.new) }
 {
-    let until = renew_value(table, &key, until, now, hold, shown);
+    let until = renew_value(table, &key, until, hearing);
     table.set_until(&key, until)?;
     Ok(())
 }
@@ -82,23 +74,18 @@ fn renew_standing<T: Table<LinkKey, Link>>(
 fn put_made<T: Table<LinkKey, Link>>(
     table: &mut T,
     key: LinkKey,
-    now: u64,
-    hold: u64,
-    shown: &Shown,
-    rule: &Admit,
+    hearing: &LinkHearing,
 ) -> Result<(), AllocError>
-    requires now { now < 2 ^ 62 }
-    requires hold { hold < 2 ^ 62 }
-    requires validity { shown.now.validity < 2 ^ 62 }
+    requires ready { CanHearHello hearing.now.moment hearing.now.hold hearing.now.shown.now }
     requires room { HasRoom (T.content table.old) }
     requires distinct { HasDistinctKeys link_eq (T.content table.old) }
-    ensures ok { OnOk result (SetsOnly link_eq (T.content table.old) (T.content table.new) key (Some (renewed shown.now hold now (made rule.now shown.now now)))) }
+    ensures ok { OnOk result (SetsOnly link_eq (T.content table.old) (T.content table.new) key (Some (renewed hearing.now.shown.now hearing.now.hold hearing.now.moment (made hearing.now.rule.now hearing.now.shown.now hearing.now.moment)))) }
     ensures room { HasRoom (T.content table.new) }
     ensures distinct { HasDistinctKeys link_eq (T.content table.new) }
     ensures err { OnErr result (T.content table.new ≡ T.content table.old) }
 {
-    let mut link = make(shown, rule, now)?;
-    let until = renew(&mut link, now + shown.validity, now, hold, shown);
+    let mut link = make(hearing)?;
+    let until = renew(&mut link, hearing.moment + hearing.shown.validity, hearing);
     table.put(key, link, until)
 }
 
@@ -107,28 +94,19 @@ fn renew_at<T: Table<LinkKey, Link>>(
     table: &mut T,
     owners: &IndexMap<Addr4, LinkKey>,
     key: LinkKey,
-    now: u64,
-    hold: u64,
-    shown: &Shown,
-    rule: &Admit,
+    hearing: &LinkHearing,
 ) -> Result<(), AllocError>
-    requires now { now < 2 ^ 62 }
-    requires hold { hold < 2 ^ 62 }
-    requires validity { shown.now.validity < 2 ^ 62 }
-    requires room { HasRoom (T.content table.old) }
-    requires distinct { HasDistinctKeys link_eq (T.content table.old) }
-    requires owned { HasLinkOwners owners.now.entries (T.content table.old) }
-    requires mine { OwnsAll owners.now.entries shown.now.sending key }
-    requires first { slice_get shown.now.sending 0 ≡ Some key.addr }
-    ensures ok { OnOk result ((start : Link × ℕ) × LinkKeptOrMade rule.now shown.now now (find link_eq (T.content table.old) key) start
-        × SetsOnly link_eq (T.content table.old) (T.content table.new) key (Some (renewed shown.now hold now start))) }
-    ensures room { HasRoom (T.content table.new) }
-    ensures distinct { HasDistinctKeys link_eq (T.content table.new) }
-    ensures owned { HasLinkOwners owners.now.entries (T.content table.new) }
+    requires ready { CanHearHello hearing.now.moment hearing.now.hold hearing.now.shown.now }
+    requires sound { SoundLinks owners.now.entries (T.content table.old) }
+    requires mine { OwnsAll owners.now.entries hearing.now.shown.now.sending key }
+    requires first { slice_get hearing.now.shown.now.sending 0 ≡ Some key.addr }
+    ensures ok { OnOk result ((start : Link × ℕ) × LinkKeptOrMade hearing.now.rule.now hearing.now.shown.now hearing.now.moment (find link_eq (T.content table.old) key) start
+        × SetsOnly link_eq (T.content table.old) (T.content table.new) key (Some (renewed hearing.now.shown.now hearing.now.hold hearing.now.moment start))) }
+    ensures sound { SoundLinks owners.now.entries (T.content table.new) }
 {
-    match standing(table, key, shown.sending.as_slice()) {
-        Some(until) => renew_standing(table, key, until, now, hold, shown),
-        None => put_made(table, key, now, hold, shown, rule),
+    match standing(table, key, hearing.shown.sending.as_slice()) {
+        Some(until) => renew_standing(table, key, until, hearing),
+        None => put_made(table, key, hearing),
     }
 }
 
@@ -138,30 +116,20 @@ fn renew_at<T: Table<LinkKey, Link>>(
 pub fn hear_on<T: Table<LinkKey, Link>>(
     table: &mut T,
     owners: &mut IndexMap<Addr4, LinkKey>,
-    now: u64,
-    hold: u64,
-    shown: &Shown,
-    rule: &Admit,
+    hearing: &LinkHearing,
 ) -> Result<(), AllocError>
-    requires now { now < 2 ^ 62 }
-    requires hold { hold < 2 ^ 62 }
-    requires validity { shown.now.validity < 2 ^ 62 }
-    requires some { 0 < length shown.now.sending }
-    requires room { HasRoom (T.content table.old) }
-    requires distinct { HasDistinctKeys link_eq (T.content table.old) }
-    requires owned { HasLinkOwners owners.old.entries (T.content table.old) }
-    ensures ok { OnOk result ((least : LinkKey) → slice_get shown.now.sending 0 ≡ Some least.addr → HearsOn rule.now shown.now least hold now (T.content table.old) (T.content table.new)) }
-    ensures room { HasRoom (T.content table.new) }
-    ensures distinct { HasDistinctKeys link_eq (T.content table.new) }
-    ensures owned { HasLinkOwners owners.new.entries (T.content table.new) }
+    requires ready { CanHearHello hearing.now.moment hearing.now.hold hearing.now.shown.now }
+    requires sound { SoundLinks owners.old.entries (T.content table.old) }
+    ensures ok { OnOk result ((least : LinkKey) → slice_get hearing.now.shown.now.sending 0 ≡ Some least.addr → HearsOn hearing.now.rule.now hearing.now.shown.now least hearing.now.hold hearing.now.moment (T.content table.old) (T.content table.new)) }
+    ensures sound { SoundLinks owners.new.entries (T.content table.new) }
 {
-    match shown.sending.get(0) {
+    match hearing.shown.sending.get(0) {
         Some(addr) => {
             let key = LinkKey { addr: *addr };
-            let sending = shown.sending.as_slice();
+            let sending = hearing.shown.sending.as_slice();
             end_all(table, owners, sending, LinksToEnd::Beside(sending));
             own_all(owners, sending, key)?;
-            renew_at(table, owners, key, now, hold, shown, rule)
+            renew_at(table, owners, key, hearing)
         }
         None => Ok(()),
     }

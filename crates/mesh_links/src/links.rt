@@ -11,6 +11,7 @@ use crate::ending::{LinksToEnd, end_all};
 use crate::expiry::expire_all;
 use crate::hearing::hear_on;
 use crate::owners::{link_with, purge_after};
+use crate::renewal::LinkHearing;
 use crate::status::selector_of;
 use crate::staying::are_all_unchanged;
 use indexmap::IndexMap;
@@ -119,7 +120,13 @@ impl<T: Table<LinkKey, Link>> LinkSet<T> {
         ensures ok { OnOk result ((least : LinkKey) → slice_get shown.now.sending 0 ≡ Some least.addr → HearsOn rule.now shown.now least hold now self.old self.new) }
         ensures distinct { HasDistinctKeys link_eq self.new }
     {
-        hear_on(&mut self.table, &mut self.owners, now, hold, shown, rule)
+        let hearing = LinkHearing {
+            moment: now,
+            hold,
+            rule,
+            shown,
+        };
+        hear_on(&mut self.table, &mut self.owners, &hearing)
     }
 
     /// Ends each link that has an address among the old ones and one outside the new ones, and gives their number

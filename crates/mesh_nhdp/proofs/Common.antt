@@ -44,6 +44,7 @@ pub use Rattle.mesh_nbrs.specs.Same.{SameNear, SameTuples, way_at}
 pub use Rattle.mesh_nbrs.specs.TwoHops.TwoHops.{DropsLink}
 pub use Rattle.mesh_nbrs.specs.declared.neighbours.LinkNote.{LinkNote}
 pub use Rattle.mesh_nhdp.specs.Calls.{DropsEnded, IsNoteAmong, IsNoteIn, TellsKeys, TellsLinks, TellsLinksOf, TellsTwoHops, is_symmetric_in, key_at, note_of}
+pub use Rattle.mesh_nhdp.specs.Changes.{ChangesOn}
 pub use Rattle.mesh_nhdp.specs.Follows.{FollowsLinks, FollowsLinksOf, RenewsNeighbour}
 pub use Rattle.mesh_nhdp.specs.Interfaces.{ChangesEach, ExpiresOn, HearsAt}
 pub use Rattle.mesh_nhdp.specs.Judged.{IsAnswer, IsFilledBy, Judges}
@@ -52,7 +53,7 @@ pub use Rattle.mesh_nhdp.specs.Repeats.{Repeats, RepeatsLink, RepeatsNeighbour, 
 pub use Rattle.mesh_nhdp.specs.Rows.{Looked, LooksOn, Passed, RowTells, TellsSymmetric}
 pub use Rattle.mesh_nhdp.specs.Wanted.{IsSpokenAddress, IsSymmetricSpokenAddress, IsWanted, IsWantedAddress, IsWantedAt, symmetric_at}
 pub use Rattle.mesh_nhdp.specs.declared.near_addresses.WantedNeighbours.TheVariants.{Each, Symmetric}
-pub use Rattle.std.proofs.Common.{AllPairs, Bool, Contains, Decides, IsSome, IsTrue, List, None, Option, Some, [], ap, arith, below_more, cond, drop, eqb, false, get_or, get_or-set_other, get_or-set_same, inl, inr, is_some, length, length-append, map, min, nat_eq, nat_le, nat_lt, not, option_map, refl, replicate, slice_get, slice_index_or, slice_set, subst, suc, sym, take, true, zero, ℕ, ◌&&◌, ◌++◌, ◌+◌, ◌-◌, ◌<◌, ◌||◌, ◌↔◌, ◌∙◌, ◌∷◌, ◌≡◌, ◌≢◌, ◌≤◌, ◌⊎◌}
+pub use Rattle.std.proofs.Common.{AllPairs, Bool, Contains, Decides, IsSome, IsTrue, List, None, Option, Some, [], ap, arith, below_more, cond, drop, eqb, false, get_or, get_or-set_other, get_or-set_same, inl, inr, is_some, length, length-append, map, min, nat_eq, nat_le, nat_lt, not, option_map, refl, replicate, rules, slice_get, slice_index_or, slice_set, subst, suc, sym, take, true, zero, ℕ, ◌&&◌, ◌++◌, ◌+◌, ◌-◌, ◌<◌, ◌||◌, ◌↔◌, ◌∙◌, ◌∷◌, ◌≡◌, ◌≢◌, ◌≤◌, ◌⊎◌}
 pub use Rattle.std.proofs.lemmas.Bool.{cases_Bool, cases_eq, cases_lt, eq-eqb, false≢true, iff_false, lt-ltb, ltb-true, not-false}
 pub use Rattle.std.proofs.lemmas.Grind.{common_steps}
 pub use Rattle.std.proofs.lemmas.List.{get_or-map, get_or-replicate, get_or_default, get_or_past, length-map, length-replicate, length-set, nil_from_length, take_all}

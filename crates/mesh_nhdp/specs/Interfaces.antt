@@ -1,6 +1,5 @@
 -- What expiry and a HELLO make of the links and the 2-hop tuples of one interface.
-use Rattle.std.specs.Prelude.{◌≡◌, ℕ, ◌<◌, ◌^◌, List, length, Bool, true, false}
-use Rattle.mesh_atoms.specs.Words.{IsAscending}
+use Rattle.std.specs.Prelude.{◌≡◌, ℕ, ◌<◌, List, length, Bool, true, false}
 use Rattle.mesh_atoms.specs.declared.addr.Addr4.{Addr4}
 use Rattle.mesh_atoms.specs.declared.admit.Admit.{Admit}
 use Rattle.mesh_atoms.specs.declared.hello.Shown.{Shown}
@@ -39,12 +38,3 @@ pub record ChangesEach (makes : ℕ → Base LinkKey Link → Base LinkKey Link 
   pub links : length new.links ≡ length old.links
   pub two_hops : length new.two_hops ≡ length old.two_hops
   pub each : (i : ℕ) → i < length old.links → makes i (base_of old.links i) (base_of new.links i) (base_of old.two_hops i) (base_of new.two_hops i)
-
--- moments and times are in range, and the sending list is an ascending list of one address at least
-pub record CanHearHello (now hold : ℕ) (shown : Shown) : Type 0 where
-  pub now_range : now < 2 ^ 62
-  pub hold_range : hold < 2 ^ 62
-  pub lasts : 0 < shown.validity
-  pub validity_range : shown.validity < 2 ^ 62
-  pub ascending : IsAscending shown.sending
-  pub some : 0 < length shown.sending

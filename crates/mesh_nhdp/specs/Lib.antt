@@ -1,6 +1,7 @@
 pub use Rattle.mesh_expire.specs as expire
 pub use Rattle.mesh_links.specs as links
 pub mod Calls
+pub mod Changes
 pub mod Follows
 pub mod Hearings
 pub mod Interfaces

@@ -5,13 +5,13 @@ ghost use Rattle.mesh_atoms.specs.Sound.{SoundNeighbourhood};
 ghost use Rattle.mesh_nhdp.specs.Staying.{AllIsAsItWas};
 
 use crate::follow::follow_links;
-use crate::interfaces::{Expiry, change_all};
+use crate::interfaces::{Change, Expiry, change_all};
 use crate::near_addresses::{WantedNeighbours, wanted_addresses};
 use crate::nhdp::Nhdp;
 use crate::sets::NeighbourhoodSets;
 use crate::staying::{are_links_unchanged, expire_beside};
-use mesh_atoms::{Addr4, Link, LinkKey, Lost, Neighbour, RouterSettings, TwoHop, TwoHopKey};
-use mesh_expire::{Bases, PlacedTable, Table};
+use mesh_atoms::RouterSettings;
+use mesh_expire::Bases;
 use std::alloc::AllocError;
 
 impl<B: Bases> Nhdp<B> {
@@ -46,15 +46,10 @@ impl<B: Bases> Nhdp<B> {
 }
 
 /// The same over the sets, which after an allocation failure may only be dropped.
-fn expire_all<
-    L: Table<LinkKey, Link>,
-    H: PlacedTable<TwoHopKey, TwoHop>,
-    N: Table<Addr4, Neighbour>,
-    O: Table<Addr4, Lost>,
->(
+fn expire_all<B: Bases>(
     settings: &RouterSettings,
     now: u64,
-    sets: &mut NeighbourhoodSets<L, H, N, O>,
+    sets: &mut NeighbourhoodSets<B>,
 ) -> Result<(), AllocError>
     requires now { now < 2 ^ 62 }
     requires sound { (moment : ℕ) × SoundNeighbourhood settings.now moment sets.old }
@@ -69,23 +64,18 @@ fn expire_all<
         hold: settings.times.link_hold,
         faces: settings.interfaces.as_slice(),
     };
-    change_all(alloc, &expiry, sets)?;
+    change_all(alloc, &Change::Expiry(expiry), sets)?;
     sets.losts.expire(now);
     follow_links(alloc, now, &before, until, sets)
 }
 
 /// Takes out the 2-hop tuples and the lost addresses that are expired where nothing becomes of the links since `last`, and else
 /// brings all up to date; whether all is just as it was then.
-fn expire_or_stay<
-    L: Table<LinkKey, Link>,
-    H: PlacedTable<TwoHopKey, TwoHop>,
-    N: Table<Addr4, Neighbour>,
-    O: Table<Addr4, Lost>,
->(
+fn expire_or_stay<B: Bases>(
     settings: &RouterSettings,
     last: u64,
     now: u64,
-    sets: &mut NeighbourhoodSets<L, H, N, O>,
+    sets: &mut NeighbourhoodSets<B>,
 ) -> Result<bool, AllocError>
     requires now { now < 2 ^ 62 }
     requires sound { SoundNeighbourhood settings.now last sets.old }

@@ -7,24 +7,19 @@ ghost use Rattle.mesh_nhdp.specs.Follows.{FollowsLinks, FollowsLinksOf, RenewsNe
 use crate::near_addresses::{WantedNeighbours, symmetric_at, wanted_addresses};
 use crate::notes::{notes_among, notes_of};
 use crate::sets::NeighbourhoodSets;
-use mesh_atoms::{Addr4, Link, LinkKey, Lost, Neighbour, TwoHop, TwoHopKey};
-use mesh_expire::{PlacedTable, Table};
+use mesh_atoms::Addr4;
+use mesh_expire::Bases;
 use mesh_hello::HelloInfo;
 use std::alloc::{AllocError, Global};
 
 /// Sets the neighbours as their links have them, and the addresses as lost until that moment that were a symmetric
 /// neighbour's and are none's now (RFC 6130, sections 12.4 and 13). After an allocation failure the sets may only be dropped.
-pub fn follow_links<
-    L: Table<LinkKey, Link>,
-    H: PlacedTable<TwoHopKey, TwoHop>,
-    N: Table<Addr4, Neighbour>,
-    O: Table<Addr4, Lost>,
->(
+pub fn follow_links<B: Bases>(
     alloc: Global,
     now: u64,
     before: &[Addr4],
     until: u64,
-    sets: &mut NeighbourhoodSets<L, H, N, O>,
+    sets: &mut NeighbourhoodSets<B>,
 ) -> Result<(), AllocError>
     ensures { OnOk result (FollowsLinks now before.now until sets.old sets.new) }
 {
@@ -46,16 +41,11 @@ pub struct SendingNeighbour<'a> {
 /// Sets the neighbour that the HELLO speaks of, which has the listed addresses, as its links have it, and the addresses as lost that
 /// were a symmetric neighbour's, of those that became this one, and aren't this one's now. Looks at no other neighbour.
 /// After an allocation failure the sets may only be dropped.
-fn follow_links_of<
-    L: Table<LinkKey, Link>,
-    H: PlacedTable<TwoHopKey, TwoHop>,
-    N: Table<Addr4, Neighbour>,
-    O: Table<Addr4, Lost>,
->(
+fn follow_links_of<B: Bases>(
     alloc: Global,
     now: u64,
     neighbour: &SendingNeighbour,
-    sets: &mut NeighbourhoodSets<L, H, N, O>,
+    sets: &mut NeighbourhoodSets<B>,
 ) -> Result<(), AllocError>
     ensures { OnOk result (FollowsLinksOf now neighbour.now.telling.now.originator neighbour.now.telling.now.listed
         neighbour.now.before.now neighbour.now.until sets.old sets.new) }
@@ -72,16 +62,11 @@ fn follow_links_of<
 /// Makes one neighbour of all that a HELLO speaks of, and sets it as its links have it, with the addresses as lost that were a
 /// symmetric neighbour's, of those that became this one, and aren't this one's now. Looks at no other neighbour. After an allocation failure
 /// the sets may only be dropped.
-pub fn renew_neighbour<
-    L: Table<LinkKey, Link>,
-    H: PlacedTable<TwoHopKey, TwoHop>,
-    N: Table<Addr4, Neighbour>,
-    O: Table<Addr4, Lost>,
->(
+pub fn renew_neighbour<B: Bases>(
     alloc: Global,
     now: u64,
     neighbour: &SendingNeighbour,
-    sets: &mut NeighbourhoodSets<L, H, N, O>,
+    sets: &mut NeighbourhoodSets<B>,
 ) -> Result<(), AllocError>
     requires ascending { IsAscending neighbour.now.telling.now.listed }
     requires some { 0 < length neighbour.now.telling.now.listed }

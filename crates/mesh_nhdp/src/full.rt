@@ -6,8 +6,8 @@ ghost use Rattle.mesh_hello.specs.Told.Telling.{told_of};
 
 use crate::near_addresses::{WantedNeighbours, wanted_addresses};
 use crate::sets::NeighbourhoodSets;
-use mesh_atoms::{Addr4, Link, LinkKey, Lost, Neighbour, TwoHop, TwoHopKey};
-use mesh_expire::{PlacedTable, Table};
+use mesh_atoms::{Addr4, Lost, Neighbour};
+use mesh_expire::{Bases, Table};
 use mesh_hello::{HelloInfo, ascending, put_table_keys};
 use mesh_nbrs::{LostSet, NeighbourSet};
 use std::alloc::{AllocError, Global};
@@ -16,12 +16,7 @@ use std::alloc::{AllocError, Global};
 const MOST_ADDRESSES: usize = 1024;
 
 /// Whether these are at most 1,024 even where no two of them are one. Takes no memory.
-fn are_few<
-    L: Table<LinkKey, Link>,
-    H: PlacedTable<TwoHopKey, TwoHop>,
-    N: Table<Addr4, Neighbour>,
-    O: Table<Addr4, Lost>,
->(sets: &NeighbourhoodSets<L, H, N, O>, telling: &HelloInfo) -> bool
+fn are_few<B: Bases>(sets: &NeighbourhoodSets<B>, telling: &HelloInfo) -> bool
     ensures { IsTrue result → IsFullOfAddresses sets.now (told_of telling.now) → ⊥ }
 {
     let neighbours = &sets.neighbours;
@@ -55,14 +50,9 @@ fn put_known<N: Table<Addr4, Neighbour>, O: Table<Addr4, Lost>>(
 }
 
 /// The same as `is_full_of_addresses`, by a count of the different ones.
-fn are_many<
-    L: Table<LinkKey, Link>,
-    H: PlacedTable<TwoHopKey, TwoHop>,
-    N: Table<Addr4, Neighbour>,
-    O: Table<Addr4, Lost>,
->(
+fn are_many<B: Bases>(
     alloc: Global,
-    sets: &NeighbourhoodSets<L, H, N, O>,
+    sets: &NeighbourhoodSets<B>,
     telling: &HelloInfo,
 ) -> Result<bool, AllocError>
     ensures { IfOk result (λ full. IsTrue full ↔ IsFullOfAddresses sets.now (told_of telling.now)) }
@@ -84,14 +74,9 @@ fn are_many<
 
 /// Whether more than 1,024 addresses and originators are held with those that a HELLO tells of. Gathers them and counts the
 /// different ones only where all may be so many; else it looks at the counts alone.
-pub fn is_full_of_addresses<
-    L: Table<LinkKey, Link>,
-    H: PlacedTable<TwoHopKey, TwoHop>,
-    N: Table<Addr4, Neighbour>,
-    O: Table<Addr4, Lost>,
->(
+pub fn is_full_of_addresses<B: Bases>(
     alloc: Global,
-    sets: &NeighbourhoodSets<L, H, N, O>,
+    sets: &NeighbourhoodSets<B>,
     telling: &HelloInfo,
 ) -> Result<bool, AllocError>
     ensures { IfOk result (λ full. IsTrue full ↔ IsFullOfAddresses sets.now (told_of telling.now)) }

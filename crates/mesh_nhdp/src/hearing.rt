@@ -11,20 +11,20 @@ ghost use Rattle.mesh_atoms.specs.TakesHello.{IsFault};
 ghost use Rattle.mesh_hello.specs.Told.Telling.{told_of};
 ghost use Rattle.mesh_nhdp.specs.Calls.{is_symmetric_in};
 ghost use Rattle.mesh_nhdp.specs.Hearings.{HearsInterfaces, HearsLinks};
-ghost use Rattle.mesh_nhdp.specs.Interfaces.{CanHearHello};
+ghost use Rattle.mesh_links.specs.Links.{CanHearHello};
 ghost use Rattle.mesh_nhdp.specs.Judged.{CanTakeHello};
 ghost use Rattle.mesh_nhdp.specs.Repeats.{RepeatsRows};
 
 use crate::drops::has_symmetric;
 use crate::follow::{SendingNeighbour, renew_neighbour};
-use crate::interfaces::{Hearing, change_all};
+use crate::interfaces::{Change, Hearing, change_all};
 use crate::keys::keys_of_both;
 use crate::near_addresses::spoken_addresses;
 use crate::sending_link::{has_link, update_two_hops};
 use crate::sets::NeighbourhoodSets;
 use crate::two_hop_rows::TwoHopRows;
-use mesh_atoms::{Addr4, Hello, Link, LinkKey, Lost, Neighbour, RouterSettings, TwoHop, TwoHopKey};
-use mesh_expire::{PlacedTable, Table};
+use mesh_atoms::{Addr4, Hello, RouterSettings};
+use mesh_expire::Bases;
 use mesh_hello::HelloInfo;
 use std::alloc::{AllocError, Global};
 
@@ -41,16 +41,11 @@ pub struct HelloReceipt<'a> {
 
 /// Takes the HELLO in on all interfaces. Answers true only where the link that it came over isn't SYMMETRIC then, or all rows repeat what
 /// was held. After an allocation failure the sets may only be dropped.
-fn hear_interfaces<
-    L: Table<LinkKey, Link>,
-    H: PlacedTable<TwoHopKey, TwoHop>,
-    N: Table<Addr4, Neighbour>,
-    O: Table<Addr4, Lost>,
->(
+fn hear_interfaces<B: Bases>(
     alloc: Global,
     hearing: &Hearing,
     receipt: &HelloReceipt,
-    sets: &mut NeighbourhoodSets<L, H, N, O>,
+    sets: &mut NeighbourhoodSets<B>,
 ) -> Result<bool, AllocError>
     requires ready { CanHearHello hearing.now.moment hearing.now.hold hearing.now.shown.now }
     requires least { slice_get hearing.now.shown.now.sending 0 ≡ Some receipt.now.telling.now.least.addr }
@@ -66,7 +61,7 @@ fn hear_interfaces<
     let least = receipt.telling.least;
     let sending = hearing.shown.sending.as_slice();
     let stood = has_link(&sets.links[hearing.iface], least, sending);
-    change_all(alloc, hearing, sets)?;
+    change_all(alloc, &Change::Hearing(*hearing), sets)?;
     let symmetric = has_symmetric(sets.links[hearing.iface].table(), least, hearing.moment);
     let until = hearing.moment + hearing.shown.validity;
     let rows = TwoHopRows {
@@ -81,16 +76,11 @@ fn hear_interfaces<
 
 /// Takes a HELLO in on all interfaces; `theirs` has the addresses of the neighbours that it speaks of. Answers as `hear_interfaces`.
 /// After an allocation failure the sets may only be dropped.
-fn hear_links<
-    L: Table<LinkKey, Link>,
-    H: PlacedTable<TwoHopKey, TwoHop>,
-    N: Table<Addr4, Neighbour>,
-    O: Table<Addr4, Lost>,
->(
+fn hear_links<B: Bases>(
     settings: &RouterSettings,
     receipt: &HelloReceipt,
     theirs: &[Addr4],
-    sets: &mut NeighbourhoodSets<L, H, N, O>,
+    sets: &mut NeighbourhoodSets<B>,
 ) -> Result<bool, AllocError>
     requires iface { receipt.now.iface < length settings.now.interfaces }
     requires links { length sets.old.links ≡ length settings.now.interfaces }
@@ -124,15 +114,10 @@ fn hear_links<
 
 /// Takes in a HELLO that isn't refused and isn't too much. Answers true only where the link that it came over isn't SYMMETRIC then,
 /// or all rows repeat what was held. After an allocation failure the neighbourhood may only be dropped.
-pub fn hear<
-    L: Table<LinkKey, Link>,
-    H: PlacedTable<TwoHopKey, TwoHop>,
-    N: Table<Addr4, Neighbour>,
-    O: Table<Addr4, Lost>,
->(
+pub fn hear<B: Bases>(
     settings: &RouterSettings,
     receipt: &HelloReceipt,
-    sets: &mut NeighbourhoodSets<L, H, N, O>,
+    sets: &mut NeighbourhoodSets<B>,
 ) -> Result<bool, AllocError>
     requires ready { CanTakeHello settings.now receipt.now.moment receipt.now.iface receipt.now.hello.now }
     requires own { (a : Addr4) → Contains receipt.now.own.now a ↔ HasAddress settings.now a }

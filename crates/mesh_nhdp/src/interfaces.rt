@@ -1,21 +1,17 @@
 //! What expiry and a HELLO make of the links and the 2-hop tuples, interface by interface (RFC 6130, sections 12.5, 12.6 and 13).
-ghost use Rattle.std.specs.Prelude.{◌≡◌, ◌<◌, ◌^◌, ℕ, true, false, nat_eq, Some, length, slice_get, IfOk, OnOk};
-ghost use Rattle.mesh_atoms.specs.Base.{Base, HasDistinctKeys, base_of, link_eq};
+ghost use Rattle.std.specs.Prelude.{◌≡◌, ◌<◌, ◌^◌, true, false, Some, length, slice_get, IfOk, OnOk};
+ghost use Rattle.mesh_atoms.specs.Base.{HasDistinctKeys, link_eq};
 ghost use Rattle.mesh_atoms.specs.declared.tuples.LinkKey.{LinkKey};
-ghost use Rattle.mesh_atoms.specs.declared.tuples.Link.{Link};
-ghost use Rattle.mesh_atoms.specs.declared.tuples.TwoHopKey.{TwoHopKey};
-ghost use Rattle.mesh_atoms.specs.declared.tuples.TwoHop.{TwoHop};
 ghost use Rattle.mesh_atoms.specs.declared.settings.Interface.{Interface};
-ghost use Rattle.mesh_links.specs.Links.{AdmitsLinks, HearsOn};
+ghost use Rattle.mesh_links.specs.Links.{AdmitsLinks, CanHearHello, HearsOn};
 ghost use Rattle.mesh_nhdp.specs.Calls.{TellsKeys};
-ghost use Rattle.mesh_nhdp.specs.Interfaces.{ExpiresOn, HearsAt, CanHearHello, ChangesEach};
+ghost use Rattle.mesh_nhdp.specs.Changes.{CanChange, ChangesOn};
+ghost use Rattle.mesh_nhdp.specs.Interfaces.{ChangesEach};
 
 use crate::drops::drop_ended;
 use crate::sets::NeighbourhoodSets;
-use mesh_atoms::{
-    Addr4, Admit, Interface, Link, LinkKey, Lost, Neighbour, Shown, TwoHop, TwoHopKey,
-};
-use mesh_expire::{PlacedTable, Table};
+use mesh_atoms::{Addr4, Admit, Interface, Link, LinkKey, Shown, TwoHop, TwoHopKey};
+use mesh_expire::{Bases, PlacedTable, Table};
 use mesh_hello::put_table_keys;
 use mesh_links::LinkSet;
 use mesh_nbrs::TwoHopSet;
@@ -31,24 +27,6 @@ fn link_keys<L: Table<LinkKey, Link>>(
     let mut found = Vec::new(alloc);
     put_table_keys(&mut found, links.table())?;
     Ok(found)
-}
-
-/// What becomes of the links and the 2-hop tuples of one interface.
-pub trait Change<L: Table<LinkKey, Link>, H: PlacedTable<TwoHopKey, TwoHop>> {
-    ghost is_ready: { Self → Type 0 };
-
-    ghost makes: { Self → ℕ → Base LinkKey Link → Base LinkKey Link → Base TwoHopKey TwoHop → Base TwoHopKey TwoHop → Type 0 };
-
-    /// Changes those of the interface of that number. After an allocation failure both may only be dropped.
-    fn change(
-        &self,
-        alloc: Global,
-        iface: usize,
-        links: &mut LinkSet<L>,
-        two_hops: &mut TwoHopSet<H>,
-    ) -> Result<(), AllocError>
-        requires ready { is_ready self.now }
-        ensures { OnOk result (makes self.now iface links.old links.new two_hops.old two_hops.new) };
 }
 
 /// Expiry at a moment in ticks of 1/8192 s, with the hold time of links, and the interfaces, whose rules say which links are
@@ -75,30 +53,6 @@ fn admit_on<L: Table<LinkKey, Link>>(
     match faces.get(iface) {
         Some(face) => links.admit(now, hold, &face.admit),
         None => Ok(()),
-    }
-}
-
-impl<'a, L: Table<LinkKey, Link>, H: PlacedTable<TwoHopKey, TwoHop>> Change<L, H> for Expiry<'a> {
-    ghost is_ready = { λ s. (s.now < 2 ^ 62) × (s.hold < 2 ^ 62) };
-
-    ghost makes = { λ s i old new before after. (face : Interface) → slice_get s.faces.now i ≡ Some face
-        → ExpiresOn face.admit s.hold s.now old new before after };
-
-    fn change(
-        &self,
-        alloc: Global,
-        iface: usize,
-        links: &mut LinkSet<L>,
-        two_hops: &mut TwoHopSet<H>,
-    ) -> Result<(), AllocError> {
-        let before = link_keys(alloc, links)?;
-        admit_on(links, self.faces, iface, self.now, self.hold)?;
-        links.expire(self.now);
-        two_hops.expire(self.now);
-        drop_ended(links, two_hops, &before, self.now);
-        // Its keys are distinct, which the proof needs.
-        let _table = two_hops.table();
-        Ok(())
     }
 }
 
@@ -137,42 +91,55 @@ fn hear_here<L: Table<LinkKey, Link>>(
     }
 }
 
-impl<'a, L: Table<LinkKey, Link>, H: PlacedTable<TwoHopKey, TwoHop>> Change<L, H> for Hearing<'a> {
-    ghost is_ready = { λ s. CanHearHello s.moment s.hold s.shown.now };
-
-    ghost makes = { λ s i old new before after. (least : LinkKey) → slice_get s.shown.now.sending 0 ≡ Some least.addr
-        → HearsAt s.rule.now s.shown.now least s.theirs.now s.listed.now s.keys.now s.hold s.moment (nat_eq i s.iface) old new before after };
-
-    fn change(
-        &self,
-        _alloc: Global,
-        iface: usize,
-        links: &mut LinkSet<L>,
-        two_hops: &mut TwoHopSet<H>,
-    ) -> Result<(), AllocError> {
-        links.end_outside(self.theirs, self.listed);
-        hear_here(self, links, iface == self.iface)?;
-        drop_ended(links, two_hops, self.keys, self.moment);
-        // Its keys are distinct, which the proof needs.
-        let _table = two_hops.table();
-        Ok(())
-    }
+/// A change of the links and the 2-hop tuples of all interfaces: expiry, or the taking of a HELLO.
+#[derive(Clone, Copy)]
+pub enum Change<'a> {
+    Expiry(Expiry<'a>),
+    Hearing(Hearing<'a>),
 }
 
-/// Changes all interfaces.
-pub fn change_all<
-    L: Table<LinkKey, Link>,
-    H: PlacedTable<TwoHopKey, TwoHop>,
-    N: Table<Addr4, Neighbour>,
-    O: Table<Addr4, Lost>,
-    C: Change<L, H>,
->(alloc: Global, change: &C, sets: &mut NeighbourhoodSets<L, H, N, O>) -> Result<(), AllocError>
-    requires ready { C.is_ready change.now }
+/// Makes the change on the interface of that number. After an allocation failure its links and its 2-hop tuples may only be dropped.
+fn change_on<L: Table<LinkKey, Link>, H: PlacedTable<TwoHopKey, TwoHop>>(
+    alloc: Global,
+    change: &Change,
+    iface: usize,
+    links: &mut LinkSet<L>,
+    two_hops: &mut TwoHopSet<H>,
+) -> Result<(), AllocError>
+    requires ready { CanChange change.now }
+    ensures { OnOk result (ChangesOn change.now iface links.old links.new two_hops.old two_hops.new) }
+{
+    match change {
+        Change::Expiry(expiry) => {
+            let before = link_keys(alloc, links)?;
+            admit_on(links, expiry.faces, iface, expiry.now, expiry.hold)?;
+            links.expire(expiry.now);
+            two_hops.expire(expiry.now);
+            drop_ended(links, two_hops, &before, expiry.now);
+        }
+        Change::Hearing(hearing) => {
+            links.end_outside(hearing.theirs, hearing.listed);
+            hear_here(hearing, links, iface == hearing.iface)?;
+            drop_ended(links, two_hops, hearing.keys, hearing.moment);
+        }
+    }
+    // Its keys are distinct, which the proof needs.
+    let _table = two_hops.table();
+    Ok(())
+}
+
+/// Makes the change on all interfaces.
+pub fn change_all<B: Bases>(
+    alloc: Global,
+    change: &Change,
+    sets: &mut NeighbourhoodSets<B>,
+) -> Result<(), AllocError>
+    requires ready { CanChange change.now }
     requires length { length sets.old.links ≡ length sets.old.two_hops }
-    ensures { OnOk result (ChangesEach (C.makes change.now) sets.old sets.new) }
+    ensures { OnOk result (ChangesEach (ChangesOn change.now) sets.old sets.new) }
 {
     for i in 0..sets.links.len() {
-        change.change(alloc, i, &mut sets.links[i], &mut sets.two_hops[i])?;
+        change_on(alloc, change, i, &mut sets.links[i], &mut sets.two_hops[i])?;
     }
     Ok(())
 }

@@ -10,11 +10,8 @@ ghost use Rattle.mesh_nhdp.specs.Judged.{IsFilledBy, Judges};
 use crate::full::is_full_of_addresses;
 use crate::sets::NeighbourhoodSets;
 use crate::two_hop_rows::count_symmetric;
-use mesh_atoms::{
-    Addr4, Base, Hello, Link, LinkKey, Lost, MOST_TUPLES, Neighbour, RouterSettings, Seq, TwoHop,
-    TwoHopKey,
-};
-use mesh_expire::{PlacedTable, Table};
+use mesh_atoms::{Addr4, Base, Hello, MOST_TUPLES, RouterSettings, Seq};
+use mesh_expire::Bases;
 use mesh_hello::{HelloInfo, own_addresses, receive_fault, tell};
 use std::alloc::AllocError;
 
@@ -38,13 +35,8 @@ pub enum HelloCheck {
 
 /// The base that the HELLO would fill, if there is one; `own` has the router's addresses. Counts the addresses that the HELLO tells as
 /// SYMMETRIC neighbours only where all its rows would be too many; else it looks at the counts alone.
-fn base_to_fill<
-    L: Table<LinkKey, Link>,
-    H: PlacedTable<TwoHopKey, TwoHop>,
-    N: Table<Addr4, Neighbour>,
-    O: Table<Addr4, Lost>,
->(
-    sets: &NeighbourhoodSets<L, H, N, O>,
+fn base_to_fill<B: Bases>(
+    sets: &NeighbourhoodSets<B>,
     iface: usize,
     hello: &Hello,
     own: &[Addr4],
@@ -72,14 +64,9 @@ fn base_to_fill<
 }
 
 /// Judges a HELLO (RFC 6130, section 12.1, and the limits of the bases).
-pub fn judge<
-    L: Table<LinkKey, Link>,
-    H: PlacedTable<TwoHopKey, TwoHop>,
-    N: Table<Addr4, Neighbour>,
-    O: Table<Addr4, Lost>,
->(
+pub fn judge<B: Bases>(
     settings: &RouterSettings,
-    sets: &NeighbourhoodSets<L, H, N, O>,
+    sets: &NeighbourhoodSets<B>,
     arrival: &HelloArrival,
 ) -> Result<HelloCheck, AllocError>
     requires iface { arrival.now.iface < length settings.now.interfaces }

@@ -13,7 +13,7 @@ use std::marker::Model;
 /// dropped.
 pub struct Nhdp<B: Bases> {
     pub(crate) settings: RouterSettings,
-    pub(crate) sets: NeighbourhoodSets<B::Links, B::TwoHops, B::Neighbours, B::Losts>,
+    pub(crate) sets: NeighbourhoodSets<B>,
 }
 
 // By hand, so that no crate that lets go of one has to know its parts.

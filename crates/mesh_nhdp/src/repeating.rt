@@ -5,10 +5,8 @@ ghost use Rattle.mesh_hello.specs.Told.Telling.{told_of};
 ghost use Rattle.mesh_nhdp.specs.Repeats.{Repeats, RepeatsLink, RepeatsNeighbour, RepeatsStatus};
 
 use crate::sets::NeighbourhoodSets;
-use mesh_atoms::{
-    Addr4, Link, LinkKey, LinkStatus, Lost, Metric, Neighbour, Shown, TwoHop, TwoHopKey, Willing,
-};
-use mesh_expire::{PlacedTable, Table};
+use mesh_atoms::{Addr4, Link, LinkKey, LinkStatus, Lost, Metric, Neighbour, Shown, Willing};
+use mesh_expire::{Bases, Table};
 use mesh_hello::HelloInfo;
 use mesh_links::LinkSet;
 use mesh_nbrs::NeighbourSet;
@@ -111,12 +109,12 @@ fn is_neighbour_repeated<N: Table<Addr4, Neighbour>>(
 }
 
 /// Whether what the HELLO tells of its link and its neighbour is held already, but for moments. Looks up these two alone. Takes no memory.
-pub fn is_repeated<
-    L: Table<LinkKey, Link>,
-    H: PlacedTable<TwoHopKey, TwoHop>,
-    N: Table<Addr4, Neighbour>,
-    O: Table<Addr4, Lost>,
->(now: u64, iface: usize, telling: &HelloInfo, sets: &NeighbourhoodSets<L, H, N, O>) -> bool
+pub fn is_repeated<B: Bases>(
+    now: u64,
+    iface: usize,
+    telling: &HelloInfo,
+    sets: &NeighbourhoodSets<B>,
+) -> bool
     ensures { IsTrue result → Repeats now iface (told_of telling.now) sets.now }
 {
     if !is_neighbour_repeated(&sets.neighbours, telling) {

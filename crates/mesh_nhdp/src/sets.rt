@@ -3,8 +3,8 @@ ghost use Rattle.std.specs.Prelude.{◌≡◌, [], length, replicate, unwrap_or,
 ghost use Rattle.mesh_atoms.specs.Base.{base_of};
 ghost use Rattle.mesh_nhdp.specs.NhdpState.{empty_near};
 
-use mesh_atoms::{Addr4, Link, LinkKey, Lost, Neighbour, TwoHop, TwoHopKey};
-use mesh_expire::{PlacedTable, Table};
+use mesh_atoms::{Link, LinkKey, TwoHop, TwoHopKey};
+use mesh_expire::{Bases, PlacedTable, Table};
 use mesh_links::LinkSet;
 use mesh_nbrs::{LostSet, NeighbourSet, TwoHopSet};
 use std::alloc::{AllocError, Global};
@@ -12,25 +12,25 @@ use std::marker::Model;
 
 /// The links and the 2-hop tuples of each interface, the neighbours, and the lost addresses. After an allocation failure they may
 /// only be dropped.
-#[derive(Drop)]
-pub struct NeighbourhoodSets<
-    L: Table<LinkKey, Link>,
-    H: PlacedTable<TwoHopKey, TwoHop>,
-    N: Table<Addr4, Neighbour>,
-    O: Table<Addr4, Lost>,
-> {
-    pub links: Vec<LinkSet<L>>,
-    pub two_hops: Vec<TwoHopSet<H>>,
-    pub neighbours: NeighbourSet<N>,
-    pub losts: LostSet<O>,
+pub struct NeighbourhoodSets<B: Bases> {
+    pub links: Vec<LinkSet<B::Links>>,
+    pub two_hops: Vec<TwoHopSet<B::TwoHops>>,
+    pub neighbours: NeighbourSet<B::Neighbours>,
+    pub losts: LostSet<B::Losts>,
 }
 
-impl<
-    L: Table<LinkKey, Link>,
-    H: PlacedTable<TwoHopKey, TwoHop>,
-    N: Table<Addr4, Neighbour>,
-    O: Table<Addr4, Lost>,
-> Model for NeighbourhoodSets<L, H, N, O> {
+impl<B: Bases> Drop for NeighbourhoodSets<B> {
+    fn drop(self) {
+        let NeighbourhoodSets {
+            links: _,
+            two_hops: _,
+            neighbours: _,
+            losts: _,
+        } = self;
+    }
+}
+
+impl<B: Bases> Model for NeighbourhoodSets<B> {
     ghost use Rattle.mesh_atoms.specs.State.{Neighbourhood};
 
     ghost Value = { Neighbourhood };
@@ -38,14 +38,9 @@ impl<
     ghost view = { λ s. record { links = s.links.items; two_hops = s.two_hops.items; neighbours = s.neighbours; losts = s.losts } };
 }
 
-impl<
-    L: Table<LinkKey, Link>,
-    H: PlacedTable<TwoHopKey, TwoHop>,
-    N: Table<Addr4, Neighbour>,
-    O: Table<Addr4, Lost>,
-> NeighbourhoodSets<L, H, N, O> {
+impl<B: Bases> NeighbourhoodSets<B> {
     /// No links and no 2-hop tuples on so many interfaces, no neighbour, and no lost address.
-    pub fn new(alloc: Global, count: usize) -> Result<NeighbourhoodSets<L, H, N, O>, AllocError>
+    pub fn new(alloc: Global, count: usize) -> Result<NeighbourhoodSets<B>, AllocError>
         ensures { IfOk result (λ sets. sets ≡ empty_near count) }
     {
         Ok(NeighbourhoodSets {
@@ -57,14 +52,14 @@ impl<
     }
 
     /// The links of an interface; `None` where there is no such interface. Takes no memory.
-    pub fn links_on(&self, iface: usize) -> Option<&LinkSet<L>>
+    pub fn links_on(&self, iface: usize) -> Option<&LinkSet<B::Links>>
         ensures { unwrap_or (option_copied result) [] ≡ base_of self.now.links iface }
     {
         self.links.as_slice().get(iface)
     }
 
     /// The 2-hop tuples of an interface; `None` where there is no such interface. Takes no memory.
-    pub fn two_hops_on(&self, iface: usize) -> Option<&TwoHopSet<H>>
+    pub fn two_hops_on(&self, iface: usize) -> Option<&TwoHopSet<B::TwoHops>>
         ensures { unwrap_or (option_copied result) [] ≡ base_of self.now.two_hops iface }
     {
         self.two_hops.as_slice().get(iface)

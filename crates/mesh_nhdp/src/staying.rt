@@ -6,8 +6,8 @@ ghost use Rattle.mesh_links.specs.Links.{AllStay};
 ghost use Rattle.mesh_nhdp.specs.Staying.{LinksStay, ExpiresBeside};
 
 use crate::sets::NeighbourhoodSets;
-use mesh_atoms::{Addr4, Link, LinkKey, Lost, Neighbour, RouterSettings, TwoHop, TwoHopKey};
-use mesh_expire::{PlacedTable, Table};
+use mesh_atoms::{Link, LinkKey, RouterSettings, TwoHop, TwoHopKey};
+use mesh_expire::{Bases, PlacedTable, Table};
 use mesh_links::LinkSet;
 use mesh_nbrs::TwoHopSet;
 
@@ -28,12 +28,12 @@ fn are_unchanged_on<L: Table<LinkKey, Link>>(
 }
 
 /// Whether nothing becomes of the links of any interface. Looks at each link once. Takes no memory.
-pub fn are_links_unchanged<
-    L: Table<LinkKey, Link>,
-    H: PlacedTable<TwoHopKey, TwoHop>,
-    N: Table<Addr4, Neighbour>,
-    O: Table<Addr4, Lost>,
->(settings: &RouterSettings, sets: &NeighbourhoodSets<L, H, N, O>, last: u64, now: u64) -> bool
+pub fn are_links_unchanged<B: Bases>(
+    settings: &RouterSettings,
+    sets: &NeighbourhoodSets<B>,
+    last: u64,
+    now: u64,
+) -> bool
     requires now { now < 2 ^ 62 }
     requires same { length sets.now.links ≡ length settings.now.interfaces }
     ensures { IsTrue result ↔ LinksStay settings.now last now sets.now.links }
@@ -70,12 +70,7 @@ fn expire_two_hops<H: PlacedTable<TwoHopKey, TwoHop>>(sets: &mut [TwoHopSet<H>],
 }
 
 /// Takes out the 2-hop tuples and the lost addresses that are expired; whether none is. Takes no memory.
-pub fn expire_beside<
-    L: Table<LinkKey, Link>,
-    H: PlacedTable<TwoHopKey, TwoHop>,
-    N: Table<Addr4, Neighbour>,
-    O: Table<Addr4, Lost>,
->(sets: &mut NeighbourhoodSets<L, H, N, O>, now: u64) -> bool
+pub fn expire_beside<B: Bases>(sets: &mut NeighbourhoodSets<B>, now: u64) -> bool
     ensures { ExpiresBeside now result sets.old sets.new }
 {
     let same = expire_two_hops(&mut sets.two_hops, now);

@@ -10,10 +10,8 @@ use crate::judge::{HelloArrival, HelloCheck, judge};
 use crate::nhdp::Nhdp;
 use crate::repeating::is_repeated;
 use crate::sets::NeighbourhoodSets;
-use mesh_atoms::{
-    Addr4, Base, Hello, Link, LinkKey, Lost, Neighbour, RouterSettings, TwoHop, TwoHopKey,
-};
-use mesh_expire::{Bases, PlacedTable, Table};
+use mesh_atoms::{Addr4, Base, Hello, RouterSettings};
+use mesh_expire::Bases;
 use std::alloc::AllocError;
 
 /// What became of a HELLO: it was taken, it broke the rule of that number (RFC 6130, section 12.1), or a base would have been
@@ -81,15 +79,10 @@ impl<B: Bases> Nhdp<B> {
 }
 
 /// Takes in a HELLO, as `take_and_tell` does.
-fn take_in<
-    L: Table<LinkKey, Link>,
-    H: PlacedTable<TwoHopKey, TwoHop>,
-    N: Table<Addr4, Neighbour>,
-    O: Table<Addr4, Lost>,
->(
+fn take_in<B: Bases>(
     settings: &RouterSettings,
     arrival: &HelloArrival,
-    sets: &mut NeighbourhoodSets<L, H, N, O>,
+    sets: &mut NeighbourhoodSets<B>,
 ) -> Result<(HelloTaken, bool), AllocError>
     requires ready { CanTakeHello settings.now arrival.now.moment arrival.now.iface arrival.now.hello.now }
     requires sound { SoundNeighbourhood settings.now arrival.now.moment sets.old }

@@ -14,7 +14,7 @@ pub returns-in-Some-clause-renewed : goal.returns-in-Some-clause-renewed
 returns-in-Some-clause-renewed g c link found =
     let is : c.in-Some.link.now ≡ link = found_some _ _ _ _ c.in-Some.ensures.value found in (
       c.renew.new.link,
-      c.renew.ensures.renewed ∙ ap (λ (l : Link). renewed c.args.shown.now c.args.hold c.args.now (l, c.args.until)) is,
+      c.renew.ensures.renewed ∙ ap (λ (l : Link). renewed c.args.hearing.now.shown.now c.args.hearing.now.hold c.args.hearing.now.moment (l, c.args.until)) is,
       rw (c.value_mut.follows.holds _) (sets-changed_at link_equiv c.args.key.now (λ e. (c.renew.new.link, e.1)) (g.T.Table.content c.args.table.now) (link, c.args.until) found),
     )
 
@@ -27,7 +27,7 @@ returns-in-Some-clause-distinct g c = rw (c.value_mut.follows.holds _) (distinct
 pub returns-in-Some-clause-fewer : goal.returns-in-Some-clause-fewer
 returns-in-Some-clause-fewer g c =
     fewer_changed (g.T.Table.content c.args.table.now) (g.T.Table.content (c.value_mut.follows.lender c.renew.new.link)) c.args.key.now (λ e. (c.renew.new.link, e.1))
-    (λ f found. ap (λ (l : Link). l.addrs) (sym (found_some _ _ _ _ c.in-Some.ensures.value found)) ∙ sym (ap (λ (e : Link × ℕ). e.0.addrs) c.renew.ensures.renewed ∙ addrs-renewed c.args.shown.now c.args.hold c.args.now (c.in-Some.link.now, c.args.until)))
+    (λ f found. ap (λ (l : Link). l.addrs) (sym (found_some _ _ _ _ c.in-Some.ensures.value found)) ∙ sym (ap (λ (e : Link × ℕ). e.0.addrs) c.renew.ensures.renewed ∙ addrs-renewed c.args.hearing.now.shown.now c.args.hearing.now.hold c.args.hearing.now.moment (c.in-Some.link.now, c.args.until)))
     (c.value_mut.follows.holds c.renew.new.link)
 
 pub returns-in-None-clause-fewer : goal.returns-in-None-clause-fewer

@@ -1,4 +1,4 @@
-use Rattle.mesh_nhdp.proofs.Common.{◌≡◌, ◌<◌, ◌∙◌, length, sym, subst, refl, arith, length-set, Neighbourhood}
+use Rattle.mesh_nhdp.proofs.Common.{◌≡◌, ◌<◌, ◌∙◌, length, sym, subst, refl, arith, length-set, Neighbourhood, ChangesOn}
 use Rattle.mesh_nhdp.proofs.AllHears.{is_base, written_other, changed_more}
 use Rattle.mesh_nhdp.proofs.interfaces.change_all.Goals as goal
 
@@ -14,13 +14,13 @@ loop-i-preserved g c =
     record {
       neighbours = old.neighbours;
       losts = old.losts;
-      links = length-set links i c.change.new.links ∙ old.links;
-      two_hops = length-set two_hops i c.change.new.two_hops ∙ old.two_hops;
-      done = changed_more (g.C.Change.makes c.args.change.now) c.sets.inside.links.items links c.sets.inside.two_hops.items two_hops i c.index_mut.result.now c.change.new.links c.index_mut-in-loop-i.result.now c.change.new.two_hops
+      links = length-set links i c.change_on.new.links ∙ old.links;
+      two_hops = length-set two_hops i c.change_on.new.two_hops ∙ old.two_hops;
+      done = changed_more (ChangesOn c.args.change.now) c.sets.inside.links.items links c.sets.inside.two_hops.items two_hops i c.index_mut.result.now c.change_on.new.links c.index_mut-in-loop-i.result.now c.change_on.new.two_hops
           within within_too (is_base links i c.index_mut.result.now within c.index_mut.ensures.value) (is_base two_hops i c.index_mut-in-loop-i.result.now within_too c.index_mut-in-loop-i.ensures.value)
-          old.links_left old.two_hops_left old.done c.in_ok-change.ensures;
-      links_left = λ k past. written_other links i k c.change.new.links (λ e. omega (arith, e, past)) ∙ old.links_left k (omega (arith, past));
-      two_hops_left = λ k past. written_other two_hops i k c.change.new.two_hops (λ e. omega (arith, e, past)) ∙ old.two_hops_left k (omega (arith, past));
+          old.links_left old.two_hops_left old.done c.in_ok-change_on.ensures;
+      links_left = λ k past. written_other links i k c.change_on.new.links (λ e. omega (arith, e, past)) ∙ old.links_left k (omega (arith, past));
+      two_hops_left = λ k past. written_other two_hops i k c.change_on.new.two_hops (λ e. omega (arith, e, past)) ∙ old.two_hops_left k (omega (arith, past));
     }
 
 pub returns : goal.returns

@@ -1,4 +1,4 @@
-use Rattle.mesh_nhdp.proofs.Common.{◌≡◌, ℕ, ◌<◌, ◌≤◌, length, base_of}
+use Rattle.mesh_nhdp.proofs.Common.{◌≡◌, ℕ, ◌<◌, ◌≤◌, length, base_of, ChangesOn}
 use Rattle.mesh_nhdp.proofs.interfaces.change_all.Given as goal
 
 abbrev pub invariant-loop-i : goal.invariant-loop-i
@@ -10,7 +10,7 @@ invariant-loop-i g l =
       losts : new.losts ≡ old.losts;
       links : length new.links.items ≡ length old.links.items;
       two_hops : length new.two_hops.items ≡ length old.two_hops.items;
-      done : (k : ℕ) → k < l.i → g.C.Change.makes l.change k (base_of old.links.items k) (base_of new.links.items k) (base_of old.two_hops.items k) (base_of new.two_hops.items k);
+      done : (k : ℕ) → k < l.i → ChangesOn l.change k (base_of old.links.items k) (base_of new.links.items k) (base_of old.two_hops.items k) (base_of new.two_hops.items k);
       links_left : (k : ℕ) → l.i ≤ k → base_of new.links.items k ≡ base_of old.links.items k;
       two_hops_left : (k : ℕ) → l.i ≤ k → base_of new.two_hops.items k ≡ base_of old.two_hops.items k;
     }
