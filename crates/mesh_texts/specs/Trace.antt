@@ -14,6 +14,7 @@ use Rattle.mesh_atoms.specs.declared.network.Emission.{Emission}
 use Rattle.mesh_atoms.specs.declared.network.NetEvent.{NetEvent}
 use Rattle.mesh_settled.specs.machine.Names.{router_name}
 use Rattle.mesh_texts.specs.Lines.Marks.{line_of, dotted, relays_text, face_name, faces_of}
+use Rattle.mesh_texts.specs.declared.trace.FrameLine.{FrameLine}
 
 -- a router's clock ticked
 unfoldable pub tick_line : ℕ → List ℕ → List ℕ
@@ -24,6 +25,20 @@ unfoldable pub heard_line : ℕ → List ℕ → List ℕ → Addr4 → List ℕ
 heard_line moment router face sender frame = line_of (
     codes "heard " ∷ decimal moment ∷ codes " " ∷ router ∷ codes " " ∷ face ∷ codes " " ∷ dotted sender
     ∷ codes " " ∷ encode_lower frame ∷ [])
+
+-- a frame was sent on the interface of that name
+unfoldable pub sent_line : ℕ → List ℕ → List ℕ → List ℕ → List ℕ
+sent_line moment router face frame = line_of (
+    codes "sent " ∷ decimal moment ∷ codes " " ∷ router ∷ codes " " ∷ face ∷ codes " " ∷ encode_lower frame ∷ [])
+
+-- a frame on an interface of the router with these settings: heard from a sender, or sent where there is none
+abbrev pub frame_text : ℕ → RouterSettings → ℕ → List ℕ → Option Addr4 → List ℕ
+frame_text moment r iface frame None = sent_line moment r.name (face_name r.interfaces iface) frame
+frame_text moment r iface frame (Some sender) = heard_line moment r.name (face_name r.interfaces iface) sender frame
+
+-- the line of a frame
+abbrev pub frame_line : FrameLine → List ℕ
+frame_line l = frame_text l.moment l.router.now l.iface l.frame.now l.sender
 
 -- what happened at a moment to the router with these settings: it heard a frame, or its clock ticked
 abbrev pub happened_line : ℕ → RouterSettings → Option (ℕ × Addr4 × List ℕ) → List ℕ
@@ -50,11 +65,6 @@ unfoldable pub relays_lines : State → List ℕ
 relays_lines s =
     flat_map (flooding_relays_line s.settings.name s.relays.flooding) (enumerate_from 0 s.settings.interfaces)
     ++ routing_relays_line s.settings.name s.relays.routing
-
--- a frame was sent on the interface of that name
-unfoldable pub sent_line : ℕ → List ℕ → List ℕ → List ℕ → List ℕ
-sent_line moment router face frame = line_of (
-    codes "sent " ∷ decimal moment ∷ codes " " ∷ router ∷ codes " " ∷ face ∷ codes " " ∷ encode_lower frame ∷ [])
 
 -- a frame was lost on the arc between the interfaces of these names
 unfoldable pub loss_line : ℕ → List ℕ → List ℕ → List ℕ → List ℕ → List ℕ

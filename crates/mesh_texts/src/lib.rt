@@ -16,6 +16,6 @@ pub use lines::{
 pub use sections::put_section;
 pub use summary::{put_counts_line, put_settled, put_summary};
 pub use trace::{
-    put_event, put_flooding_relays_line, put_heard_line, put_lost_line, put_routing_relays_line,
-    put_sent_line, put_tick_line,
+    FrameLine, put_event, put_flooding_relays_line, put_frame_line, put_lost_line,
+    put_routing_relays_line, put_tick_line,
 };

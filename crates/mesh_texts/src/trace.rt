@@ -1,11 +1,11 @@
 //! The lines of an event of an emulated network, put behind other octets.
-ghost use Rattle.std.specs.Prelude.{◌≡◌, ◌++◌, OnOk, Some};
+ghost use Rattle.std.specs.Prelude.{◌≡◌, ◌++◌, codes, decimal, OnOk, Some};
 ghost use Rattle.std.specs.List.{flat_map, enumerate_from};
 ghost use Rattle.mesh_settled.specs.machine.packet.Least.{Wrote};
 ghost use Rattle.mesh_settled.specs.machine.tlv.Least.{Grows};
 ghost use Rattle.mesh_settled.specs.machine.Names.{router_name};
 ghost use Rattle.mesh_texts.specs.Lines.Marks.{face_name, faces_of};
-ghost use Rattle.mesh_texts.specs.Trace.{tick_line, heard_line, event_line, flooding_relays_line, routing_relays_line, relays_lines, sent_line, arc_line, lost_line, sent_lines, event_text, IsFrameTaken, IsEventText};
+ghost use Rattle.mesh_texts.specs.Trace.{tick_line, frame_line, event_line, flooding_relays_line, routing_relays_line, relays_lines, arc_line, lost_line, sent_lines, event_text, IsFrameTaken, IsEventText};
 
 use crate::lines::Piece::{Address, Hex, Number, Text};
 use crate::lines::{
@@ -26,29 +26,46 @@ pub fn put_tick_line(out: &mut Bytes, moment: u64, router: &[u8]) -> Result<(), 
     put_line(out, &[(b"tick ", Number(moment)), (b" ", Text(router))])
 }
 
-/// Puts the line of a frame that is heard from a sender on the interface of that name.
-#[tactic(auto, unfolding(crate::specs::Trace::heard_line))]
-pub fn put_heard_line<'a>(
-    out: &mut Bytes,
-    moment: u64,
-    router: &'a [u8],
-    face: &'a [u8],
-    sender: Addr4,
-    frame: &'a [u8],
-) -> Result<(), AllocError>
-    ensures ok { OnOk result (out.new ≡ out.old ++ heard_line moment router.now face.now sender frame.now) }
+/// What the line of a frame tells: the moment in ticks of 1/8192 s, the router, the number of its interface, the sender from whom the
+/// router heard the frame there, or none where it sent the frame, and the frame's octets.
+#[derive(Clone, Copy)]
+pub struct FrameLine<'a> {
+    pub moment: u64,
+    pub router: &'a RouterSettings,
+    pub iface: usize,
+    pub sender: Option<Addr4>,
+    pub frame: &'a [u8],
+}
+
+// Puts how the line of a frame begins: its kind, its moment, and the names of the router and of the interface.
+fn put_frame_front(out: &mut Bytes, kind: &[u8], line: &FrameLine) -> Result<(), AllocError>
+    ensures ok { OnOk result (out.new ≡ out.old ++ (kind.now ++ decimal line.now.moment ++ codes " " ++ line.now.router.now.name
+        ++ codes " " ++ face_name line.now.router.now.interfaces line.now.iface)) }
     ensures kept { Grows out.old out.new }
 {
-    put_line(
-        out,
-        &[
-            (b"heard ", Number(moment)),
-            (b" ", Text(router)),
-            (b" ", Text(face)),
-            (b" ", Address(sender)),
-            (b" ", Hex(frame)),
-        ],
-    )
+    let router = line.router;
+    let face = face_name(router.interfaces.as_slice(), line.iface);
+    put_labelled(out, kind, Number(line.moment))?;
+    put_labelled(out, b" ", Text(router.name.as_slice()))?;
+    put_labelled(out, b" ", Text(face))
+}
+
+/// Puts the line of a frame that a router hears or sends.
+#[tactic(auto, unfolding(crate::specs::Trace::heard_line, crate::specs::Trace::sent_line))]
+pub fn put_frame_line(out: &mut Bytes, line: &FrameLine) -> Result<(), AllocError>
+    ensures ok { OnOk result (out.new ≡ out.old ++ frame_line line.now) }
+    ensures kept { Grows out.old out.new }
+{
+    match line.sender {
+        Some(sender) => {
+            put_frame_front(out, b"heard ", line)?;
+            put_line(out, &[(b" ", Address(sender)), (b" ", Hex(line.frame))])
+        }
+        None => {
+            put_frame_front(out, b"sent ", line)?;
+            put_line(out, &[(b" ", Hex(line.frame))])
+        }
+    }
 }
 
 // Puts what happened to the router with these settings.
@@ -63,17 +80,16 @@ fn put_event_line(
 {
     match &event.heard {
         None => put_tick_line(out, event.moment, router.name.as_slice()),
-        Some((iface, sender, frame)) => {
-            let face = face_name(router.interfaces.as_slice(), *iface);
-            put_heard_line(
-                out,
-                event.moment,
-                router.name.as_slice(),
-                face,
-                *sender,
-                frame.as_slice(),
-            )
-        }
+        Some((iface, sender, frame)) => put_frame_line(
+            out,
+            &FrameLine {
+                moment: event.moment,
+                router,
+                iface: *iface,
+                sender: Some(*sender),
+                frame: frame.as_slice(),
+            },
+        ),
     }
 }
 
@@ -140,29 +156,6 @@ fn put_relays_lines<R: RouterView>(out: &mut Bytes, router: &R) -> Result<(), Al
         settings.interfaces.as_slice(),
     )?;
     put_routing_relays_line(out, name, relays.routing.as_slice())
-}
-
-/// Puts the line of a frame that is sent on the interface of that name.
-#[tactic(auto, unfolding(crate::specs::Trace::sent_line))]
-pub fn put_sent_line<'a>(
-    out: &mut Bytes,
-    moment: u64,
-    router: &'a [u8],
-    face: &'a [u8],
-    frame: &'a [u8],
-) -> Result<(), AllocError>
-    ensures ok { OnOk result (out.new ≡ out.old ++ sent_line moment router.now face.now frame.now) }
-    ensures kept { Grows out.old out.new }
-{
-    put_line(
-        out,
-        &[
-            (b"sent ", Number(moment)),
-            (b" ", Text(router)),
-            (b" ", Text(face)),
-            (b" ", Hex(frame)),
-        ],
-    )
 }
 
 // Puts that a frame was lost on an arc between these routers.
@@ -237,14 +230,14 @@ fn put_sent_lines(
     ensures ok { OnOk result (out.new ≡ out.old ++ sent_lines scenario.now moment router.now sent.now) }
     ensures kept { Grows out.old out.new }
 {
-    let face = face_name(router.interfaces.as_slice(), sent.iface);
-    put_sent_line(
-        out,
+    let line = FrameLine {
         moment,
-        router.name.as_slice(),
-        face,
-        sent.frame.as_slice(),
-    )?;
+        router,
+        iface: sent.iface,
+        sender: None,
+        frame: sent.frame.as_slice(),
+    };
+    put_frame_line(out, &line)?;
     put_lost_lines(out, scenario, moment, sent.lost.as_slice())
 }
 
