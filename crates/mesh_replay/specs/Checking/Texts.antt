@@ -3,7 +3,7 @@ use Rattle.std.specs.Prelude.{◌≡◌, ℕ, ◌+◌, List, ◌∷◌, ◌++◌
 use Rattle.mesh_atoms.specs.declared.addr.Addr4.{Addr4}
 use Rattle.mesh_atoms.specs.declared.settings.RouterSettings.{RouterSettings}
 use Rattle.mesh_texts.specs.Lines.Marks.{face_name, relays_text}
-use Rattle.mesh_texts.specs.Trace.{heard_line, tick_line, sent_line, lost_line}
+use Rattle.mesh_texts.specs.Trace.{tick_line, sent_line, frame_line, lost_line}
 use Rattle.mesh_trace.specs.declared.reading.Reader.{Reader}
 use Rattle.mesh_trace.specs.Reading.Lines.{IsLineOf}
 use Rattle.mesh_trace.specs.Reading.Readers.{lines_from, IsReaderOf}
@@ -25,10 +25,8 @@ told_text r iface relays = front_text r iface ++ (relays_text relays ++ codes "\
 
 -- the text of a line
 abbrev pub text_of : DueLine → List ℕ
-text_of (due.Heard arrival settings bytes) =
-    heard_line arrival.now settings.now.name (face_name settings.now.interfaces arrival.iface) arrival.sender bytes.now
 text_of (due.Tick moment settings) = tick_line moment settings.now.name
-text_of (due.Sent moment settings iface bytes) = sent_text settings.now moment iface bytes.now
+text_of (due.Frame line) = frame_line line
 text_of (due.Lost moment scenario arc) = lost_line scenario.now moment arc
 text_of (due.Relays settings iface relays) = told_text settings.now iface relays.now
 

@@ -9,6 +9,7 @@ use crate::checking::case::{Case, CheckedEvent, Progress};
 use crate::checking::lines::{DueLine, take_due};
 use mesh_atoms::Bytes;
 use mesh_bases::Outbox;
+use mesh_texts::FrameLine;
 use std::alloc::{AllocError, Global};
 use std::rc::Rc;
 
@@ -72,12 +73,13 @@ fn tell_frame(
     requires iface { iface < length event.now.settings.now.interfaces }
     ensures { IfOk result (TellsSentFrames case.now progress.old progress.new event.now (record { iface = iface; bytes = frame.now.value } ∷ [])) }
 {
-    let line = DueLine::Sent {
+    let line = DueLine::Frame(FrameLine {
         moment: event.moment,
-        settings: event.settings,
+        router: event.settings,
         iface,
-        bytes: frame.as_ref().as_slice(),
-    };
+        sender: None,
+        frame: frame.as_ref().as_slice(),
+    });
     if !take_due(case.trace, &line, &mut progress.reader)? {
         return Ok(false);
     }

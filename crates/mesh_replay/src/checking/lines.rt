@@ -4,32 +4,21 @@ ghost use Rattle.mesh_replay.specs.Checking.Texts.{TakesText, front_text, told_t
 ghost use Rattle.mesh_trace.specs.Reading.Readers.{IsReaderOf};
 
 use mesh_atoms::{Addr4, Bytes, RouterSettings, Scenario};
-use mesh_machine::Arrival;
 use mesh_texts::{
-    Piece, face_name, put_all, put_heard_line, put_lost_line, put_sent_line, put_tick_line,
+    FrameLine, Piece, face_name, put_all, put_frame_line, put_lost_line, put_tick_line,
 };
 use mesh_trace::Reader;
 use std::alloc::AllocError;
 
-/// A line whose text is fixed: of a frame that a router hears, of its tick, of a frame of given octets that it sends, of the loss of a
-/// frame on an arc, or of given relays, of an interface or for routing.
+/// A line whose text is fixed: of a router's tick, of a frame of given octets that a router hears or sends, of the loss of a frame on an
+/// arc, or of given relays, of an interface or for routing.
 #[derive(Clone, Copy)]
 pub(crate) enum DueLine<'a> {
-    Heard {
-        arrival: Arrival,
-        settings: &'a RouterSettings,
-        bytes: &'a [u8],
-    },
     Tick {
         moment: u64,
         settings: &'a RouterSettings,
     },
-    Sent {
-        moment: u64,
-        settings: &'a RouterSettings,
-        iface: usize,
-        bytes: &'a [u8],
-    },
+    Frame(FrameLine<'a>),
     Lost {
         moment: u64,
         scenario: &'a Scenario,
@@ -93,27 +82,10 @@ fn put_due(out: &mut Bytes, line: &DueLine) -> Result<(), AllocError>
     ensures { OnOk result (out.new ≡ out.old ++ text_of line.now) }
 {
     match *line {
-        DueLine::Heard {
-            arrival,
-            settings,
-            bytes,
-        } => {
-            let Arrival { now, iface, sender } = arrival;
-            let face = face_name(settings.interfaces.as_slice(), iface);
-            put_heard_line(out, now, settings.name.as_slice(), face, sender, bytes)
-        }
         DueLine::Tick { moment, settings } => {
             put_tick_line(out, moment, settings.name.as_slice())
         }
-        DueLine::Sent {
-            moment,
-            settings,
-            iface,
-            bytes,
-        } => {
-            let face = face_name(settings.interfaces.as_slice(), iface);
-            put_sent_line(out, moment, settings.name.as_slice(), face, bytes)
-        }
+        DueLine::Frame(line) => put_frame_line(out, &line),
         DueLine::Lost {
             moment,
             scenario,

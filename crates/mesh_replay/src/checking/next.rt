@@ -13,6 +13,7 @@ use crate::checking::scene::FirstTick;
 use crate::traffic::Delivered;
 use mesh_atoms::{Bytes, RouterSettings, Scenario};
 use mesh_machine::{Arrival, sender_of};
+use mesh_texts::FrameLine;
 use std::rc::Rc;
 
 /// A frame that a router hears: how it comes, and its octets.
@@ -103,11 +104,13 @@ pub(crate) fn opening_line<'a>(settings: &'a RouterSettings, next: &'a NextEvent
     ensures { text_of result ≡ opening_text settings.now next.now.moment next.now.heard }
 {
     match &next.heard {
-        Some(heard) => DueLine::Heard {
-            arrival: heard.arrival,
-            settings,
-            bytes: heard.frame.as_ref().as_slice(),
-        },
+        Some(heard) => DueLine::Frame(FrameLine {
+            moment: heard.arrival.now,
+            router: settings,
+            iface: heard.arrival.iface,
+            sender: Some(heard.arrival.sender),
+            frame: heard.frame.as_ref().as_slice(),
+        }),
         None => DueLine::Tick {
             moment: next.moment,
             settings,
