@@ -1,6 +1,7 @@
 mod Members
 mod OneAddress
 mod PlainRouters
+mod PlainRoutersInRange
 mod Qualities
 mod Spoiled
 mod SpoiledNeighbours
@@ -16,7 +17,6 @@ mod ThreeRoutersSettled
 mod ThreeRoutersSound
 mod ThreeRoutersWitness
 mod TwoRouters
-mod TwoRoutersInRange
 mod TwoRoutersRelays
 mod TwoRoutersRoutes
 mod TwoRoutersSettled
@@ -28,5 +28,6 @@ mod WorkedHello
 mod WorkedLoss
 mod WorkedNeighbourhood
 mod WorkedQuality
+mod WorkedReceiver
 mod WrongStates
 mod Common

@@ -1,5 +1,5 @@
--- Items of short lists, and of lists that are made of others.
-use Rattle.mesh_laws.proofs.Common.{arith, common_steps, ◌≡◌, inl, inr, ap, subst, sym, ◌∙◌, List, [], ◌∷◌, map, Contains, Base, Has, contains_tail as there, contains_cases, contains_none as none_of, contains_head as here}
+-- Items of short lists, and of lists that are made of others, and bases of one tuple and of none.
+use Rattle.mesh_laws.proofs.Common.{arith, common_steps, ◌≡◌, ℕ, zero, suc, Bool, inl, inr, ap, subst, sym, ◌∙◌, List, [], ◌∷◌, map, Contains, Base, Has, HasDistinctKeys, base_of, single_distinct, empty_distinct, contains_tail as there, contains_cases, contains_none as none_of, contains_head as here}
 
 -- each item of a list has the property
 abbrev pub Each : {A : Type 0} → (A → Type 0) → List A → Type 0
@@ -25,3 +25,12 @@ both_same f a b c d e g = ap (λ x. f x c) e ∙ ap (λ y. f b y) g
 -- a tuple by the same key and the same record
 pub has_same : {K V : Type 0} (base : Base K V) (k l : K) (v w : V) → k ≡ l → v ≡ w → Has base k v → Has base l w
 has_same base k l v w e f has = subst (λ b. Has base l b) f (subst (λ b. Has base b v) e has)
+
+-- the bases of one interface have distinct keys: a base of one tuple, and one of none
+pub single_base : {K V : Type 0} (eq : K → K → Bool) (k : K) (e : V × ℕ) (i : ℕ) → HasDistinctKeys eq (base_of (((k, e) ∷ []) ∷ []) i)
+single_base eq k e zero = single_distinct eq k e
+single_base {V = V} eq k e (suc i) = empty_distinct V eq
+
+pub empty_base : {K : Type 0} (V : Type 0) (eq : K → K → Bool) (i : ℕ) → HasDistinctKeys {K = K} {V = V} eq (base_of ([] ∷ []) i)
+empty_base V eq zero = empty_distinct V eq
+empty_base V eq (suc i) = empty_distinct V eq

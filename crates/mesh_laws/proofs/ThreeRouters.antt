@@ -1,12 +1,10 @@
 -- Three routers in a row: the middle one relays for the other two, and the last one attaches a network. Their settings, their scenario
 -- and their states.
-use Rattle.mesh_laws.proofs.Common.{common_steps, ◌≡◌, ℕ, zero, suc, refl, ap, arith, List, [], ◌∷◌, map, Contains, Some, None, Bool, true, false, IsTrue, Addr4, NetAddr, TcRow, LinkKey, Link, TwoHopKey, TwoHop, Neighbour, Advertiser, RouterKey, RouterTuple, AddressKey, AddressTuple, NetworkKey, NetworkTuple, Interface, RouterSettings, Scenario, Route, host, State, HasLink, HasTwoHop, HasSymmetric, HasAddressOn, contains_map, contains_head as here}
-pub use Rattle.mesh_laws.proofs.TwoRoutersInRange.{addr}
-pub use Rattle.mesh_laws.proofs.PlainRouters.{one, arc}
-use Rattle.mesh_laws.proofs.PlainRouters.{face_of, settings_of, link_of, neighbour_of}
-use Rattle.mesh_laws.proofs.TwoRoutersInRange.{is_end, small_seed, no_loss}
+use Rattle.mesh_laws.proofs.Common.{common_steps, ◌≡◌, ℕ, zero, suc, refl, ap, arith, List, [], ◌∷◌, map, Contains, Some, None, Bool, true, false, IsTrue, Addr4, NetAddr, Metric, TcRow, LinkKey, Link, TwoHopKey, TwoHop, Neighbour, Advertiser, RouterKey, RouterTuple, AddressKey, AddressTuple, NetworkKey, NetworkTuple, RouterSettings, Scenario, Route, host, State, HasLink, HasTwoHop, HasSymmetric, HasAddressOn, quiet, contains_map, contains_head as here}
+pub use Rattle.mesh_laws.proofs.PlainRouters.{one, addr, face, arc}
+use Rattle.mesh_laws.proofs.PlainRouters.{settings_of, scenario_of, link_of, neighbour_of, plain_state}
 use Rattle.mesh_laws.proofs.Members.{unmapped}
-use Rattle.mesh_laws.proofs.ThreeRoutersInRange.{letter, is_interface, is_router, are_routers, are_arcs}
+use Rattle.mesh_laws.proofs.ThreeRoutersInRange.{is_router, are_routers, arcs, are_arcs}
 pub use Rattle.mesh_laws.proofs.ThreeRoutersInRange.{net, attached, given}
 
 -- Who knows whom
@@ -58,27 +56,13 @@ advertisers (suc zero) = 2 ∷ []
 advertisers (suc (suc zero)) = 1 ∷ []
 advertisers (suc (suc (suc x))) = []
 
--- Settings
-
-abbrev pub face : ℕ → Interface
-face x = face_of (letter x ∷ []) (addr x) (is_interface x)
+-- Settings and scenario
 
 abbrev pub settings : ℕ → RouterSettings
-settings x = settings_of (letter x ∷ []) (addr x) (attached x) (is_interface x) (is_router x)
+settings x = settings_of x (attached x) (is_router x)
 
 abbrev pub scenario : Scenario
-scenario = record {
-  end = 16384;
-  seed = 0;
-  loss_until = None;
-  routers = settings 0 ∷ settings 1 ∷ settings 2 ∷ [];
-  arcs = arc 0 1 ∷ arc 1 0 ∷ arc 1 2 ∷ arc 2 1 ∷ [];
-  end_in_range = is_end;
-  seed_in_range = small_seed;
-  loss_in_range = no_loss;
-  sound_routers = are_routers;
-  sound_arcs = are_arcs;
-}
+scenario = scenario_of (settings 0 ∷ settings 1 ∷ settings 2 ∷ []) arcs are_routers are_arcs
 
 -- States
 
@@ -86,13 +70,13 @@ abbrev pub key : ℕ → LinkKey
 key y = record { addr = addr y }
 
 abbrev pub link : ℕ → ℕ → Link
-link x y = link_of (addr y) (is_middle x)
+link x y = link_of y (is_middle x)
 
 abbrev pub link_entry : ℕ → ℕ → LinkKey × (Link × ℕ)
 link_entry x y = (key y, (link x y, 9))
 
 abbrev pub neighbour : ℕ → ℕ → Neighbour
-neighbour x y = neighbour_of (addr y) (is_middle x)
+neighbour x y = neighbour_of y (is_middle x)
 
 abbrev pub neighbour_entry : ℕ → ℕ → Addr4 × (Neighbour × ℕ)
 neighbour_entry x y = (addr y, (neighbour x y, 9))
@@ -110,23 +94,21 @@ two_hop_entry z = (two_hop_key z, (far, 9))
 abbrev pub advertiser_entry : ℕ → Addr4 × (Advertiser × ℕ)
 advertiser_entry w = (addr w, (record { ansn = 0 }, 9))
 
-abbrev pub router_key : ℕ → RouterKey
-router_key z = record { from = addr 1; to = addr z }
+-- the tuple of an address in the middle router's rows, by the functions that make its key and its value
+abbrev pub row_entry : {K V : Type 0} → (Addr4 → Addr4 → K) → (ℕ → Metric → V) → ℕ → K × (V × ℕ)
+row_entry key_of tuple_of z = (key_of (addr 1) (addr z), (tuple_of 0 one, 9))
 
-abbrev pub router_tuple : RouterTuple
-router_tuple = record { ansn = 0; metric = one }
+abbrev pub router_key : Addr4 → Addr4 → RouterKey
+router_key from to = record { from = from; to = to }
 
-abbrev pub router_entry : ℕ → RouterKey × (RouterTuple × ℕ)
-router_entry z = (router_key z, (router_tuple, 9))
+abbrev pub router_tuple : ℕ → Metric → RouterTuple
+router_tuple ansn metric = record { ansn = ansn; metric = metric }
 
-abbrev pub address_key : ℕ → AddressKey
-address_key z = record { from = addr 1; addr = addr z }
+abbrev pub address_key : Addr4 → Addr4 → AddressKey
+address_key from a = record { from = from; addr = a }
 
-abbrev pub address_tuple : AddressTuple
-address_tuple = record { ansn = 0; metric = one }
-
-abbrev pub address_entry : ℕ → AddressKey × (AddressTuple × ℕ)
-address_entry z = (address_key z, (address_tuple, 9))
+abbrev pub address_tuple : ℕ → Metric → AddressTuple
+address_tuple ansn metric = record { ansn = ansn; metric = metric }
 
 abbrev pub network_key : ℕ → NetworkKey
 network_key g = record { from = addr g; net = net }
@@ -155,65 +137,39 @@ rows (suc (suc (suc x))) = []
 abbrev pub route : NetAddr → ℕ → ℕ → NetAddr → Route
 route dest y cost parent = record { dest = dest; next = addr y; iface = 0; metric = cost; parent = parent }
 
+-- the route to router z by way of y, at that cost, with router p as its parent
+abbrev pub host_route : ℕ → ℕ → ℕ → ℕ → Route
+host_route z y cost p = route (host (addr z)) y cost (host (addr p))
+
+-- the route to the network, with the last router as its parent
+abbrev pub net_route : ℕ → ℕ → Route
+net_route y cost = route net y cost (host (addr 2))
+
 -- worked out by hand: each step costs 1, and the network 1 from its gateway
-abbrev pub first_to_second : Route
-first_to_second = route (host (addr 1)) 1 1 (host (addr 0))
-
-abbrev pub first_to_third : Route
-first_to_third = route (host (addr 2)) 1 2 (host (addr 1))
-
-abbrev pub first_to_net : Route
-first_to_net = route net 1 3 (host (addr 2))
-
-abbrev pub second_to_first : Route
-second_to_first = route (host (addr 0)) 0 1 (host (addr 1))
-
-abbrev pub second_to_third : Route
-second_to_third = route (host (addr 2)) 2 1 (host (addr 1))
-
-abbrev pub second_to_net : Route
-second_to_net = route net 2 2 (host (addr 2))
-
-abbrev pub third_to_first : Route
-third_to_first = route (host (addr 0)) 1 2 (host (addr 1))
-
-abbrev pub third_to_second : Route
-third_to_second = route (host (addr 1)) 1 1 (host (addr 2))
-
 abbrev pub routes : ℕ → List Route
-routes zero = first_to_second ∷ first_to_third ∷ first_to_net ∷ []
-routes (suc zero) = second_to_first ∷ second_to_third ∷ second_to_net ∷ []
-routes (suc (suc zero)) = third_to_first ∷ third_to_second ∷ []
+routes zero = host_route 1 1 1 0 ∷ host_route 2 1 2 1 ∷ net_route 1 3 ∷ []
+routes (suc zero) = host_route 0 0 1 1 ∷ host_route 2 2 1 1 ∷ net_route 2 2 ∷ []
+routes (suc (suc zero)) = host_route 0 1 2 1 ∷ host_route 1 1 1 2 ∷ []
 routes (suc (suc (suc x))) = []
 
 abbrev pub state : ℕ → State
-state x = record {
-  settings = settings x;
-  bases = record {
-    neighbourhood = record {
-      links = map (link_entry x) (peers x) ∷ [];
-      two_hops = map two_hop_entry (beyond x) ∷ [];
-      neighbours = map (neighbour_entry x) (peers x);
-      losts = [];
-    };
-    topology = record {
-      advertisers = map advertiser_entry (advertisers x);
-      routers = map router_entry (told x);
-      addresses = map address_entry (told x);
-      networks = map network_entry (gateways x);
-    };
-    noted = record { received = [] ∷ []; processed = []; forwarded = [] };
-  };
-  relays = record { flooding = map addr (relays x) ∷ []; routing = map addr (relays x) };
-  routes = routes x;
-  rows = rows x;
-  ansn = 0;
-  emptied = None;
-  sequence = 0;
-  next_hello = 6;
-  next_tc = 6;
-  last = 5;
-}
+state x = plain_state (settings x)
+    (record {
+      neighbourhood = record {
+        links = map (link_entry x) (peers x) ∷ [];
+        two_hops = map two_hop_entry (beyond x) ∷ [];
+        neighbours = map (neighbour_entry x) (peers x);
+        losts = [];
+      };
+      topology = record {
+        advertisers = map advertiser_entry (advertisers x);
+        routers = map (row_entry router_key router_tuple) (told x);
+        addresses = map (row_entry address_key address_tuple) (told x);
+        networks = map network_entry (gateways x);
+      };
+      noted = quiet;
+    })
+    (record { flooding = map addr (relays x) ∷ []; routing = map addr (relays x) }) (routes x) (rows x)
 
 abbrev pub states : List State
 states = state 0 ∷ state 1 ∷ state 2 ∷ []

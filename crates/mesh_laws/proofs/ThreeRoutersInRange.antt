@@ -1,13 +1,7 @@
 -- The settings of three routers in a row are in their ranges.
-use Rattle.mesh_laws.proofs.Common.{common_steps, ◌≡◌, ℕ, zero, suc, ◌%◌, ◌-◌, ◌^◌, ◌≤◌, refl, arith, List, [], ◌∷◌, map, length, Contains, IsTrue, NetAddr, Attached4, IsName, IsInterface, IsRouter, AreRouters, AreArcs, Ends, are_distinct, are_no_hosts, net_eq}
-use Rattle.mesh_laws.proofs.TwoRoutersInRange.{addr}
-use Rattle.mesh_laws.proofs.PlainRouters.{one}
-
--- the names are a, b and c
-abbrev pub letter : ℕ → ℕ
-letter zero = 97
-letter (suc zero) = 98
-letter (suc (suc x)) = 99
+use Rattle.mesh_laws.proofs.Common.{common_steps, ◌≡◌, ℕ, zero, suc, ◌%◌, ◌-◌, ◌^◌, ◌≤◌, refl, arith, List, [], ◌∷◌, map, Contains, NetAddr, Attached4, RadioArc, IsRouter, AreRouters, AreArcs, ends_of}
+use Rattle.mesh_laws.proofs.PlainRoutersInRange.{letter, router_with}
+use Rattle.mesh_laws.proofs.PlainRouters.{one, addr, arc}
 
 pub net_within : 24 ≤ 32
 net_within = omega arith
@@ -31,26 +25,14 @@ attached (suc (suc x)) = given ∷ []
 pub attached_is : (x : ℕ) (t : Attached4) → Contains (attached x) t → t ≡ given
 attached_is x t c = grind (arith, common_steps)
 
-is_name : (x : ℕ) → IsName (letter x ∷ [])
-is_name x = grind (arith, common_steps)
-
-pub is_interface : (x : ℕ) → IsInterface (letter x ∷ []) (addr x ∷ [])
-is_interface x = grind (arith, common_steps, is_name)
-
--- with one interface, and these networks
-router_with : (x : ℕ) (nets : List NetAddr) → length nets ≤ 64 → IsTrue (are_distinct net_eq nets) → IsTrue (are_no_hosts nets (addr x ∷ [])) →
-    IsRouter (letter x ∷ []) 0 0 ((letter x ∷ []) ∷ []) (addr x ∷ []) nets
-router_with x nets few distinct apart = grind (arith, common_steps, is_name)
-
 pub is_router : (x : ℕ) → IsRouter (letter x ∷ []) 0 0 ((letter x ∷ []) ∷ []) (addr x ∷ []) (map (λ (t : Attached4). t.net) (attached x))
 is_router x = grind (arith, common_steps, router_with)
 
 pub are_routers : AreRouters ((97 ∷ []) ∷ (98 ∷ []) ∷ (99 ∷ []) ∷ []) (addr 0 ∷ addr 1 ∷ addr 2 ∷ []) (net ∷ [])
 are_routers = grind (arith, common_steps)
 
--- the interfaces of two routers, the first ones
-abbrev ends : ℕ → ℕ → Ends
-ends x y = record { from = x; from_iface = 0; to = y; to_iface = 0 }
+abbrev pub arcs : List RadioArc
+arcs = arc 0 1 ∷ arc 1 0 ∷ arc 1 2 ∷ arc 2 1 ∷ []
 
-pub are_arcs : AreArcs (1 ∷ 1 ∷ 1 ∷ []) (ends 0 1 ∷ ends 1 0 ∷ ends 1 2 ∷ ends 2 1 ∷ [])
+pub are_arcs : AreArcs (1 ∷ 1 ∷ 1 ∷ []) (map ends_of arcs)
 are_arcs = record { few = omega arith; join_routers = refl; distinct = refl }

@@ -1,6 +1,7 @@
 -- The radio graph of three routers in a row.
 use Rattle.mesh_laws.proofs.Common.{common_steps, ◌≡◌, ℕ, zero, suc, ◌≢◌, refl, ap, arith, Contains, Some, None, Metric, RadioArc, RouterSettings, metric_value, Leads, IsAdmitted, Joins, Adjacent, IsMetric, Itself, By, Router, At, IsPeer, AreStates, State, some_equal}
-use Rattle.mesh_laws.proofs.ThreeRouters.{one, arc, peers, each_pair, peers_back, face, settings, scenario, state, states}
+use Rattle.mesh_laws.proofs.PlainRouters.{each_admits}
+use Rattle.mesh_laws.proofs.ThreeRouters.{one, arc, peers, each_pair, peers_back, settings, scenario, state, states}
 
 -- Arcs
 
@@ -21,22 +22,11 @@ leads_out = each_pair (λ x y. Leads scenario x 0 y 0 one)
     (arc 1 2, (2, omega arith, refl), refl, refl, refl, refl, refl)
     (arc 2 1, (3, omega arith, refl), refl, refl, refl, refl, refl)
 
--- each admits whatever it hears
+router_at : (x y : ℕ) → Contains (peers x) y → Router scenario y (settings y)
+router_at = each_pair (λ x y. Router scenario y (settings y)) refl refl refl refl
+
 admitted : (x y : ℕ) → Contains (peers x) y → IsAdmitted scenario x 0 y 0
-admitted = each_pair (λ x y. IsAdmitted scenario x 0 y 0) (between 0 1 refl refl) (between 1 0 refl refl) (between 1 2 refl refl) (between 2 1 refl refl)
-  where
-    between : (x y : ℕ) → Router scenario x (settings x) → Router scenario y (settings y) → IsAdmitted scenario x 0 y 0
-    between x y from to = record {
-      sender = settings x;
-      sends = from;
-      from = face x;
-      is_from = refl;
-      receiver = settings y;
-      receives = to;
-      to = face y;
-      is_to = refl;
-      accepted = omega arith;
-    }
+admitted x y c = each_admits scenario x y (settings x) (settings y) (router_at y x (peers_back x y c)) (router_at x y c) refl refl
 
 pub joins : (x y : ℕ) → Contains (peers x) y → Joins scenario x 0 y 0 one one
 joins x y c = record {

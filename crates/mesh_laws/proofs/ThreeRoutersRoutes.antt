@@ -2,7 +2,7 @@
 use Rattle.mesh_laws.proofs.Common.{common_steps, ◌≡◌, ℕ, zero, suc, ◌+◌, ◌≤◌, ◌≢◌, inl, inr, refl, sym, ◌∙◌, ap, subst, arith, List, [], ◌∷◌, Contains, Some, AllPairs, Contains-from_lookup, Addr4, NetAddr, Attached4, Link, Neighbour, RouterKey, RouterTuple, AddressKey, AddressTuple, NetworkKey, NetworkTuple, TwoHopKey, TwoHop, Route, more_ascend, one_ascends, host, net_eq, metric_value, IsBefore, RouteArc, To_neighbour, To_two_hop, By_router, By_address, By_network, IsOutside, IsParent, IsNextHop, AreRoutes, Walk, Stay, Onward, Least, FirstNode, AtSelf, Through, same_net, only, at_most_itself, contains_map, contains_none as none_of, contains_head as here, some_equal}
 use Rattle.std.specs.Map.{lookup}
 use Rattle.mesh_laws.proofs.Members.{Each, each, unmapped}
-use Rattle.mesh_laws.proofs.ThreeRouters.{one, addr, net, attached, face, peers, beyond, told, gateways, link, neighbour, router_tuple, router_entry, address_entry, network_entry, network_tuple, route, first_to_second, first_to_third, first_to_net, second_to_first, second_to_third, second_to_net, third_to_first, third_to_second, routes, state, each_pair, each_beyond, each_told, each_gateway, same_number, address_on, has_own, link_is, link_has, two_hop_is}
+use Rattle.mesh_laws.proofs.ThreeRouters.{one, addr, net, attached, face, peers, beyond, told, gateways, link, neighbour, row_entry, router_key, router_tuple, address_key, address_tuple, network_entry, network_tuple, route, net_route, routes, state, each_pair, each_beyond, each_told, each_gateway, same_number, address_on, has_own, link_is, link_has, two_hop_is}
 use Rattle.mesh_laws.proofs.ThreeRoutersInRange.{attached_is}
 use Rattle.mesh_laws.proofs.ThreeRoutersSay.{near, near_has}
 use Rattle.mesh_laws.proofs.ThreeRoutersSettled.{own_originator}
@@ -46,12 +46,12 @@ arc_is x _ _ _ (To_two_hop {o = o} {a = a} {m = m} i l t n has with wills out) =
     let via : addr 1 ≡ o = ap (λ (k : TwoHopKey). k.link.addr) (sym k_is) ∙ (l_is ∙ sym o_is) in
     (moved x (host o) (host (addr 1)) (host a) (host (addr z)) (ap host via) (ap (λ (k : TwoHopKey). host k.addr) (sym k_is)) (to_beyond x z c), ap metric_value (sym (some_equal _ _ (subst P t_is out))))
 arc_is x _ _ _ (By_router {from = from} {to = to} t has) =
-    let (z, c, is) = unmapped router_entry (told x) (record { from = from; to = to }, (t, has.0)) has.1 in (
+    let (z, c, is) = unmapped (row_entry router_key router_tuple) (told x) (record { from = from; to = to }, (t, has.0)) has.1 in (
       moved x (host from) (host (addr 1)) (host to) (host (addr z)) (ap (λ (b : RouterKey × (RouterTuple × ℕ)). host b.0.from) (sym is)) (ap (λ (b : RouterKey × (RouterTuple × ℕ)). host b.0.to) (sym is)) (to_told x z c),
       ap (λ (b : RouterKey × (RouterTuple × ℕ)). metric_value b.1.0.metric) is,
     )
 arc_is x _ _ _ (By_address {from = from} {a = a} t has) =
-    let (z, c, is) = unmapped address_entry (told x) (record { from = from; addr = a }, (t, has.0)) has.1 in (
+    let (z, c, is) = unmapped (row_entry address_key address_tuple) (told x) (record { from = from; addr = a }, (t, has.0)) has.1 in (
       moved x (host from) (host (addr 1)) (host a) (host (addr z)) (ap (λ (b : AddressKey × (AddressTuple × ℕ)). host b.0.from) (sym is)) (ap (λ (b : AddressKey × (AddressTuple × ℕ)). host b.0.addr) (sym is)) (to_told x z c),
       ap (λ (b : AddressKey × (AddressTuple × ℕ)). metric_value b.1.0.metric) is,
     )
@@ -179,7 +179,7 @@ net_outside x none = record {
 }
 
 by_router : (x z : ℕ) → Contains (told x) z → RouteArc (state x) (host (addr 1)) (host (addr z)) 1
-by_router x z c = By_router router_tuple (9, contains_map router_entry (told x) z c)
+by_router x z c = By_router (router_tuple 0 one) (9, contains_map (row_entry router_key router_tuple) (told x) z c)
 
 by_network : (x : ℕ) → Contains (gateways x) 2 → RouteArc (state x) (host (addr 2)) net 1
 by_network x c = By_network network_tuple (9, contains_map network_entry (gateways x) 2 c)
@@ -207,14 +207,14 @@ dest r = r.dest
 
 pub first_routes : AreRoutes (state 0) 5 (addr 0)
 first_routes = are_routes 0 refl
-    (itself 0 0, ((λ _. (first_to_second, (0, omega arith, refl), refl)), ((λ _. (first_to_third, (1, omega arith, refl), refl)), ((λ _. (first_to_net, (2, omega arith, refl), refl)), tt)))) (
+    (itself 0 0, ((λ _. (_, (0, omega arith, refl), refl)), ((λ _. (_, (1, omega arith, refl), refl)), ((λ _. (_, (2, omega arith, refl), refl)), tt)))) (
       record { outside = host_outside 0 1 (λ e. absurd (omega (arith, e))); least = one_step.0; parent = one_step.1; next_hop = hop 0 1 _ _ _ (here 1 []) first },
       (
         record { outside = host_outside 0 2 (λ e. absurd (omega (arith, e))); least = two_steps.0; parent = two_steps.1; next_hop = hop 0 1 _ _ _ (here 1 []) second },
         (record { outside = net_outside 0 (λ t c. none_of t c); least = three_steps.0; parent = three_steps.1; next_hop = hop 0 1 _ _ _ (here 1 []) (Through three_steps.1 (apart 2 0 (λ e. absurd (omega (arith, e)))) second) }, tt),
       ),
     )
-    (more_ascend dest first_to_second first_to_third (first_to_net ∷ []) (inl (omega arith)) (more_ascend dest first_to_third first_to_net [] (inl (omega arith)) (one_ascends dest first_to_net)))
+    (more_ascend dest _ _ (net_route 1 3 ∷ []) (inl (omega arith)) (more_ascend dest _ _ [] (inl (omega arith)) (one_ascends dest _)))
   where
     one_step : Least (RouteArc (state 0)) (host (addr 0)) (host (addr 1)) 1 × IsParent (state 0) (host (addr 0)) (host (addr 0)) (host (addr 1))
     one_step = onward 0 (host (addr 0)) (host (addr 1)) 0 refl (stays 0 refl) (to_neighbour 0 1 (here 1 [])) refl
@@ -235,14 +235,14 @@ first_routes = are_routes 0 refl
 
 pub second_routes : AreRoutes (state 1) 5 (addr 1)
 second_routes = are_routes 1 refl
-    (itself 1 0, ((λ _. (second_to_first, (0, omega arith, refl), refl)), ((λ _. (second_to_third, (1, omega arith, refl), refl)), ((λ _. (second_to_net, (2, omega arith, refl), refl)), tt)))) (
+    (itself 1 0, ((λ _. (_, (0, omega arith, refl), refl)), ((λ _. (_, (1, omega arith, refl), refl)), ((λ _. (_, (2, omega arith, refl), refl)), tt)))) (
       record { outside = host_outside 1 0 (λ e. absurd (omega (arith, e))); least = back.0; parent = back.1; next_hop = hop 1 0 _ _ _ (here 0 (2 ∷ [])) (AtSelf back.1) },
       (
         record { outside = host_outside 1 2 (λ e. absurd (omega (arith, e))); least = ahead.0; parent = ahead.1; next_hop = hop 1 2 _ _ _ (1, omega arith, refl) (AtSelf ahead.1) },
         (record { outside = net_outside 1 (λ t c. none_of t c); least = network.0; parent = network.1; next_hop = hop 1 2 _ _ _ (1, omega arith, refl) (Through network.1 (apart 2 1 (λ e. absurd (omega (arith, e)))) (AtSelf ahead.1)) }, tt),
       ),
     )
-    (more_ascend dest second_to_first second_to_third (second_to_net ∷ []) (inl (omega arith)) (more_ascend dest second_to_third second_to_net [] (inl (omega arith)) (one_ascends dest second_to_net)))
+    (more_ascend dest _ _ (net_route 2 2 ∷ []) (inl (omega arith)) (more_ascend dest _ _ [] (inl (omega arith)) (one_ascends dest _)))
   where
     back : Least (RouteArc (state 1)) (host (addr 1)) (host (addr 0)) 1 × IsParent (state 1) (host (addr 1)) (host (addr 1)) (host (addr 0))
     back = onward 1 (host (addr 1)) (host (addr 0)) 0 refl (stays 1 refl) (to_neighbour 1 0 (here 0 (2 ∷ []))) refl
@@ -257,11 +257,11 @@ second_routes = are_routes 1 refl
 
 pub third_routes : AreRoutes (state 2) 5 (addr 2)
 third_routes = are_routes 2 refl
-    (itself 2 0, ((λ _. (third_to_second, (1, omega arith, refl), refl)), ((λ _. (third_to_first, (0, omega arith, refl), refl)), tt))) (
+    (itself 2 0, ((λ _. (_, (1, omega arith, refl), refl)), ((λ _. (_, (0, omega arith, refl), refl)), tt))) (
       record { outside = host_outside 2 0 (λ e. absurd (omega (arith, e))); least = two_steps.0; parent = two_steps.1; next_hop = hop 2 1 _ _ _ (here 1 []) (Through two_steps.1 (apart 1 2 (λ e. absurd (omega (arith, e)))) (AtSelf one_step.1)) },
       (record { outside = host_outside 2 1 (λ e. absurd (omega (arith, e))); least = one_step.0; parent = one_step.1; next_hop = hop 2 1 _ _ _ (here 1 []) (AtSelf one_step.1) }, tt),
     )
-    (more_ascend dest third_to_first third_to_second [] (inl (omega arith)) (one_ascends dest third_to_second))
+    (more_ascend dest _ _ [] (inl (omega arith)) (one_ascends dest _))
   where
     one_step : Least (RouteArc (state 2)) (host (addr 2)) (host (addr 1)) 1 × IsParent (state 2) (host (addr 2)) (host (addr 2)) (host (addr 1))
     one_step = onward 2 (host (addr 2)) (host (addr 1)) 0 refl (stays 2 refl) (to_neighbour 2 1 (here 1 [])) refl

@@ -1,7 +1,7 @@
 -- Three routers in a row hold exactly what the others say.
-use Rattle.mesh_laws.proofs.Common.{common_steps, ◌≡◌, ℕ, suc, ◌⊎◌, ◌≢◌, inl, inr, refl, sym, ◌∙◌, ap, subst, arith, [], ◌∷◌, map, Contains, Option, Some, IsTrue, Addr4, NetAddr, Metric, Attached4, LinkKey, Link, Neighbour, TwoHopKey, TwoHop, RouterKey, RouterTuple, AddressKey, AddressTuple, NetworkKey, NetworkTuple, Has, Advertises, Says, IsSaid, Near_in, Near_out, Link_in, Link_out, Joins, IsMetric, At, IsSettledAt, IsLeastAddress, IsLinkTo, IsNeighbourOf, IsTwoHopBy, IsStray, IsPeer, IsRouterBy, IsAddressBy, IsNetworkBy, State, HasAddress, IsOriginator, HasTwoHop, contains_map, contains_none as none_of, contains_head as here}
+use Rattle.mesh_laws.proofs.Common.{common_steps, ◌≡◌, ℕ, suc, ◌⊎◌, ◌≢◌, inl, inr, refl, sym, ◌∙◌, ap, subst, arith, List, [], ◌∷◌, map, Contains, Option, Some, IsTrue, Addr4, NetAddr, Metric, Attached4, LinkKey, Link, Neighbour, TwoHopKey, TwoHop, RouterKey, RouterTuple, AddressKey, AddressTuple, NetworkKey, NetworkTuple, Has, Advertises, Says, IsSaid, Near_in, Near_out, Link_in, Link_out, Joins, IsMetric, At, IsSettledAt, IsLeastAddress, IsLinkTo, IsNeighbourOf, IsTwoHopBy, IsStray, IsPeer, IsRouterBy, IsAddressBy, IsNetworkBy, State, HasAddress, IsOriginator, HasTwoHop, contains_map, contains_none as none_of, contains_head as here}
 use Rattle.mesh_laws.proofs.Members.{unmapped, both_same, has_same}
-use Rattle.mesh_laws.proofs.ThreeRouters.{one, addr, attached, face, settings, scenario, peers, beyond, relays, is_middle, told, gateways, key, link, neighbour, two_hop_key, far, router_key, router_tuple, router_entry, address_key, address_tuple, address_entry, network_key, network_tuple, network_entry, state, states, each_pair, each_beyond, each_told, each_gateway, each_relay, peers_back, same_number, address_on, has_own, link_is, link_has, symmetric_is, symmetric_has, two_hop_is, two_hop_has}
+use Rattle.mesh_laws.proofs.ThreeRouters.{one, addr, attached, face, settings, scenario, peers, beyond, relays, is_middle, told, gateways, key, link, neighbour, two_hop_key, far, row_entry, router_key, router_tuple, address_key, address_tuple, network_key, network_tuple, network_entry, state, states, each_pair, each_beyond, each_told, each_gateway, each_relay, peers_back, same_number, address_on, has_own, link_is, link_has, symmetric_is, symmetric_has, two_hop_is, two_hop_has}
 use Rattle.mesh_laws.proofs.ThreeRoutersInRange.{attached_is}
 use Rattle.mesh_laws.proofs.ThreeRoutersSay.{symmetric_said, says_symmetric, flooding_said, says_flooding, routing_said, says_routing, near_in_said, near_out_said, says_near_in, says_near_out, advertises, advertises_is, advertises_originator, advertises_network}
 use Rattle.mesh_laws.proofs.ThreeRoutersRadio.{leads, joins, metric, each_state, state_is, state_at, next_to, two_away}
@@ -131,48 +131,36 @@ told_of = each_told IsToldOf
 told_all : (x : ℕ) (p : State) → At states x p → 1 ≢ x → (z : ℕ) → Contains (peers 1) z → Contains (told x) z
 told_all = each_state (λ x p. 1 ≢ x → (z : ℕ) → Contains (peers 1) z → Contains (told x) z) (λ _ z c. c) (λ other z c. absurd (other refl)) (λ _ z c. c)
 
-router_by : (z : ℕ) → Contains (peers 1) z → IsRouterBy (state 1) (router_key z) router_tuple
+router_by : (z : ℕ) → Contains (peers 1) z → IsRouterBy (state 1) (router_key (addr 1) (addr z)) (router_tuple 0 one)
 router_by z c = record { from = (face 1, refl, refl); to = advertises_originator z c; metric = advertises z c; ansn = refl }
 
-address_by : (z : ℕ) → Contains (peers 1) z → IsAddressBy (state 1) (address_key z) address_tuple
+address_by : (z : ℕ) → Contains (peers 1) z → IsAddressBy (state 1) (address_key (addr 1) (addr z)) (address_tuple 0 one)
 address_by z c = record { from = (face 1, refl, refl); metric = advertises z c; ansn = refl }
 
 network_by : IsNetworkBy (state 2) (network_key 2) network_tuple
 network_by = record { from = (face 2, refl, refl); row = advertises_network; ansn = refl }
 
--- a row of an address is the middle router's
-row_told : (x w : ℕ) (p : State) (from a : Addr4) (m : Metric) → At states x p → w ≢ x → IsOriginator (settings w) from → Advertises (state w) a m →
-    (z : ℕ) × Contains (told x) z × (from ≡ addr 1) × (a ≡ addr z) × (m ≡ one)
-row_told x w p from a m at other origin row =
-    let (w_is, z, c, a_is, m_is) = advertises_is w a m row in (
-      z,
-      told_all x p at (subst (λ k. k ≢ x) w_is other) z (subst (λ k. Contains (peers k) z) w_is c),
-      own_originator w from origin ∙ ap addr w_is,
-      a_is,
-      m_is,
-    )
+-- a row of an address is the middle router's, and the tuple of its address is held
+row_held : {K V : Type 0} (key_of : Addr4 → Addr4 → K) (tuple_of : ℕ → Metric → V) (x w : ℕ) (p : State) (from a : Addr4) (n : ℕ) (m : Metric) → At states x p → w ≢ x →
+    IsOriginator (settings w) from → Advertises (state w) a m → n ≡ 0 → Has (map (row_entry key_of tuple_of) (told x)) (key_of from a) (tuple_of n m)
+row_held key_of tuple_of x w p from a n m at other origin row number =
+    let (w_is, z, c, a_is, m_is) = advertises_is w a m row in
+    let among = told_all x p at (subst (λ k. k ≢ x) w_is other) z (subst (λ k. Contains (peers k) z) w_is c) in
+    has_same (map (row_entry key_of tuple_of) (told x)) (key_of (addr 1) (addr z)) (key_of from a) (tuple_of 0 one) (tuple_of n m)
+    (both_same key_of _ _ _ _ (sym (own_originator w from origin ∙ ap addr w_is)) (sym a_is)) (both_same tuple_of _ _ _ _ (sym number) (sym m_is))
+    (9, contains_map (row_entry key_of tuple_of) (told x) z among)
 
 router_held : (x w : ℕ) (p : State) (k : RouterKey) (t : RouterTuple) → At states x p → w ≢ x → IsRouterBy (state w) k t → Has (state x).bases.topology.routers k t
-router_held x w p k t at other by =
-    let (z, c, from, to, m) = row_told x w p k.from k.to t.metric at other by.from by.metric in
-    has_same (map router_entry (told x)) (router_key z) k router_tuple t
-    (both_same (λ (a b : Addr4). let r : RouterKey = record { from = a; to = b } in r) _ _ _ _ (sym from) (sym to))
-    (both_same (λ (n : ℕ) (b : Metric). let r : RouterTuple = record { ansn = n; metric = b } in r) _ _ _ _ (sym by.ansn) (sym m))
-    (9, contains_map router_entry (told x) z c)
+router_held x w p k t at other by = row_held router_key router_tuple x w p k.from k.to t.ansn t.metric at other by.from by.metric by.ansn
 
 address_held : (x w : ℕ) (p : State) (k : AddressKey) (t : AddressTuple) → At states x p → w ≢ x → IsAddressBy (state w) k t → Has (state x).bases.topology.addresses k t
-address_held x w p k t at other by =
-    let (z, c, from, to, m) = row_told x w p k.from k.addr t.metric at other by.from by.metric in
-    has_same (map address_entry (told x)) (address_key z) k address_tuple t
-    (both_same (λ (a b : Addr4). let r : AddressKey = record { from = a; addr = b } in r) _ _ _ _ (sym from) (sym to))
-    (both_same (λ (n : ℕ) (b : Metric). let r : AddressTuple = record { ansn = n; metric = b } in r) _ _ _ _ (sym by.ansn) (sym m))
-    (9, contains_map address_entry (told x) z c)
+address_held x w p k t at other by = row_held address_key address_tuple x w p k.from k.addr t.ansn t.metric at other by.from by.metric by.ansn
 
--- who is told of the network
-gateway_of : (x g : ℕ) → Contains (gateways x) g → (g ≡ 2) × IsPeer scenario states x 2 (state 2)
-gateway_of = each_gateway (λ x g. (g ≡ 2) × IsPeer scenario states x 2 (state 2))
-    (refl, two_away 0 2 (λ e. absurd (omega (arith, e))) (here 1 []) (1, omega arith, refl))
-    (refl, next_to 1 2 (λ e. absurd (omega (arith, e))) (1, omega arith, refl))
+-- a gateway that x is told of is a peer, and says so
+gateway_of : (x g : ℕ) → Contains (gateways x) g → IsPeer scenario states x 2 (state 2) × IsNetworkBy (state 2) (network_key g) network_tuple
+gateway_of = each_gateway (λ x g. IsPeer scenario states x 2 (state 2) × IsNetworkBy (state 2) (network_key g) network_tuple)
+    (two_away 0 2 (λ e. absurd (omega (arith, e))) (here 1 []) (1, omega arith, refl), network_by)
+    (next_to 1 2 (λ e. absurd (omega (arith, e))) (1, omega arith, refl), network_by)
 
 gateways_all : (x : ℕ) (p : State) → At states x p → 2 ≢ x → Contains (gateways x) 2
 gateways_all = each_state (λ x p. 2 ≢ x → Contains (gateways x) 2) (λ _. here 2 []) (λ _. here 2 []) (λ other. absurd (other refl))
@@ -212,27 +200,14 @@ two_hop_known x i k t z e c k_is t_is =
     let middle = (behind x z c).by_middle in
     rw (e, k_is, t_is) (1, 0, state 1, one, one, state_at x 1 middle, joins x 1 middle, two_hop_by x z c)
 
-router_known : (x : ℕ) (k : RouterKey) (t : RouterTuple) (until z : ℕ) → Contains (told x) z → (k, (t, until)) ≡ router_entry z →
-    IsStray scenario x k.from ⊎ ((w : ℕ) × (q : State) × IsPeer scenario states x w q × IsRouterBy q k t)
-router_known x k t until z c is =
-    let k_is : k ≡ router_key z = ap (λ (b : RouterKey × (RouterTuple × ℕ)). b.0) is in
-    let t_is : t ≡ router_tuple = ap (λ (b : RouterKey × (RouterTuple × ℕ)). b.1.0) is in
-    rw (k_is, t_is) (inr (1, state 1, (told_of x z c).peer, router_by z (told_of x z c).next))
-
-address_known : (x : ℕ) (k : AddressKey) (t : AddressTuple) (until z : ℕ) → Contains (told x) z → (k, (t, until)) ≡ address_entry z →
-    IsStray scenario x k.from ⊎ ((w : ℕ) × (q : State) × IsPeer scenario states x w q × IsAddressBy q k t)
-address_known x k t until z c is =
-    let k_is : k ≡ address_key z = ap (λ (b : AddressKey × (AddressTuple × ℕ)). b.0) is in
-    let t_is : t ≡ address_tuple = ap (λ (b : AddressKey × (AddressTuple × ℕ)). b.1.0) is in
-    rw (k_is, t_is) (inr (1, state 1, (told_of x z c).peer, address_by z (told_of x z c).next))
-
-network_known : (x : ℕ) (k : NetworkKey) (t : NetworkTuple) (until g : ℕ) → Contains (gateways x) g → (k, (t, until)) ≡ network_entry g →
-    IsStray scenario x k.from ⊎ ((w : ℕ) × (q : State) × IsPeer scenario states x w q × IsNetworkBy q k t)
-network_known x k t until g c is =
-    let (g_is, peer) = gateway_of x g c in
-    let k_is : k ≡ network_key 2 = ap (λ (b : NetworkKey × (NetworkTuple × ℕ)). b.0) is ∙ ap network_key g_is in
-    let t_is : t ≡ network_tuple = ap (λ (b : NetworkKey × (NetworkTuple × ℕ)). b.1.0) is in
-    rw (k_is, t_is) (inr (2, state 2, peer, network_by))
+-- a topology tuple is what router w says, where w says each of its kind
+tuple_known : {K V : Type 0} (By : State → K → V → Type 0) (from : K → Addr4) (entry : ℕ → K × (V × ℕ)) (zs : List ℕ) (x w : ℕ) →
+    ((z : ℕ) → Contains zs z → IsPeer scenario states x w (state w) × By (state w) (entry z).0 (entry z).1.0) → (k : K) (t : V) → Has (map entry zs) k t →
+    IsStray scenario x (from k) ⊎ ((v : ℕ) × (q : State) × IsPeer scenario states x v q × By q k t)
+tuple_known {K} {V} By from entry zs x w said k t (until, stands) =
+    let (z, c, is) = unmapped entry zs (k, (t, until)) stands in
+    let (peer, by) = said z c in
+    inr (w, state w, peer, subst (λ (e : K × (V × ℕ)). By (state w) e.0 e.1.0) (sym is) by)
 
 -- The whole
 
@@ -254,10 +229,10 @@ settled_at x p at = record {
       let P : State → Type 0 = λ b. IsTwoHopBy (state x) b j 5 k t in
       let Q : ℕ → Type 0 = λ b. IsTwoHopBy (state x) (state y) b 5 k t in
       subst (λ b. HasTwoHop (state x) b k t) (sym e) (two_hop_held x y k t c (subst Q f (subst P (state_is y q away) by))));
-  router_from = λ k t has. (let (z, c, is) = unmapped router_entry (told x) (k, (t, has.0)) has.1 in router_known x k t has.0 z c is);
+  router_from = tuple_known IsRouterBy (λ k. k.from) (row_entry router_key router_tuple) (told x) x 1 (λ z c. ((told_of x z c).peer, router_by z (told_of x z c).next));
   router_to = λ w q k t who by. router_held x w p k t at who.other (subst (λ b. IsRouterBy b k t) (state_is w q who.at) by);
-  address_from = λ k t has. (let (z, c, is) = unmapped address_entry (told x) (k, (t, has.0)) has.1 in address_known x k t has.0 z c is);
+  address_from = tuple_known IsAddressBy (λ k. k.from) (row_entry address_key address_tuple) (told x) x 1 (λ z c. ((told_of x z c).peer, address_by z (told_of x z c).next));
   address_to = λ w q k t who by. address_held x w p k t at who.other (subst (λ b. IsAddressBy b k t) (state_is w q who.at) by);
-  network_from = λ k t has. (let (g, c, is) = unmapped network_entry (gateways x) (k, (t, has.0)) has.1 in network_known x k t has.0 g c is);
+  network_from = tuple_known IsNetworkBy (λ k. k.from) network_entry (gateways x) x 2 (gateway_of x);
   network_to = λ w q k t who by. network_held x w p q k t at who.at who.other (subst (λ b. IsNetworkBy b k t) (state_is w q who.at) by);
 }

@@ -1,6 +1,5 @@
 -- Three routers in a row are a settled network, with the routes that are worked out by hand.
-use Rattle.mesh_laws.proofs.Common.{◌≡◌, ℕ, refl, sym, subst, arith, [], At, IsSettledAt, Sound, State, only, IsSettledNetwork, AreInARow, ThreeRoutersSettle, contains_head as here}
-use Rattle.mesh_paths.proofs.Scenarios.{sound_scenario}
+use Rattle.mesh_laws.proofs.Common.{◌≡◌, ℕ, refl, sym, subst, arith, [], At, IsSettledAt, Sound, State, only, sound_scenario, IsSettledNetwork, AreInARow, ThreeRoutersSettle, contains_head as here}
 use Rattle.mesh_laws.proofs.ThreeRouters.{one, addr, net, given, settings, has_own, two_hop_key, far, two_hop_has, scenario, state, states}
 use Rattle.mesh_laws.proofs.ThreeRoutersRadio.{leads, metric, each_state, state_is, are_states}
 use Rattle.mesh_laws.proofs.ThreeRoutersRoutes.{first_routes, second_routes, third_routes}

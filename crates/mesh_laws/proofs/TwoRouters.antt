@@ -1,62 +1,53 @@
 -- Two routers that hear each other: their settings, their scenario and their states.
-use Rattle.mesh_laws.proofs.Common.{common_steps, ◌≡◌, ℕ, suc, ◌≢◌, refl, ap, arith, List, [], ◌∷◌, None, false, Addr4, LinkKey, Link, TwoHopKey, TwoHop, Neighbour, Interface, RouterSettings, Scenario, Route, host, State, HasLink, HasTwoHop, HasSymmetric, HasAddressOn, contains_head as here}
-pub use Rattle.mesh_laws.proofs.TwoRoutersInRange.{addr}
-pub use Rattle.mesh_laws.proofs.PlainRouters.{one, arc}
-use Rattle.mesh_laws.proofs.PlainRouters.{face_of, settings_of, link_of, neighbour_of}
-use Rattle.mesh_laws.proofs.TwoRoutersInRange.{letter, is_interface, is_router, is_end, small_seed, no_loss, are_routers, are_arcs}
+use Rattle.mesh_laws.proofs.Common.{common_steps, ◌≡◌, ℕ, suc, ◌≢◌, refl, ap, arith, List, [], ◌∷◌, map, false, Addr4, LinkKey, Link, TwoHopKey, TwoHop, Neighbour, RouterSettings, RadioArc, Scenario, Route, host, AreRouters, AreArcs, ends_of, IsRouter, State, HasLink, HasTwoHop, HasSymmetric, HasAddressOn, quiet, contains_head as here}
+pub use Rattle.mesh_laws.proofs.PlainRouters.{one, addr, face, arc}
+use Rattle.mesh_laws.proofs.PlainRouters.{settings_of, scenario_of, link_of, neighbour_of, plain_state}
+use Rattle.mesh_laws.proofs.PlainRoutersInRange.{letter, router_with}
 
-abbrev pub face : ℕ → Interface
-face x = face_of (letter x ∷ []) (addr x) (is_interface x)
+-- Settings and scenario
+
+pub is_router : (x : ℕ) → IsRouter (letter x ∷ []) 0 0 ((letter x ∷ []) ∷ []) (addr x ∷ []) []
+is_router x = router_with x [] (omega arith) refl refl
 
 abbrev pub settings : ℕ → RouterSettings
-settings x = settings_of (letter x ∷ []) (addr x) [] (is_interface x) (is_router x)
+settings x = settings_of x [] (is_router x)
+
+pub are_routers : AreRouters ((97 ∷ []) ∷ (98 ∷ []) ∷ []) (addr 0 ∷ addr 1 ∷ []) []
+are_routers = grind (arith, common_steps)
+
+abbrev pub arcs : List RadioArc
+arcs = arc 0 1 ∷ arc 1 0 ∷ []
+
+pub are_arcs : AreArcs (1 ∷ 1 ∷ []) (map ends_of arcs)
+are_arcs = record { few = omega arith; join_routers = refl; distinct = refl }
 
 abbrev pub scenario : Scenario
-scenario = record {
-  end = 16384;
-  seed = 0;
-  loss_until = None;
-  routers = settings 0 ∷ settings 1 ∷ [];
-  arcs = arc 0 1 ∷ arc 1 0 ∷ [];
-  end_in_range = is_end;
-  seed_in_range = small_seed;
-  loss_in_range = no_loss;
-  sound_routers = are_routers;
-  sound_arcs = are_arcs;
-}
+scenario = scenario_of (settings 0 ∷ settings 1 ∷ []) arcs are_routers are_arcs
+
+-- States
 
 abbrev pub link : ℕ → Link
-link y = link_of (addr y) false
+link y = link_of y false
 
 abbrev pub neighbour : ℕ → Neighbour
-neighbour y = neighbour_of (addr y) false
+neighbour y = neighbour_of y false
 
 abbrev pub route : ℕ → ℕ → Route
 route x y = record { dest = host (addr y); next = addr y; iface = 0; metric = 1; parent = host (addr x) }
 
 abbrev pub state : ℕ → ℕ → State
-state x y = record {
-  settings = settings x;
-  bases = record {
-    neighbourhood = record {
-      links = ((record { addr = addr y }, (link y, 9)) ∷ []) ∷ [];
-      two_hops = [] ∷ [];
-      neighbours = (addr y, (neighbour y, 9)) ∷ [];
-      losts = [];
-    };
-    topology = record { advertisers = []; routers = []; addresses = []; networks = [] };
-    noted = record { received = [] ∷ []; processed = []; forwarded = [] };
-  };
-  relays = record { flooding = [] ∷ []; routing = [] };
-  routes = route x y ∷ [];
-  rows = [];
-  ansn = 0;
-  emptied = None;
-  sequence = 0;
-  next_hello = 6;
-  next_tc = 6;
-  last = 5;
-}
+state x y = plain_state (settings x)
+    (record {
+      neighbourhood = record {
+        links = ((record { addr = addr y }, (link y, 9)) ∷ []) ∷ [];
+        two_hops = [] ∷ [];
+        neighbours = (addr y, (neighbour y, 9)) ∷ [];
+        losts = [];
+      };
+      topology = record { advertisers = []; routers = []; addresses = []; networks = [] };
+      noted = quiet;
+    })
+    (record { flooding = [] ∷ []; routing = [] }) (route x y ∷ []) []
 
 abbrev pub states : List State
 states = state 0 1 ∷ state 1 0 ∷ []

@@ -1,5 +1,6 @@
 -- Two routers that hear each other hold exactly what the other says.
 use Rattle.mesh_laws.proofs.Common.{common_steps, ◌≡◌, ℕ, suc, ◌⊎◌, ◌≢◌, inl, inr, refl, sym, ap, subst, arith, List, [], ◌∷◌, Contains, Addr4, Metric, RouterSettings, GivesAsSelector, Advertises, metric_value, SaysSymmetric, Leads, IsAdmitted, Joins, IsMetric, Router, At, IsSettledAt, IsLinkTo, IsNeighbourOf, IsPeer, State, HasAddress, Attached4, first_of, contains_none as none_of, contains_head as here}
+use Rattle.mesh_laws.proofs.PlainRouters.{each_admits}
 use Rattle.mesh_laws.proofs.TwoRouters.{one, addr, face, settings, scenario, link, neighbour, state, states, address_on, has_own, symmetric_is, symmetric, link_is, no_two_hop}
 
 -- one router x of the two, and the other one y
@@ -17,19 +18,8 @@ pub record Side (x y : ℕ) : Type 0 where
   pub at_x : (q : State) → At states x q → q ≡ state x y
   pub routers : (w : ℕ) (r : RouterSettings) → Router scenario w r → (w ≡ x) ⊎ (w ≡ y)
 
--- each admits whatever it hears
 admitted : {x y : ℕ} → Router scenario x (settings x) → Router scenario y (settings y) → IsAdmitted scenario x 0 y 0
-admitted {x} {y} from to = record {
-  sender = settings x;
-  sends = from;
-  from = face x;
-  is_from = refl;
-  receiver = settings y;
-  receives = to;
-  to = face y;
-  is_to = refl;
-  accepted = omega arith;
-}
+admitted {x} {y} from to = each_admits scenario x y (settings x) (settings y) from to refl refl
 
 pub joins : {x y : ℕ} → Side x y → Joins scenario x 0 y 0 one one
 joins f = record { out = f.out; home = f.home; out_admitted = admitted f.rx f.ry; home_admitted = admitted f.ry f.rx }

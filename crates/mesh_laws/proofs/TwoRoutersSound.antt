@@ -1,5 +1,6 @@
 -- Two routers that hear each other are sound.
-use Rattle.mesh_laws.proofs.Common.{common_steps, ◌≡◌, ℕ, zero, suc, ◌≤◌, ◌≢◌, refl, sym, ◌∙◌, ap, subst, arith, [], ◌∷◌, Contains, Option, Some, true, nat_eq, eqb-true, Addr4, Metric, LinkKey, Link, TwoHopKey, TwoHop, Neighbour, Lost, TcRow, AreTcRows, IsTcRow, Of_address, Of_network, base_of, IsFresh, HasDistinctKeys, addr_eq, link_eq, metric_value, HasSymmetricOf, IsByLinks, admit_on, IsSoundLink, IsSoundNeighbour, SoundNeighbourhood, Sound, Neighbourhood, link_at, two_hop_at, neighbour_at, IsHeld, AreMoreThan, only, same_number, found_one, empty_within, empties_within, single_distinct, empty_distinct, few_of_one, contains_none as none_of, contains_head as here, none_is_some}
+use Rattle.mesh_laws.proofs.Common.{common_steps, ◌≡◌, ℕ, suc, ◌≤◌, ◌≢◌, refl, sym, ◌∙◌, ap, subst, arith, [], ◌∷◌, Contains, Option, Some, true, nat_eq, eqb-true, Addr4, Metric, LinkKey, Link, TwoHopKey, TwoHop, Neighbour, Lost, TcRow, AreTcRows, IsTcRow, Of_address, Of_network, base_of, IsFresh, addr_eq, link_eq, metric_value, HasSymmetricOf, IsByLinks, admit_on, IsSoundLink, IsSoundNeighbour, SoundNeighbourhood, Sound, Neighbourhood, link_at, two_hop_at, neighbour_at, IsHeld, AreMoreThan, only, same_number, found_one, empty_within, empties_within, single_distinct, empty_distinct, few_of_one, contains_none as none_of, contains_head as here, none_is_some}
+use Rattle.mesh_laws.proofs.Members.{single_base}
 use Rattle.mesh_laws.proofs.TwoRouters.{one, addr, settings, link, neighbour, state, address_on, apart}
 use Rattle.mesh_laws.proofs.TwoRoutersRelays.{relays_are}
 use Rattle.mesh_laws.proofs.TwoRoutersRoutes.{routes_are}
@@ -76,7 +77,7 @@ sound_neighbourhood : (x y : ℕ) → x ≢ y → SoundNeighbourhood (settings x
 sound_neighbourhood x y ne = record {
   interfaces = refl;
   two_hop_interfaces = refl;
-  distinct_links = distinct;
+  distinct_links = single_base link_eq (record { addr = addr y }) (link y, 9);
   distinct_neighbours = single_distinct addr_eq (addr y) (neighbour y, 9);
   distinct_losts = empty_distinct Lost addr_eq;
   fresh_links = fresh;
@@ -109,10 +110,6 @@ sound_neighbourhood x y ne = record {
   lost_not_mine = λ a e h. none_is_some h;
 }
   where
-    distinct : (i : ℕ) → HasDistinctKeys link_eq (base_of (near x y).links i)
-    distinct zero = single_distinct link_eq (record { addr = addr y }) (link y, 9)
-    distinct (suc i) = empty_distinct Link link_eq
-
     fresh : (i : ℕ) → IsFresh link_eq 5 (base_of (near x y).links i)
     fresh i q value until h = let same : until ≡ 9 = ap (λ (e : Link × ℕ). e.1) (link_found x y i q (value, until) h).2 in rw same refl
 

@@ -1,9 +1,8 @@
 -- The definitions take the unspoiled states.
-use Rattle.mesh_laws.proofs.Common.{arith, common_steps, ◌≡◌, ◌≢◌, ℕ, zero, suc, ◌+◌, refl, sym, ◌∙◌, ap, subst, [], ◌∷◌, Contains, Some, None, Bool, true, false, cond, ◌&&◌, Addr4, NetAddr, Metric, TcRow, LinkKey, TwoHopKey, RouterKey, AddressKey, NetworkKey, Link, TwoHop, Neighbour, Lost, Advertiser, RouterTuple, AddressTuple, NetworkTuple, Noted, Becomes, Given, Left, GivesRouter, GivesAddress, GivesNetwork, if_not_dropped, Base, HasDistinctKeys, SetsOnly, Same, find, if_live, base_of, host, addr_eq, link_eq, two_hop_eq, router_eq, address_eq, net_eq, network_eq, flood_eq, IsSymmetricAddress, Stays, trim, is_symmetric_at, admit_on, link_at, two_hop_at, addr_equiv, router_equiv, address_equiv, network_equiv, same_router, same_network, key_of, only, single_distinct, empty_distinct, peer, me, third, one, three, contains_head as here, none_is_some}
+use Rattle.mesh_laws.proofs.Common.{arith, common_steps, ◌≡◌, ◌≢◌, ℕ, zero, suc, ◌+◌, refl, sym, ◌∙◌, ap, subst, [], ◌∷◌, Contains, Some, None, Bool, true, false, cond, ◌&&◌, Addr4, NetAddr, Metric, TcRow, LinkKey, TwoHopKey, RouterKey, AddressKey, NetworkKey, Link, TwoHop, Neighbour, Lost, Advertiser, RouterTuple, AddressTuple, NetworkTuple, Noted, Becomes, Given, Left, GivesRouter, GivesAddress, GivesNetwork, if_not_dropped, Base, HasDistinctKeys, SetsOnly, Same, find, if_live, base_of, host, addr_eq, link_eq, two_hop_eq, router_eq, address_eq, net_eq, network_eq, flood_eq, IsSymmetricAddress, Stays, trim, is_symmetric_at, admit_on, link_at, two_hop_at, addr_equiv, router_equiv, address_equiv, network_equiv, same_router, same_network, key_of, only, single_distinct, empty_distinct, peer, me, third, one, three, LostIsKept, MessageIsNoted, MessageIsPassedOver, TcIsTaken, heading, noted, outdated, quiet, row, silent, tc, contains_head as here, none_is_some}
 use Rattle.std.specs.Cmp.{IsEquivalence}
 use Rattle.mesh_atoms.proofs.Lookups.{same_address}
 use Rattle.mesh_laws.proofs.Members.{both_same}
-use Rattle.mesh_laws.specs.Unspoiled.{silent, LostIsKept, heading, quiet, noted, MessageIsNoted, MessageIsPassedOver, row, tc, outdated, TcIsTaken}
 use Rattle.mesh_flood.proofs.Keys.{flood_equiv}
 
 -- in a base of one tuple for the key at most, one is put at the key

@@ -1,6 +1,6 @@
 -- Two routers that hear each other are a settled network: the premises of the law of settled routes can be met.
-use Rattle.mesh_laws.proofs.Common.{common_steps, ◌≡◌, ℕ, suc, ◌⊎◌, inl, inr, refl, sym, ◌∙◌, ap, subst, arith, [], Contains, slice_get, Some, Addr4, Metric, RouterSettings, host, Leads, IsSoundScenario, AddressOf, At, State, HasAddressOn, IsOriginator, Sound, IsSettledNetwork, HasRow, TwoRoutersSettle, contains_none as none_of, contains_head as here}
-use Rattle.mesh_laws.proofs.TwoRouters.{one, addr, face, settings, arc, scenario, route, state, states, address_on}
+use Rattle.mesh_laws.proofs.Common.{common_steps, ◌≡◌, ℕ, ◌⊎◌, inl, inr, refl, sym, ◌∙◌, subst, arith, [], slice_get, Some, Addr4, Metric, RouterSettings, host, Leads, AddressOf, At, State, HasAddressOn, Sound, sound_scenario, IsSettledNetwork, HasRow, TwoRoutersSettle, contains_head as here}
+use Rattle.mesh_laws.proofs.TwoRouters.{one, settings, arc, scenario, route, state, states, address_on}
 use Rattle.mesh_laws.proofs.TwoRoutersSettled.{Side, settled_at, turned, routers_of}
 use Rattle.mesh_laws.proofs.TwoRoutersSettled.{joins}
 use Rattle.mesh_laws.proofs.TwoRoutersSound.{sound}
@@ -41,32 +41,9 @@ side = record {
   routers = λ w r is. elim (router_at w r is) [ inl e ↦ inl e.0 | inr e ↦ inr e.0 ];
 }
 
-scenario_sound : IsSoundScenario scenario
-scenario_sound = record {
-  addresses = λ x y i j r q a at to on from.
-      (let P : RouterSettings → Type 0 = λ b. HasAddressOn b i a in
-      let Q : RouterSettings → Type 0 = λ b. HasAddressOn b j a in
-      let (e, f) = address_on x i a (subst P (settings_are x r at) on) in
-      let (g, h) = address_on y j a (subst Q (settings_are y q to) from) in
-      let same : suc x ≡ suc y = ap (λ (b : Addr4). b.0) (sym f ∙ h) in
-      (omega arith, e ∙ sym g));
-  networks = λ x y c net a att is e.
-      (let (r, at, t, stands, _, _) = att in
-      let P : RouterSettings → Type 0 = λ b. Contains b.attached t in
-      none_of t (subst P (settings_are x r at) stands));
-  originators = λ x r at.
-      (let P : RouterSettings → Type 0 = λ b. IsOriginator b (addr x) in
-      (addr x, subst P (sym (settings_are x r at)) (face x, refl, refl)));
-  ends = λ x i y j m way. elim ((leads x i y j m way).3) [
-    | inl e ↦ rw (e.0, e.1) (zero_one, (settings 0, refl), (settings 1, refl))
-    | inr e ↦ rw (e.0, e.1) ((λ f. zero_one (sym f)), (settings 1, refl), (settings 0, refl))
-  ];
-  arcs = λ x i y j m n way other. (let a : m ≡ one = (leads x i y j m way).2 in let b : n ≡ one = (leads x i y j n other).2 in a ∙ sym b);
-}
-
 pub settled_pair : IsSettledNetwork scenario states 5
 settled_pair = record {
-  scenario = scenario_sound;
+  scenario = sound_scenario scenario;
   routers = record {
     settings = routers_of;
     all = λ x r at. elim (router_at x r at) [

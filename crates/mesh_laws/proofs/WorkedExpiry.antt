@@ -1,10 +1,7 @@
 -- Between the worked HELLOs nothing is expired.
-use Rattle.mesh_laws.proofs.Common.{arith, common_steps, ◌≡◌, ℕ, zero, suc, ◌+◌, inl, inr, refl, sym, ap, subst, [], Option, Some, None, Bool, true, false, cond, ◌&&◌, Addr4, LinkKey, TwoHopKey, Link, TwoHop, Lost, RouterSettings, HasDistinctKeys, base_of, addr_eq, link_eq, two_hop_eq, if_live, IsSymmetricAddress, SettlesLost, Back, Stays, is_symmetric_at, LiveNeighbourhood, Restores, trim, is_symmetric_entry, link_at, two_hop_at, neighbour_at, peer, third, five, link, neighbour, after, IsReceiver, single_distinct, empty_distinct, admit_on, same_address, contains_head as here}
-use Rattle.mesh_laws.proofs.WorkedNeighbourhood.{neighbour_found, by_links}
+use Rattle.mesh_laws.proofs.Common.{arith, common_steps, ◌≡◌, ℕ, zero, suc, ◌+◌, inl, inr, refl, sym, ap, subst, [], Option, Some, None, Bool, true, false, cond, ◌&&◌, Addr4, LinkKey, TwoHopKey, Link, RouterSettings, addr_eq, if_live, IsSymmetricAddress, SettlesLost, Back, Stays, is_symmetric_at, LiveNeighbourhood, Restores, trim, is_symmetric_entry, link_at, two_hop_at, neighbour_at, peer, third, link, neighbour, after, IsReceiver, admit_on, same_address, contains_head as here}
+use Rattle.mesh_laws.proofs.WorkedNeighbourhood.{beyond, after_tables, neighbour_found, by_links}
 use Rattle.mesh_laws.proofs.WorkedQuality.{link_admitted}
-
-abbrev beyond : TwoHop
-beyond = record { metric_in = Some five; metric_out = None }
 
 pub was_symmetric_address : (a : Addr4) → IsSymmetricAddress after a → a ≡ peer
 was_symmetric_address a is = grind (arith, common_steps, neighbour_found, peer)
@@ -14,12 +11,7 @@ peer_symmetric = (peer, neighbour, 98504, refl, refl, here peer [])
 
 pub live : (settings : RouterSettings) → IsReceiver settings → LiveNeighbourhood settings 300 after after
 live settings r = record {
-  tables = record {
-    links = links;
-    two_hops = two_hops;
-    neighbours = single_distinct addr_eq peer (neighbour, 98504);
-    losts = empty_distinct Lost addr_eq;
-  };
+  tables = after_tables;
   interfaces = refl;
   two_hop_interfaces = refl;
   links = live_links;
@@ -28,14 +20,6 @@ live settings r = record {
   losts = live_losts;
 }
   where
-    links : (i : ℕ) → HasDistinctKeys link_eq (base_of after.links i)
-    links zero = single_distinct link_eq (record { addr = peer }) (link, 98504)
-    links (suc i) = empty_distinct Link link_eq
-
-    two_hops : (i : ℕ) → HasDistinctKeys two_hop_eq (base_of after.two_hops i)
-    two_hops zero = single_distinct {V = TwoHop} two_hop_eq (record { link = record { addr = peer }; addr = third }) (beyond, 49352)
-    two_hops (suc i) = empty_distinct TwoHop two_hop_eq
-
     live_links : (i : ℕ) (key : LinkKey) → link_at after i key ≡ trim 300 (if_live 300 (admit_on settings i 300 (link_at after i key)))
     live_links zero key = by_case (addr_eq key.addr peer)
       where

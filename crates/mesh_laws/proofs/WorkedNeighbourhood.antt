@@ -1,7 +1,21 @@
 -- The neighbourhood after the worked HELLO.
-use Rattle.mesh_laws.proofs.Common.{common_steps, ◌≡◌, ◌≢◌, ℕ, zero, suc, ◌+◌, ◌≤◌, ◌⊎◌, inl, inr, refl, sym, ◌∙◌, ap, subst, arith, [], ◌∷◌, Contains, Option, Some, None, Bool, true, false, cond, Addr4, Metric, LinkKey, TwoHopKey, Link, TwoHop, Neighbour, Lost, RouterSettings, AfterHello, Made, made, renewed, Remains, New_link, TellsTwoHop, By_row, By_none, IsKept, HasDistinctKeys, base_of, addr_eq, link_eq, two_hop_eq, metric_value, HasSymmetricOf, IsByLinks, IsSymmetricAddress, SettlesLost, Back, Stays, link_at, two_hop_at, neighbour_at, is_symmetric, rule_of, Takes, same_addr, peer, third, one, three, five, third_row, hello, IsReceiver, nothing, link, neighbour, after, FirstHelloIsTaken, only, found_one, single_distinct, empty_distinct, same_address, contains_head as here, none_is_some}
+use Rattle.mesh_laws.proofs.Common.{common_steps, ◌≡◌, ◌≢◌, ℕ, ◌+◌, ◌≤◌, ◌⊎◌, inl, inr, refl, sym, ◌∙◌, ap, subst, arith, [], ◌∷◌, Contains, Option, Some, None, Bool, true, false, cond, Addr4, Metric, LinkKey, TwoHopKey, Link, TwoHop, Neighbour, Lost, RouterSettings, AfterHello, Made, made, renewed, Remains, New_link, TellsTwoHop, By_row, By_none, IsKept, addr_eq, link_eq, two_hop_eq, metric_value, HasSymmetricOf, IsByLinks, HasTables, IsSymmetricAddress, SettlesLost, Back, Stays, link_at, two_hop_at, neighbour_at, is_symmetric, rule_of, Takes, same_addr, peer, third, one, three, five, Heard, third_row, hello, IsReceiver, nothing, link, neighbour, after, FirstHelloIsTaken, only, found_one, single_distinct, empty_distinct, same_address, contains_head as here, none_is_some}
 use Rattle.mesh_laws.proofs.WorkedQuality.{made_is}
-use Rattle.mesh_laws.proofs.WorkedHello.{told, looks_at, looked_at, tells, no_fault, not_full, fits}
+use Rattle.mesh_laws.proofs.Members.{single_base}
+use Rattle.mesh_laws.proofs.WorkedReceiver.{not_full, no_fault}
+use Rattle.mesh_laws.proofs.WorkedHello.{told, of_peer, none_held, looks_at, looked_at, tells, fits}
+
+-- the tuple of the address beyond
+abbrev pub beyond : TwoHop
+beyond = record { metric_in = Some five; metric_out = None }
+
+pub after_tables : HasTables after
+after_tables = record {
+  links = single_base link_eq (record { addr = peer }) (link, 98504);
+  two_hops = single_base {V = TwoHop} two_hop_eq (record { link = record { addr = peer }; addr = third }) (beyond, 49352);
+  neighbours = single_distinct addr_eq peer (neighbour, 98504);
+  losts = empty_distinct Lost addr_eq;
+}
 
 pub same_peer : (a : Addr4) → (a ≡ peer → ⊥) → addr_eq a peer ≡ false
 same_peer a other = grind (arith, common_steps, peer, same_addr)
@@ -86,12 +100,7 @@ module _ (settings : RouterSettings) (r : IsReceiver settings) where
 
   pub after_hello : AfterHello settings 200 0 told hello nothing after
   after_hello = record {
-    tables = record {
-      links = links;
-      two_hops = two_hops;
-      neighbours = single_distinct addr_eq peer (neighbour, 98504);
-      losts = empty_distinct Lost addr_eq;
-    };
+    tables = after_tables;
     interfaces = refl;
     two_hop_interfaces = refl;
     link = (made (rule_of settings 0) told.shown 200, Made (λ e h. none_is_some h), renewed_link);
@@ -103,14 +112,6 @@ module _ (settings : RouterSettings) (r : IsReceiver settings) where
     other_two_hops = λ j key other. no_two_hop j key other ∙ sym (either_none _ _ (stood_no_two_hop j key));
     losts = lost_settled;
   }
-    where
-      links : (i : ℕ) → HasDistinctKeys link_eq (base_of after.links i)
-      links zero = single_distinct link_eq (record { addr = peer }) (link, 98504)
-      links (suc i) = empty_distinct Link link_eq
-
-      two_hops : (i : ℕ) → HasDistinctKeys two_hop_eq (base_of after.two_hops i)
-      two_hops zero = single_distinct {V = TwoHop} two_hop_eq (record { link = record { addr = peer }; addr = third }) (record { metric_in = Some five; metric_out = None }, 49352)
-      two_hops (suc i) = empty_distinct TwoHop two_hop_eq
 
 pub first_hello : FirstHelloIsTaken
-first_hello settings r = Takes told (no_fault settings r) (tells settings r) (not_full settings r) (fits settings r) (after_hello settings r)
+first_hello settings r = Takes told (no_fault settings r hello of_peer) (tells settings r) (not_full nothing (Some Heard) (Some three) none_held) (fits settings r) (after_hello settings r)

@@ -1,7 +1,8 @@
 -- The receiver of the worked HELLOs is told no quality of its senders, so that it admits whatever it hears.
 use Rattle.mesh_laws.proofs.Common.{arith, common_steps, ◌≡◌, ℕ, refl, List, [], ◌∷◌, map, Some, None, Bool, false, Addr4, Admit, RouterSettings, Link, made, quality_at, rule_of, by_quality, admit_on, peer, one, link, IsReceiver}
 use Rattle.mesh_laws.proofs.Qualities.{below_all}
-use Rattle.mesh_laws.proofs.WorkedHello.{told, face_at}
+use Rattle.mesh_laws.proofs.WorkedReceiver.{face_at}
+use Rattle.mesh_laws.proofs.WorkedHello.{told}
 
 mapped_none : {A B : Type 0} (f : A → B) (xs : List A) → map f xs ≡ [] → xs ≡ []
 mapped_none f [] e = refl

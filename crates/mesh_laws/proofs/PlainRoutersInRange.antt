@@ -1,14 +1,15 @@
--- The settings of two routers that hear each other are in their ranges.
-use Rattle.mesh_laws.proofs.Common.{common_steps, ◌≡◌, ℕ, zero, suc, ◌<◌, ◌≤◌, ◌^◌, refl, arith, [], ◌∷◌, Option, Some, None, Addr4, one_millisecond, one_hour, longest_delay, IsInterval, IsTimes, IsEnd, IsCount, IsName, IsInterface, IsRouter, AreRouters, AreArcs}
+-- The settings of routers that have one interface with one address, and a scenario of them, are in their ranges.
+use Rattle.mesh_laws.proofs.Common.{common_steps, ◌≡◌, ℕ, zero, suc, ◌<◌, ◌≤◌, ◌^◌, arith, List, [], ◌∷◌, length, Option, Some, None, IsTrue, Addr4, NetAddr, net_eq, one_millisecond, one_hour, longest_delay, are_distinct, are_no_hosts, IsInterval, IsTimes, IsEnd, IsCount, IsName, IsInterface, IsRouter}
 
 -- router x has one address and one interface
 abbrev pub addr : ℕ → Addr4
 addr x = record { 0 = suc x }
 
--- the names are a and b
+-- the names are a, b and c
 abbrev pub letter : ℕ → ℕ
 letter zero = 97
-letter (suc x) = 98
+letter (suc zero) = 98
+letter (suc (suc x)) = 99
 
 pub code_fits : 0 < 4096
 code_fits = omega arith
@@ -55,11 +56,7 @@ is_name x = grind (arith, common_steps)
 pub is_interface : (x : ℕ) → IsInterface (letter x ∷ []) (addr x ∷ [])
 is_interface x = grind (arith, common_steps, is_name)
 
-pub is_router : (x : ℕ) → IsRouter (letter x ∷ []) 0 0 ((letter x ∷ []) ∷ []) (addr x ∷ []) []
-is_router x = grind (arith, common_steps, is_name)
-
-pub are_routers : AreRouters ((97 ∷ []) ∷ (98 ∷ []) ∷ []) (addr 0 ∷ addr 1 ∷ []) []
-are_routers = grind (arith, common_steps)
-
-pub are_arcs : AreArcs (1 ∷ 1 ∷ []) (record { from = 0; from_iface = 0; to = 1; to_iface = 0 } ∷ record { from = 1; from_iface = 0; to = 0; to_iface = 0 } ∷ [])
-are_arcs = record { few = omega arith; join_routers = refl; distinct = refl }
+-- a router that attaches these networks
+pub router_with : (x : ℕ) (nets : List NetAddr) → length nets ≤ 64 → IsTrue (are_distinct net_eq nets) → IsTrue (are_no_hosts nets (addr x ∷ [])) →
+    IsRouter (letter x ∷ []) 0 0 ((letter x ∷ []) ∷ []) (addr x ∷ []) nets
+router_with x nets few distinct apart = grind (arith, common_steps, is_name)
