@@ -19,15 +19,15 @@ pub use Rattle.mesh_config.specs.Checks.Compared.{all_addrs, arc_fields, arc_pla
 pub use Rattle.mesh_config.specs.Fields.{AreOfOneRouter, CostFields, IsClear, RouterParts, interface_costs, interface_fields, settings_parts, stated_parts, threshold_pair, thresholds_of}
 pub use Rattle.mesh_config.specs.Keys.Faults.{FailsAt, Fault, ReadValue, ValueOrFault, bad_value, fault, first, listed, then_turned, visit}
 pub use Rattle.mesh_config.specs.Keys.Ports.{port_of}
-pub use Rattle.mesh_config.specs.Keys.Values.{SaysNothing, all_of, first_unknown, is_one_of, items_list, table_read, text, ticks, unknown}
+pub use Rattle.mesh_config.specs.Keys.Values.{SaysNothing, all_of, first_unknown, inner_visits, items_list, table_read, text, ticks}
 pub use Rattle.mesh_config.specs.RunSettings.{CostsSay, SetupFrom, SetupSays, addr_in, neighbour_addrs, run_checks, same_neighbour, senders_checked, setup_visits, stated_costs, stated_run_checks, the_router}
 pub use Rattle.mesh_config.specs.RunTables.Run.{CostsAre, HasOfEach, PortSays, RunInterfacesAre, RunIs, RunRouterIs, StatedNeighbourIs, address, neighbours, run_interface_visits, run_table_visits}
 pub use Rattle.mesh_config.specs.Senders.{AddressLists, EachAt, HasQualities, HasSenders, HaveAllQualities, HaveAllSenders, HaveNoDuplicates, HaveQualities, HaveSenders, addr_lists, first_addr, qualities_to, quality_by, sender_by, sender_pair, senders_to, stated_steps, steps_at, with_metric, with_quality, with_steps}
 pub use Rattle.mesh_config.specs.Stated.Router.{AreRouterFields, InterfaceFields, InterfaceIs, RouterIs, addresses, interfaces, stated_interface_fields}
-pub use Rattle.mesh_config.specs.Stated.Rules.{AreThresholds, NearHoldIs, hops, near_hold_keys, near_hold_ms, near_hold_visits}
+pub use Rattle.mesh_config.specs.Stated.Rules.{AreThresholds, NearHoldIs, hops, near_hold_ms, near_hold_visits}
 pub use Rattle.mesh_config.specs.Stated.Scenario.{ArcIs, AreArcFields, ScenarioIs, arcs, routers, scenario_table_visits, stated_arc_fields, sub_times, times_table}
-pub use Rattle.mesh_config.specs.Stated.Steps.{StepIs, StepsAre, at_ms, quality_pair, quality_value, step_keys, step_visits}
-pub use Rattle.mesh_config.specs.Stated.Tables.{Each, element_visits, no_less, one_above, rising_visits, table_of, tables_visits}
+pub use Rattle.mesh_config.specs.Stated.Steps.{StepIs, StepsAre, at_ms, quality_pair, quality_value, step_visits}
+pub use Rattle.mesh_config.specs.Stated.Tables.{Each, element_visits, no_less, numbered_visits, one_above, rising_visits, table_of, tables_visits}
 pub use Rattle.mesh_config.specs.Stated.Times.{TimesIs, times_visits}
 pub use Rattle.mesh_config.specs.declared.keys.fault.ConfigFault.{ConfigFault}
 pub use Rattle.mesh_config.specs.declared.stated.stated.StatedArc.{StatedArc}

@@ -4,7 +4,7 @@ mod neighbours;
 mod run;
 mod stated;
 
-pub use crate::run_tables::neighbours::{qualities_of, senders_of};
+pub use crate::run_tables::neighbours::senders_of;
 pub use crate::run_tables::run::stated_run;
 pub use crate::run_tables::stated::{
     Costs, StatedNeighbour, StatedRun, StatedRunInterface, StatedRunRouter,

@@ -7,14 +7,12 @@ ghost use Rattle.mesh_config.specs.RunSettings.{same_neighbour, senders_checked,
 
 use crate::build::interface_from;
 use crate::checks::{Compared, are_distinct};
-use crate::run_tables::{Costs, StatedNeighbour, qualities_of, senders_of};
+use crate::run_tables::{Costs, StatedNeighbour, senders_of};
 use crate::stated::{StatedInterface, Thresholds};
 use mesh_atoms::{Interface, Seq};
 use std::alloc::{AllocError, Global};
 
 impl Compared for StatedNeighbour {
-    ghost use Rattle.mesh_config.specs.RunSettings.{same_neighbour};
-
     ghost same = { same_neighbour };
 
     fn is_same(&self, other: &StatedNeighbour) -> bool {
@@ -45,8 +43,7 @@ fn run_interface(
     ensures thresholds { IfOk result (λ i. thresholds_of i ≡ threshold_pair thresholds) }
     ensures costs { IfOk result (λ i. interface_costs i ≡ stated_costs costs.now) }
 {
-    let senders = senders_of(alloc, costs.neighbours.as_slice())?;
-    let qualities = qualities_of(alloc, costs.neighbours.as_slice())?;
+    let (senders, qualities) = senders_of(alloc, costs.neighbours.as_slice())?;
     interface_from(stated, thresholds, costs.metric, senders, qualities)
 }
 

@@ -1,5 +1,5 @@
 -- Tables of which each has a number above that of the one before.
-use Rattle.mesh_config.proofs.Common.{common_steps, ◌≡◌, ℕ, ◌+◌, ◌<◌, ◌≤◌, List, [], ◌∷◌, ◌++◌, map, true, false, Bool, nat_lt, if◌then◌else◌, Option, Some, None, Ok, refl, ap, ◌∙◌, sym, length, get_or, drop, arith, list_all, and_from, lt-ltb, Data, Members, view, Value, are_ascending, ConfigFault, Fault, ReadValue, first, visit, FailsAt, ticks, Each, table_of, element_visits, no_less, one_above, rising_visits}
+use Rattle.mesh_config.proofs.Common.{common_steps, ◌≡◌, ℕ, ◌+◌, ◌<◌, ◌≤◌, List, [], ◌∷◌, ◌++◌, map, true, false, Bool, nat_lt, if◌then◌else◌, Option, Some, None, Ok, refl, ap, ◌∙◌, sym, length, get_or, drop, arith, list_all, and_from, lt-ltb, Data, Members, view, Value, are_ascending, ConfigFault, Fault, ReadValue, first, visit, FailsAt, ticks, Each, table_of, element_visits, no_less, numbered_visits, one_above, rising_visits}
 use Rattle.mesh_config.proofs.KeysLemmas.Elements.{drop_here}
 use Rattle.mesh_config.proofs.StatedLemmas.Elements.{first_passes, fails_first}
 
@@ -36,9 +36,8 @@ unless_some b f h = grind (arith, common_steps)
 number_of : (least : ℕ) (key : List ℕ) (read : ReadValue ℕ) → visit read ≡ None → no_less least key read ≡ None → Numbered least read
 number_of least key read h k = grind (arith, common_steps, no_less, unless_some)
 
--- the visits of a table: its known keys, its number, that it is no less, and more
-pub numbered : (least : ℕ) (key : List ℕ) (known : Option Fault) (read : ReadValue ℕ) (more : List (Option Fault)) → first (known ∷ visit read ∷ no_less least key read ∷ more) ≡ None → Numbered least read
-numbered least key known read more h = grind (arith, common_steps, none_both, visit, no_less, number_of)
+pub numbered : {A : Type 0} (key : List ℕ) (number : Members → ReadValue ℕ) (other : List ℕ) (value : Members → ReadValue A) (least : ℕ) (t : Members) → first (numbered_visits key number other value least t) ≡ None → Numbered least (number t)
+numbered key number other value least t h = grind (arith, common_steps, none_both, visit, no_less, number_of)
 
 -- what they stand for ascends, where each stands at a place that rises with the number of its table
 module _ {X : Type 0} (Is : Members → X → Type 0) (visits : ℕ → Members → List (Option Fault)) (number : Members → ReadValue ℕ) (key : List ℕ) (place : X → ℕ) (turn : ℕ → ℕ)

@@ -1,12 +1,12 @@
 -- A text, read as TOML.
-use Rattle.std.specs.Prelude.{◌≡◌, ℕ, List, [], ◌∷◌, length, codes, Option, Some, None, Ok, Err, nat_lt, if◌then◌else◌}
+use Rattle.std.specs.Prelude.{◌≡◌, ℕ, List, length, codes, Option, Some, None, Ok, Err, nat_lt, if◌then◌else◌}
 use Rattle.std.specs.Str.{is_utf8}
 use Rattle.toml.specs.Data.{Members}
 use Rattle.toml.specs.Parse.{parse_document}
 use Rattle.mesh_config.specs.declared.keys.parse.TheConstants.{LONGEST_SETTINGS}
 use Rattle.mesh_config.specs.declared.keys.refusal.TheConstants.{NOT_TOML, TOO_LONG}
-use Rattle.mesh_config.specs.Keys.Faults.{ReadValue, Visits, fault, visit, first}
-use Rattle.mesh_config.specs.Keys.Values.{table_read}
+use Rattle.mesh_config.specs.Keys.Faults.{ReadValue, Visits, fault}
+use Rattle.mesh_config.specs.Keys.Values.{inner_visits}
 
 -- the table that the text spells, where it is text at all
 abbrev pub parsed : List ℕ → Option Members
@@ -27,4 +27,4 @@ TextSays Says text x = (table : Members) × ((document text ≡ Ok table) × Say
 
 -- the text is visited, and then its top table
 abbrev pub text_visits : (Members → Visits) → List ℕ → Visits
-text_visits visits text = visit (document text) ∷ first (visits (table_read (document text))) ∷ []
+text_visits visits text = inner_visits visits (document text)

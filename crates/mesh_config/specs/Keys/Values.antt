@@ -4,7 +4,7 @@ use Rattle.std.specs.List.{list_any}
 use Rattle.toml.specs.Data.{Data, Members, no_members, member, Items, no_items, item, get_member, as_integer, as_str, as_array}
 use Rattle.mesh_atoms.specs.Settings.{name_eq}
 use Rattle.mesh_atoms.specs.Literals.{◌>>=◌}
-use Rattle.mesh_config.specs.Keys.Faults.{Fault, ReadValue, missing, bad_value, too_many, unknown_key}
+use Rattle.mesh_config.specs.Keys.Faults.{Fault, ReadValue, Visits, visit, first, missing, bad_value, too_many, unknown_key}
 
 -- nothing is said
 abbrev pub SaysNothing : Unit {0} → Type 0
@@ -93,6 +93,10 @@ first_unknown is_known (member key d table) = if is_known key then first_unknown
 abbrev pub unknown : (List ℕ → Bool) → Members → Option Fault
 unknown is_known table = option_map unknown_key (first_unknown is_known table)
 
+-- a table that may have these keys is visited: its least unknown key first, and then its keys, by these visits
+abbrev pub table_visits : List (List ℕ) → Members → Visits → Visits
+table_visits keys table visits = unknown (is_one_of keys) table ∷ visits
+
 -- the least number of ticks of 1/8192 s that is no shorter than so many milliseconds
 abbrev pub ticks : ℕ → ℕ
 ticks ms = (1024 * ms + 124) / 125
@@ -101,3 +105,7 @@ ticks ms = (1024 * ms + 124) / 125
 abbrev pub table_read : ReadValue Members → Members
 table_read (Ok table) = table
 table_read (Err f) = no_members
+
+-- a table within another is visited: whether it is read, and then its keys
+abbrev pub inner_visits : (Members → Visits) → ReadValue Members → Visits
+inner_visits visits read = visit read ∷ first (visits (table_read read)) ∷ []

@@ -12,7 +12,7 @@ use Rattle.mesh_config.specs.declared.run_tables.stated.StatedRunInterface.{Stat
 use Rattle.mesh_config.specs.declared.run_tables.stated.StatedRunRouter.{StatedRunRouter}
 use Rattle.mesh_config.specs.declared.run_tables.stated.StatedRun.{StatedRun}
 use Rattle.mesh_config.specs.Keys.Faults.{ReadValue, Visits, visit, first, listed}
-use Rattle.mesh_config.specs.Keys.Values.{optional, required, whole, text, array_or_none, each_turned, unknown, is_one_of}
+use Rattle.mesh_config.specs.Keys.Values.{optional, required, whole, text, array_or_none, each_turned, table_visits, table_read, inner_visits}
 use Rattle.mesh_atoms.specs.Literals.{address_of, endpoint_of}
 use Rattle.mesh_config.specs.Keys.Ports.{port_of}
 use Rattle.mesh_config.specs.Stated.Tables.{tables_visits, Each}
@@ -20,7 +20,6 @@ use Rattle.mesh_config.specs.Stated.Steps.{steps_visits, StepsAre}
 use Rattle.mesh_config.specs.Stated.Times.{TimesIs}
 use Rattle.mesh_config.specs.Stated.Router.{named_visits, InterfaceIs, metric_asked, IsMetricRead, head_visits, interfaces, networks_visits, RouterIs}
 use Rattle.mesh_config.specs.Stated.Scenario.{end_moment, times_part, sub_times}
-use Rattle.mesh_config.specs.Keys.Values.{table_read}
 
 -- ---- a neighbour
 
@@ -28,14 +27,11 @@ use Rattle.mesh_config.specs.Keys.Values.{table_read}
 abbrev pub address : Members → ReadValue Addr4
 address = required (text address_of) (codes "address")
 
--- the keys that the table of a neighbour may have
-abbrev pub neighbour_keys : List (List ℕ)
-neighbour_keys = codes "address" ∷ codes "metric" ∷ codes "quality" ∷ []
-
--- the table of a neighbour is visited: its least unknown key, its address, its metric, and the qualities of what it sends
+-- the visits of the table of a neighbour: its address, its metric, and the qualities of what it sends
 abbrev pub neighbour_visits : Members → Visits
 neighbour_visits table =
-    unknown (is_one_of neighbour_keys) table ∷ visit (address table) ∷ visit (metric_asked table) ∷ first (steps_visits table) ∷ []
+    table_visits (codes "address" ∷ codes "metric" ∷ codes "quality" ∷ []) table
+    (visit (address table) ∷ visit (metric_asked table) ∷ first (steps_visits table) ∷ [])
 
 -- the metric of what the neighbour sends
 pub record NeighbourIs (table : Members) (sender : SenderMetric) : Type 0 where
@@ -70,11 +66,6 @@ own_metric_asked = optional 1 (whole 1 16776960) (codes "metric")
 abbrev pub neighbours : Members → ReadValue (List Data)
 neighbours = array_or_none 1024 (codes "neighbour")
 
--- the keys that the table of an interface may have, for `run`
-abbrev pub run_interface_keys : List (List ℕ)
-run_interface_keys =
-    codes "name" ∷ codes "addresses" ∷ codes "local" ∷ codes "peers" ∷ codes "metric" ∷ codes "neighbour" ∷ []
-
 -- the number of the neighbours is visited, and then the table of each
 abbrev pub neighbours_visits : Members → Visits
 neighbours_visits table = visit (neighbours table) ∷ tables_visits neighbour_visits (codes "neighbour") (listed (neighbours table))
@@ -87,10 +78,11 @@ port_visits table = visit (local table) ∷ visit (peers table) ∷ []
 abbrev pub cost_visits : Members → Visits
 cost_visits table = visit (own_metric_asked table) ∷ first (neighbours_visits table) ∷ []
 
--- the table of an interface is visited: its least unknown key, its name and addresses, its port, and the metrics of what it receives
+-- the visits of the table of an interface, for `run`: its name and addresses, its port, and the metrics of what it receives
 abbrev pub run_interface_visits : Members → Visits
 run_interface_visits table =
-    unknown (is_one_of run_interface_keys) table ∷ first (named_visits table) ∷ first (port_visits table) ∷ first (cost_visits table) ∷ []
+    table_visits (codes "name" ∷ codes "addresses" ∷ codes "local" ∷ codes "peers" ∷ codes "metric" ∷ codes "neighbour" ∷ []) table
+    (first (named_visits table) ∷ first (port_visits table) ∷ first (cost_visits table) ∷ [])
 
 -- where an interface receives, and where it sends to
 pub record PortSays (table : Members) (port : Port) : Type 0 where
@@ -146,18 +138,11 @@ pub record RunRouterIs (table : Members) (stated : StatedRunRouter) : Type 0 whe
 abbrev pub router_table : Members → ReadValue Members
 router_table = required as_table (codes "router")
 
--- it is visited whether the router is a table, and then what stands in it
-abbrev pub router_part : Members → Visits
-router_part table = visit (router_table table) ∷ first (run_router_visits (table_read (router_table table))) ∷ []
-
--- the keys that the top table of `run` may have
-abbrev pub run_keys : List (List ℕ)
-run_keys = codes "end_ms" ∷ codes "times" ∷ codes "router" ∷ []
-
--- the top table is visited: its least unknown key, the end, the times and the router
+-- the visits of the top table of `run`: the end, the times, and the table of the router
 abbrev pub run_table_visits : Members → Visits
 run_table_visits table =
-    unknown (is_one_of run_keys) table ∷ visit (end_moment table) ∷ first (times_part table) ∷ first (router_part table) ∷ []
+    table_visits (codes "end_ms" ∷ codes "times" ∷ codes "router" ∷ []) table
+    (visit (end_moment table) ∷ first (times_part table) ∷ first (inner_visits run_router_visits (router_table table)) ∷ [])
 
 -- what is stated is what the top table and the tables in it say; the end is in ticks
 pub record RunIs (table : Members) (run : StatedRun) : Type 0 where

@@ -14,9 +14,9 @@ use Rattle.mesh_config.specs.declared.stated.stated.StatedRouter.{StatedRouter}
 use Rattle.mesh_config.specs.declared.stated.router_head.RouterHead.{RouterHead}
 use Rattle.mesh_config.specs.declared.stated.stated.StatedInterface.{StatedInterface}
 use Rattle.mesh_config.specs.Keys.Faults.{ReadValue, Visits, visit, first, listed, then_turned}
-use Rattle.mesh_config.specs.Keys.Values.{optional, required, whole, text, array, array_or_none, each_turned, unknown, is_one_of, ticks}
+use Rattle.mesh_config.specs.Keys.Values.{optional, required, whole, text, array, array_or_none, each_turned, table_visits, ticks}
 use Rattle.mesh_config.specs.Stated.Tables.{tables_visits, Each}
-use Rattle.mesh_config.specs.Stated.Rules.{threshold_visits, AreThresholds, plain_thresholds, tc_rows, near_holds_visits, NearHoldsAre}
+use Rattle.mesh_config.specs.Stated.Rules.{threshold_visits, AreThresholds, plain_thresholds, NearHoldIs, tc_rows, near_holds, near_holds_visits}
 
 -- a moment up to an hour, in ticks; 0 where it is absent
 abbrev pub moment : List ℕ → Members → ReadValue ℕ
@@ -46,17 +46,13 @@ metric_asked = required (whole 1 16776960) (codes "metric")
 abbrev pub addresses : Members → ReadValue (List Addr4)
 addresses table = each_turned (text address_of) (codes "addresses") (array 1 4 (codes "addresses") table)
 
--- the keys that the table of an interface may have, in a scenario
-abbrev pub interface_keys : List (List ℕ)
-interface_keys = codes "name" ∷ codes "addresses" ∷ []
-
 -- its name is visited, and then its addresses
 abbrev pub named_visits : Members → Visits
 named_visits table = visit (name table) ∷ visit (addresses table) ∷ []
 
--- the table of an interface is visited: its least unknown key first, and then its name and its addresses
+-- the visits of the table of an interface, in a scenario
 abbrev pub interface_visits : Members → Visits
-interface_visits table = unknown (is_one_of interface_keys) table ∷ named_visits table
+interface_visits table = table_visits (codes "name" ∷ codes "addresses" ∷ []) table (named_visits table)
 
 -- what the table of an interface says
 pub record InterfaceFields : Type 0 where
@@ -86,14 +82,11 @@ net = required (text net_of) (codes "net")
 abbrev pub distance : Members → ReadValue ℕ
 distance = optional 1 (whole 0 255) (codes "distance")
 
--- the keys that the table of an attached network may have
-abbrev pub attached_keys : List (List ℕ)
-attached_keys = codes "net" ∷ codes "metric" ∷ codes "distance" ∷ []
-
--- the table of an attached network is visited: its least unknown key, and then its keys in their order
+-- the visits of the table of an attached network
 abbrev pub attached_visits : Members → Visits
 attached_visits table =
-    unknown (is_one_of attached_keys) table ∷ visit (net table) ∷ visit (metric_asked table) ∷ visit (distance table) ∷ []
+    table_visits (codes "net" ∷ codes "metric" ∷ codes "distance" ∷ []) table
+    (visit (net table) ∷ visit (metric_asked table) ∷ visit (distance table) ∷ [])
 
 -- the attached network is what its table says, with its metric rounded up
 pub record AttachedIs (table : Members) (attached : Attached4) : Type 0 where
@@ -133,11 +126,11 @@ router_keys =
     codes "name" ∷ codes "flooding" ∷ codes "routing" ∷ codes "hyst_accept" ∷ codes "hyst_reject" ∷ codes "tc_rows" ∷ codes "near_hold"
     ∷ codes "hello_at_ms" ∷ codes "tc_at_ms" ∷ codes "interface" ∷ codes "attached" ∷ []
 
--- what comes before the interfaces is visited: the least unknown key of the table, and then its keys in their order
+-- the visits of the table of a router before its interfaces
 abbrev pub head_visits : Members → Visits
 head_visits table =
-    unknown (is_one_of router_keys) table
-    ∷ visit (name table)
+    table_visits router_keys table
+    (visit (name table)
     ∷ visit (flooding table)
     ∷ visit (routing table)
     ∷ first (threshold_visits table)
@@ -145,7 +138,7 @@ head_visits table =
     ∷ first (near_holds_visits table)
     ∷ visit (hello_at table)
     ∷ visit (tc_at table)
-    ∷ []
+    ∷ [])
 
 -- the number of the interfaces is visited, and then the table of each
 abbrev pub interfaces_visits : Members → Visits
@@ -174,7 +167,7 @@ pub record AreRouterFields (table : Members) (fields : RouterFields) : Type 0 wh
   pub is_flooding : flooding table ≡ Ok fields.willing.flooding
   pub is_routing : routing table ≡ Ok fields.willing.routing
   pub is_tc_rows : tc_rows table ≡ Ok fields.tc_rows
-  pub are_near_holds : NearHoldsAre table fields.near_hold
+  pub are_near_holds : Each NearHoldIs (listed (near_holds table)) fields.near_hold
   pub is_hello_at : hello_at table ≡ Ok fields.hello_at
   pub is_tc_at : tc_at table ≡ Ok fields.tc_at
 

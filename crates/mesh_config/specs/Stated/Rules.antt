@@ -5,8 +5,8 @@ use Rattle.mesh_atoms.specs.declared.settings.NearHold.{NearHold}
 use Rattle.mesh_atoms.specs.declared.settings.TheConstants.{DEFAULT_TC_ROWS}
 use Rattle.mesh_atoms.specs.declared.limits.TheConstants.{MOST_TC_ROWS}
 use Rattle.mesh_config.specs.Keys.Faults.{ReadValue, Visits, visit, listed, then_turned}
-use Rattle.mesh_config.specs.Keys.Values.{optional, required, whole, array_or_none, unknown, is_one_of, ticks}
-use Rattle.mesh_config.specs.Stated.Tables.{Each, no_less, rising_visits}
+use Rattle.mesh_config.specs.Keys.Values.{optional, required, whole, array_or_none, ticks}
+use Rattle.mesh_config.specs.Stated.Tables.{numbered_visits, rising_visits}
 
 -- ---- thresholds
 
@@ -46,14 +46,9 @@ hops = required (whole 1 254) (codes "hops")
 abbrev pub near_hold_ms : Members → ReadValue ℕ
 near_hold_ms table = then_turned ticks (required (whole 100 3600000) (codes "hold_ms") table)
 
--- the keys that the table of a near hold may have
-abbrev pub near_hold_keys : List (List ℕ)
-near_hold_keys = codes "hops" ∷ codes "hold_ms" ∷ []
-
 -- the visits of a near hold, whose hops are to be no fewer than so many
 abbrev pub near_hold_visits : ℕ → Members → Visits
-near_hold_visits least table =
-    unknown (is_one_of near_hold_keys) table ∷ visit (hops table) ∷ no_less least (codes "hops") (hops table) ∷ visit (near_hold_ms table) ∷ []
+near_hold_visits = numbered_visits (codes "hops") hops (codes "hold_ms") near_hold_ms
 
 -- the near hold has the hops and the time, in ticks, that its table says
 pub record NearHoldIs (table : Members) (near : NearHold) : Type 0 where
@@ -73,7 +68,3 @@ near_holds = array_or_none 8 (codes "near_hold")
 -- the number of the near holds is visited, and then the table of each, whose hops are to be more than those before
 abbrev pub near_holds_visits : Members → Visits
 near_holds_visits table = visit (near_holds table) ∷ rising_visits near_hold_visits hops (codes "near_hold") 0 (listed (near_holds table))
-
--- the near holds are what their tables say, in the order of the tables
-abbrev pub NearHoldsAre : Members → List NearHold → Type 0
-NearHoldsAre table nears = Each NearHoldIs (listed (near_holds table)) nears

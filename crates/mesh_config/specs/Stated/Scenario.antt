@@ -8,7 +8,7 @@ use Rattle.mesh_config.specs.declared.stated.stated.StatedEnds.{StatedEnds}
 use Rattle.mesh_config.specs.declared.stated.stated.StatedScenario.{StatedScenario}
 use Rattle.mesh_atoms.specs.declared.codes.metric.Metric.{Metric}
 use Rattle.mesh_config.specs.Keys.Faults.{ReadValue, Visits, visit, first, listed, then_turned}
-use Rattle.mesh_config.specs.Keys.Values.{optional, required, whole, text, array, array_or_none, unknown, is_one_of, ticks, table_read}
+use Rattle.mesh_config.specs.Keys.Values.{optional, required, whole, text, array, array_or_none, table_visits, ticks, table_read, inner_visits}
 use Rattle.mesh_atoms.specs.Literals.{place_of}
 use Rattle.mesh_config.specs.Stated.Tables.{tables_visits, Each}
 use Rattle.mesh_config.specs.Stated.Steps.{steps_visits, StepsAre}
@@ -29,10 +29,6 @@ loss = optional 0 (whole 0 1000) (codes "loss")
 abbrev pub delay : Members → ReadValue ℕ
 delay table = then_turned ticks (optional 1 (whole 1 1000) (codes "delay_ms") table)
 
--- the keys that the table of an arc may have
-abbrev pub arc_keys : List (List ℕ)
-arc_keys = codes "from" ∷ codes "to" ∷ codes "metric" ∷ codes "loss" ∷ codes "delay_ms" ∷ codes "quality" ∷ []
-
 -- the interface that sends is visited, and then the one that receives
 abbrev pub end_visits : Members → Visits
 end_visits table = visit (place (codes "from") table) ∷ visit (place (codes "to") table) ∷ []
@@ -41,10 +37,11 @@ end_visits table = visit (place (codes "from") table) ∷ visit (place (codes "t
 abbrev pub arc_number_visits : Members → Visits
 arc_number_visits table = visit (metric_asked table) ∷ visit (loss table) ∷ visit (delay table) ∷ []
 
--- the table of an arc is visited: its least unknown key, its ends, its numbers, and the qualities of what is sent over it
+-- the visits of the table of an arc: its ends, its numbers, and the qualities of what is sent over it
 abbrev pub arc_visits : Members → Visits
 arc_visits table =
-    unknown (is_one_of arc_keys) table ∷ first (end_visits table) ∷ first (arc_number_visits table) ∷ first (steps_visits table) ∷ []
+    table_visits (codes "from" ∷ codes "to" ∷ codes "metric" ∷ codes "loss" ∷ codes "delay_ms" ∷ codes "quality" ∷ []) table
+    (first (end_visits table) ∷ first (arc_number_visits table) ∷ first (steps_visits table) ∷ [])
 
 -- what the table of an arc says besides its ends and its qualities
 pub record ArcFields : Type 0 where
@@ -111,10 +108,6 @@ routers = array 1 64 (codes "router")
 abbrev pub arcs : Members → ReadValue (List Data)
 arcs = array_or_none 4096 (codes "arc")
 
--- the keys that the top table of a scenario may have
-abbrev pub scenario_keys : List (List ℕ)
-scenario_keys = codes "end_ms" ∷ codes "seed" ∷ codes "loss_until_ms" ∷ codes "times" ∷ codes "router" ∷ codes "arc" ∷ []
-
 -- the number of the routers is visited, and then the table of each
 abbrev pub routers_visits : Members → Visits
 routers_visits table = visit (routers table) ∷ tables_visits router_visits (codes "router") (listed (routers table))
@@ -125,7 +118,7 @@ arcs_visits table = visit (arcs table) ∷ tables_visits arc_visits (codes "arc"
 
 -- it is visited whether the times are a table, and then what stands in it
 abbrev pub times_part : Members → Visits
-times_part table = visit (times_table table) ∷ first (times_visits (sub_times table)) ∷ []
+times_part table = inner_visits times_visits (times_table table)
 
 -- the numbers at the top
 abbrev pub top_visits : Members → Visits
@@ -137,11 +130,11 @@ pub record AreTopNumbers (table : Members) (numbers : ScenarioNumbers) : Type 0 
   pub is_seed : seed table ≡ Ok numbers.seed
   pub is_loss_until : loss_until table ≡ Ok numbers.loss_until
 
--- the top table is visited: its least unknown key, its numbers, the times, the routers and the arcs
+-- the visits of the top table of a scenario: its numbers, the times, the routers and the arcs
 abbrev pub scenario_table_visits : Members → Visits
 scenario_table_visits table =
-    unknown (is_one_of scenario_keys) table ∷ first (top_visits table)
-    ∷ first (times_part table) ∷ first (routers_visits table) ∷ first (arcs_visits table) ∷ []
+    table_visits (codes "end_ms" ∷ codes "seed" ∷ codes "loss_until_ms" ∷ codes "times" ∷ codes "router" ∷ codes "arc" ∷ []) table
+    (first (top_visits table) ∷ first (times_part table) ∷ first (routers_visits table) ∷ first (arcs_visits table) ∷ [])
 
 -- the stated scenario is what the top table and the tables in it say
 pub record ScenarioIs (table : Members) (scenario : StatedScenario) : Type 0 where

@@ -1,12 +1,12 @@
 -- The qualities of what a sender sends: the tables of an array, each with the moment from which its quality stands.
-use Rattle.std.specs.Prelude.{◌≡◌, ℕ, List, [], ◌∷◌, codes, Ok}
+use Rattle.std.specs.Prelude.{◌≡◌, ℕ, List, ◌∷◌, codes, Ok}
 use Rattle.toml.specs.Data.{Data, Members}
 use Rattle.mesh_atoms.specs.declared.addr.Addr4.{Addr4}
 use Rattle.mesh_atoms.specs.declared.admit.QualityStep.{QualityStep}
 use Rattle.mesh_atoms.specs.declared.admit.SenderQuality.{SenderQuality}
 use Rattle.mesh_config.specs.Keys.Faults.{ReadValue, Visits, visit, listed, then_turned}
-use Rattle.mesh_config.specs.Keys.Values.{required, whole, array_or_none, unknown, is_one_of, ticks}
-use Rattle.mesh_config.specs.Stated.Tables.{Each, no_less, rising_visits}
+use Rattle.mesh_config.specs.Keys.Values.{required, whole, array_or_none, ticks}
+use Rattle.mesh_config.specs.Stated.Tables.{Each, numbered_visits, rising_visits}
 
 -- the moment of a step, up to an hour, in milliseconds
 abbrev pub at_ms : Members → ReadValue ℕ
@@ -16,14 +16,9 @@ at_ms = required (whole 0 3600000) (codes "at_ms")
 abbrev pub quality_value : Members → ReadValue ℕ
 quality_value = required (whole 0 100) (codes "value")
 
--- the keys that the table of a step may have
-abbrev pub step_keys : List (List ℕ)
-step_keys = codes "at_ms" ∷ codes "value" ∷ []
-
 -- the visits of a step, whose moment is to be no less than so many milliseconds
 abbrev pub step_visits : ℕ → Members → Visits
-step_visits least table =
-    unknown (is_one_of step_keys) table ∷ visit (at_ms table) ∷ no_less least (codes "at_ms") (at_ms table) ∷ visit (quality_value table) ∷ []
+step_visits = numbered_visits (codes "at_ms") at_ms (codes "value") quality_value
 
 -- the step has the moment, in ticks, and the quality that its table says
 pub record StepIs (table : Members) (step : QualityStep) : Type 0 where

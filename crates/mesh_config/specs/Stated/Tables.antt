@@ -2,7 +2,8 @@
 use Rattle.std.specs.Prelude.{ℕ, ◌+◌, List, [], ◌∷◌, ◌++◌, Option, Some, None, Ok, Err, nat_lt, if◌then◌else◌}
 use Rattle.std.specs.List.{flat_map}
 use Rattle.toml.specs.Data.{Data, table, Members, no_members}
-use Rattle.mesh_config.specs.Keys.Faults.{Fault, ReadValue, Visits, bad_value}
+use Rattle.mesh_config.specs.Keys.Faults.{Fault, ReadValue, Visits, visit, bad_value}
+use Rattle.mesh_config.specs.Keys.Values.{table_visits}
 
 -- the visits of an element: those of a table, and a bad value for any other
 abbrev pub element_visits : (Members → Visits) → List ℕ → Data → Visits
@@ -31,6 +32,11 @@ Each Is (d ∷ ds) (x ∷ xs) = Is (table_of d) x × Each Is ds xs
 abbrev pub no_less : ℕ → List ℕ → ReadValue ℕ → Option Fault
 no_less least key (Ok n) = if nat_lt n least then Some (bad_value key) else None
 no_less least key (Err f) = None
+
+-- the visits of a table with a number at `key` and a value at `other`, where the number is to be no less than so many
+abbrev pub numbered_visits : {A : Type 0} → List ℕ → (Members → ReadValue ℕ) → List ℕ → (Members → ReadValue A) → ℕ → Members → Visits
+numbered_visits key number other value least members =
+    table_visits (key ∷ other ∷ []) members (visit (number members) ∷ no_less least key (number members) ∷ visit (value members) ∷ [])
 
 -- one more than a number that is read; 0 where a fault stands
 abbrev pub one_above : ReadValue ℕ → ℕ

@@ -3,7 +3,7 @@ use Rattle.std.specs.Prelude.{◌≡◌, ℕ, Ok, List, [], ◌∷◌, ◌++◌,
 use Rattle.toml.specs.Data.{Members}
 use Rattle.mesh_atoms.specs.declared.settings.Times.{Times}
 use Rattle.mesh_config.specs.Keys.Faults.{ReadValue, Visits, visit, then_turned}
-use Rattle.mesh_config.specs.Keys.Values.{optional, whole, unknown, is_one_of, ticks}
+use Rattle.mesh_config.specs.Keys.Values.{optional, whole, table_visits, ticks}
 
 -- the intervals and hold times that the table may say, in the order of their visits: the key of each, and the milliseconds that it
 -- has where the key is absent
@@ -45,14 +45,11 @@ interval table i = then_turned ticks (optional i.1 (whole 100 3600000) i.0 table
 abbrev pub tc_hop_limit : Members → ReadValue ℕ
 tc_hop_limit = optional 255 (whole 1 255) (codes "tc_hop_limit")
 
--- the keys that the table of times may have
-abbrev pub times_keys : List (List ℕ)
-times_keys = map (λ i. i.0) intervals ++ codes "tc_hop_limit" ∷ []
-
--- the table of times is visited: its least unknown key, and then its keys in their order
+-- the visits of the table of times
 abbrev pub times_visits : Members → Visits
 times_visits table =
-    unknown (is_one_of times_keys) table ∷ map (λ i. visit (interval table i)) intervals ++ visit (tc_hop_limit table) ∷ []
+    table_visits (map (λ i. i.0) intervals ++ codes "tc_hop_limit" ∷ []) table
+    (map (λ i. visit (interval table i)) intervals ++ visit (tc_hop_limit table) ∷ [])
 
 -- the times that the table says, in ticks, and its hop limit
 pub record TimesIs (table : Members) (times : Times) : Type 0 where

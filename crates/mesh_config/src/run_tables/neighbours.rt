@@ -3,7 +3,7 @@ ghost use Rattle.std.specs.Prelude.{◌≡◌, ◌≤◌, length, map, IfOk};
 ghost use Rattle.toml.specs.View.{table_view};
 ghost use Rattle.mesh_config.specs.Keys.Faults.{ValueOrFault, first, listed};
 ghost use Rattle.mesh_config.specs.Stated.Tables.{Each};
-ghost use Rattle.mesh_config.specs.RunTables.Run.{neighbours, neighbours_visits, StatedNeighbourIs};
+ghost use Rattle.mesh_config.specs.RunTables.Run.{neighbour_visits, neighbours, neighbours_visits, StatedNeighbourIs};
 
 use crate::keys::{ConfigFault, address_at, array_or_none, known_keys};
 use crate::run_tables::stated::StatedNeighbour;
@@ -13,8 +13,6 @@ use std::alloc::{AllocError, Global};
 use toml::Table;
 
 impl FromTable for StatedNeighbour {
-    ghost use Rattle.mesh_config.specs.RunTables.Run.{neighbour_visits, StatedNeighbourIs};
-
     ghost visits = { neighbour_visits };
 
     ghost says = { StatedNeighbourIs };
@@ -42,30 +40,19 @@ pub fn neighbours_of(alloc: Global, table: &Table) -> Result<Seq<StatedNeighbour
     all_tables(alloc, "neighbour", values)
 }
 
-/// The metrics of what the neighbours send.
+/// The metrics and the qualities of what the neighbours send.
 pub fn senders_of(
     alloc: Global,
     neighbours: &[StatedNeighbour],
-) -> Result<Seq<SenderMetric>, AllocError>
-    ensures { IfOk result (λ senders. senders ≡ map (λ n. n.cost) neighbours.now) }
+) -> Result<(Seq<SenderMetric>, Seq<SenderQuality>), AllocError>
+    ensures metrics { IfOk result (λ both. both.0 ≡ map (λ n. n.cost) neighbours.now) }
+    ensures qualities { IfOk result (λ both. both.1 ≡ map (λ n. n.quality) neighbours.now) }
 {
-    let mut senders = Seq::new(alloc);
-    for neighbour in neighbours {
-        senders.push(neighbour.cost)?;
-    }
-    Ok(senders)
-}
-
-/// The qualities of what the neighbours send.
-pub fn qualities_of(
-    alloc: Global,
-    neighbours: &[StatedNeighbour],
-) -> Result<Seq<SenderQuality>, AllocError>
-    ensures { IfOk result (λ qualities. qualities ≡ map (λ n. n.quality) neighbours.now) }
-{
+    let mut metrics = Seq::new(alloc);
     let mut qualities = Seq::new(alloc);
     for neighbour in neighbours {
+        metrics.push(neighbour.cost)?;
         qualities.push(neighbour.quality.copy()?)?;
     }
-    Ok(qualities)
+    Ok((metrics, qualities))
 }

@@ -4,8 +4,8 @@ ghost use Rattle.toml.specs.View.{table_view, view};
 ghost use Rattle.mesh_atoms.specs.Settings.{IsCount};
 ghost use Rattle.mesh_config.specs.Keys.Faults.{ValueOrFault, first, visit, listed};
 ghost use Rattle.mesh_config.specs.Stated.Router.{IsMetricRead, interfaces};
-ghost use Rattle.mesh_config.specs.Keys.Values.{table_read};
-ghost use Rattle.mesh_config.specs.RunTables.Run.{own_metric_asked, PortSays, port_visits, CostsAre, cost_visits, run_interface_visits, run_interfaces_visits, HasOneMore, HasOfEach, RunInterfacesAre, run_router_visits, RunRouterIs, router_table, router_part, run_table_visits, RunIs};
+ghost use Rattle.mesh_config.specs.Keys.Values.{table_read, inner_visits};
+ghost use Rattle.mesh_config.specs.RunTables.Run.{own_metric_asked, PortSays, port_visits, CostsAre, cost_visits, run_interface_visits, RunInterfaceIs, run_interfaces_visits, HasOneMore, HasOfEach, RunInterfacesAre, run_router_visits, RunRouterIs, router_table, run_table_visits, RunIs};
 ghost use Rattle.mesh_config.specs.Stated.Tables.{tables_visits};
 
 use crate::keys::refusal::BAD_VALUE;
@@ -56,8 +56,6 @@ fn costs_said(alloc: Global, table: &Table) -> Result<Costs, ConfigFault>
 }
 
 impl FromTable for StatedRunInterface {
-    ghost use Rattle.mesh_config.specs.RunTables.Run.{run_interface_visits, RunInterfaceIs};
-
     ghost visits = { run_interface_visits };
 
     ghost says = { RunInterfaceIs };
@@ -138,7 +136,7 @@ fn run_router(alloc: Global, table: &Table) -> Result<StatedRunRouter, ConfigFau
 }
 
 fn router_at(alloc: Global, table: &Table) -> Result<StatedRunRouter, ConfigFault>
-    ensures { ValueOrFault (RunRouterIs (table_read (router_table (table_view table.now)))) (first (router_part (table_view table.now))) result }
+    ensures { ValueOrFault (RunRouterIs (table_read (router_table (table_view table.now)))) (first (inner_visits run_router_visits (router_table (table_view table.now)))) result }
 {
     let inner = table_at(alloc, table, "router")?;
     run_router(alloc, inner)

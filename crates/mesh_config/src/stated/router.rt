@@ -58,8 +58,6 @@ pub fn interface_said(alloc: Global, table: &Table) -> Result<StatedInterface, C
 }
 
 impl FromTable for StatedInterface {
-    ghost use Rattle.mesh_config.specs.Stated.Router.{interface_visits, InterfaceIs};
-
     ghost visits = { interface_visits };
 
     ghost says = { InterfaceIs };
@@ -71,8 +69,6 @@ impl FromTable for StatedInterface {
 }
 
 impl FromTable for Attached4 {
-    ghost use Rattle.mesh_config.specs.Stated.Router.{attached_visits, AttachedIs};
-
     ghost visits = { attached_visits };
 
     ghost says = { AttachedIs };
@@ -118,8 +114,6 @@ pub fn attached_of(alloc: Global, table: &Table) -> Result<Seq<Attached4>, Confi
 }
 
 impl FromTable for StatedRouter {
-    ghost use Rattle.mesh_config.specs.Stated.Router.{router_visits, RouterIs};
-
     ghost visits = { router_visits };
 
     ghost says = { RouterIs };

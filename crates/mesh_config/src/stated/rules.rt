@@ -2,8 +2,9 @@
 ghost use Rattle.std.specs.Prelude.{◌≤◌, length, map, IfOk, IsTrue};
 ghost use Rattle.toml.specs.View.{table_view};
 ghost use Rattle.mesh_atoms.specs.Settings.{are_ascending, IsInterval};
-ghost use Rattle.mesh_config.specs.Keys.Faults.{GivesSetting, ValueOrFault, first};
-ghost use Rattle.mesh_config.specs.Stated.Rules.{near_hold_ms, threshold_visits, AreThresholds, near_holds_visits, NearHoldsAre};
+ghost use Rattle.mesh_config.specs.Keys.Faults.{GivesSetting, ValueOrFault, first, listed};
+ghost use Rattle.mesh_config.specs.Stated.Rules.{threshold_visits, AreThresholds, hops, near_hold_ms, near_hold_visits, NearHoldIs, near_holds, near_holds_visits};
+ghost use Rattle.mesh_config.specs.Stated.Tables.{Each};
 
 use crate::keys::{ConfigFault, array_or_none, known_keys, ticks, whole_at, whole_or};
 use crate::stated::rising::{FromRising, all_rising, refuse_below};
@@ -35,8 +36,6 @@ fn near_hold(alloc: Global, table: &Table) -> Result<u64, ConfigFault>
 }
 
 impl FromRising for NearHold {
-    ghost use Rattle.mesh_config.specs.Stated.Rules.{hops, near_hold_visits, NearHoldIs};
-
     ghost number = { hops };
 
     ghost visits = { near_hold_visits };
@@ -63,7 +62,7 @@ impl FromRising for NearHold {
 /// How long near routers hold what a TC of the router says: at most 8 near holds, each of more hops than the one before; or the
 /// first fault there.
 pub fn near_holds_of(alloc: Global, table: &Table) -> Result<Seq<NearHold>, ConfigFault>
-    ensures answer { ValueOrFault (NearHoldsAre (table_view table.now)) (first (near_holds_visits (table_view table.now))) result }
+    ensures answer { ValueOrFault (Each NearHoldIs (listed (near_holds (table_view table.now)))) (first (near_holds_visits (table_view table.now))) result }
     ensures size { IfOk result (λ nears. length nears ≤ 8) }
     ensures order { IfOk result (λ nears. IsTrue (are_ascending (map (λ n. n.hops) nears))) }
 {

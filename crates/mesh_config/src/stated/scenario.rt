@@ -6,7 +6,7 @@ ghost use Rattle.mesh_atoms.specs.Settings.{IsCount, IsEnd, one_hour, one_millis
 ghost use Rattle.mesh_config.specs.Keys.Faults.{GivesSetting, ValueOrFault, first, listed};
 ghost use Rattle.mesh_config.specs.Stated.Times.{TimesIs};
 ghost use Rattle.mesh_config.specs.Stated.Router.{RouterIs};
-ghost use Rattle.mesh_config.specs.Stated.Scenario.{place, AreEnds, end_visits, delay, end_moment, loss_until, sub_times, times_part, routers, routers_visits, arcs, arcs_visits, ArcIs, AreArcFields, arc_number_fields, arc_number_visits, AreTopNumbers, top_visits, scenario_table_visits, ScenarioIs};
+ghost use Rattle.mesh_config.specs.Stated.Scenario.{place, AreEnds, end_visits, delay, end_moment, loss_until, sub_times, times_part, routers, routers_visits, arcs, arcs_visits, arc_visits, ArcIs, AreArcFields, arc_number_fields, arc_number_visits, AreTopNumbers, top_visits, scenario_table_visits, ScenarioIs};
 ghost use Rattle.mesh_config.specs.Stated.Tables.{Each};
 
 use crate::keys::refusal::{BAD_VALUE, MISSING};
@@ -64,8 +64,7 @@ fn ends(alloc: Global, table: &Table) -> Result<StatedEnds, ConfigFault>
 // The delay of an arc, in ticks.
 fn delay(alloc: Global, table: &Table) -> Result<u64, ConfigFault>
     ensures read { GivesSetting (λ n. n) result (delay (table_view table.now)) }
-    ensures least { IfOk result (λ n. one_millisecond ≤ n) }
-    ensures most { IfOk result (λ n. n ≤ longest_delay) }
+    ensures range { IfOk result (IsCount one_millisecond longest_delay) }
 {
     let ms = whole_or(alloc, table, "delay_ms", 1, 1000, 1)?;
     Ok(ticks(ms))
@@ -85,8 +84,6 @@ fn arc_numbers(alloc: Global, table: &Table) -> Result<ArcNumbers, ConfigFault>
 }
 
 impl FromTable for StatedArc {
-    ghost use Rattle.mesh_config.specs.Stated.Scenario.{arc_visits, ArcIs};
-
     ghost visits = { arc_visits };
 
     ghost says = { ArcIs };

@@ -3,7 +3,7 @@ ghost use Rattle.std.specs.Prelude.{◌≤◌, length, map, IfOk, IsTrue};
 ghost use Rattle.toml.specs.View.{table_view};
 ghost use Rattle.mesh_atoms.specs.Settings.{are_ascending};
 ghost use Rattle.mesh_config.specs.Keys.Faults.{ValueOrFault, first};
-ghost use Rattle.mesh_config.specs.Stated.Steps.{steps_visits, StepsAre};
+ghost use Rattle.mesh_config.specs.Stated.Steps.{at_ms, step_visits, StepIs, steps_visits, StepsAre};
 
 use crate::keys::{ConfigFault, array_or_none, known_keys, ticks, whole_at};
 use crate::stated::rising::{FromRising, all_rising, refuse_below};
@@ -12,8 +12,6 @@ use std::alloc::Global;
 use toml::Table;
 
 impl FromRising for QualityStep {
-    ghost use Rattle.mesh_config.specs.Stated.Steps.{at_ms, step_visits, StepIs};
-
     ghost number = { at_ms };
 
     ghost visits = { step_visits };

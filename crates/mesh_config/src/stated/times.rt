@@ -2,8 +2,7 @@
 ghost use Rattle.std.specs.Prelude.{◌≤◌, IfOk};
 ghost use Rattle.toml.specs.View.{table_view};
 ghost use Rattle.mesh_config.specs.Keys.Faults.{GivesSetting, ValueOrFault, first};
-ghost use Rattle.mesh_config.specs.Keys.Values.{SaysNothing, unknown, is_one_of};
-ghost use Rattle.mesh_config.specs.Stated.Times.{interval, times_keys, times_visits, TimesIs};
+ghost use Rattle.mesh_config.specs.Stated.Times.{interval, times_visits, TimesIs};
 ghost use Rattle.mesh_atoms.specs.Settings.{IsInterval};
 
 use crate::keys::{ConfigFault, known_keys, ticks, whole_or};
@@ -22,8 +21,10 @@ fn interval(alloc: Global, table: &Table, key: &str, default: u64) -> Result<u64
     Ok(ticks(ms))
 }
 
-fn known_to_times(alloc: Global, table: &Table) -> Result<(), ConfigFault>
-    ensures { ValueOrFault SaysNothing (unknown (is_one_of times_keys) (table_view table.now)) result }
+/// The times that the table says, in ticks, each from 100 ms to an hour, and the hop limit of TCs; the default for each key that
+/// is absent (RFC 6130, section 5, and RFC 7181, section 5). An unknown key is refused before all others.
+pub fn times_in(alloc: Global, table: &Table) -> Result<Times, ConfigFault>
+    ensures { ValueOrFault (TimesIs (table_view table.now)) (first (times_visits (table_view table.now))) result }
 {
     known_keys(
         alloc,
@@ -41,15 +42,7 @@ fn known_to_times(alloc: Global, table: &Table) -> Result<(), ConfigFault>
             "forwarded_hold_ms",
             "tc_hop_limit",
         ],
-    )
-}
-
-/// The times that the table says, in ticks, each from 100 ms to an hour, and the hop limit of TCs; the default for each key that
-/// is absent (RFC 6130, section 5, and RFC 7181, section 5). An unknown key is refused before all others.
-pub fn times_in(alloc: Global, table: &Table) -> Result<Times, ConfigFault>
-    ensures { ValueOrFault (TimesIs (table_view table.now)) (first (times_visits (table_view table.now))) result }
-{
-    known_to_times(alloc, table)?;
+    )?;
     Ok(Times {
         hello: interval(alloc, table, "hello_ms", 2000)?,
         hold: interval(alloc, table, "hold_ms", 6000)?,
