@@ -1,4 +1,3 @@
-pub mod Given
 pub mod Same
 pub mod Sets
 pub mod Tuples

@@ -7,5 +7,5 @@ mod tc_sets;
 mod topology;
 
 pub use advertised::{PartSpan, Selector, parts, tc_rows};
-pub use tc_sets::{KeyedSet, TopologyTuple};
+pub use tc_sets::{KeyedSet, KeyedTuple, TopologyTuple};
 pub use topology::{TcTaken, Topology};

@@ -6,6 +6,7 @@ ghost use Rattle.mesh_atoms.specs.AfterTc.{TakesTc, first_overfull};
 ghost use Rattle.mesh_topo.specs.Answers.{answer_of};
 ghost use Rattle.mesh_topo.specs.Same.{SameAdvertised};
 ghost use Rattle.mesh_topo.specs.Sets.{AreFew, KeepsNewer, sets_of};
+ghost use Rattle.mesh_topo.specs.TcSets.Tuples.{given};
 ghost use Rattle.mesh_topo.specs.Tuples.{HasHosts};
 
 use crate::tc_sets::{KeyedSet, TopologyTuple};
@@ -81,7 +82,7 @@ fn is_overfull(held: usize, rows: usize) -> bool
 
 // How many rows of the TC give a tuple.
 fn count_given<K: Ord + Drop, V: TopologyTuple<K>>(tc: &Tc) -> usize
-    ensures value { result ≡ count_by (λ row. is_some (V.given tc.now.originator tc.now.ansn row)) tc.now.rows }
+    ensures value { result ≡ count_by (λ row. is_some (given V.kind tc.now.originator tc.now.ansn row)) tc.now.rows }
 {
     let mut count = 0;
     for row in tc.rows.as_slice() {

@@ -6,4 +6,4 @@ mod outdated;
 mod tuple;
 
 pub use crate::tc_sets::keyed_set::KeyedSet;
-pub use crate::tc_sets::tuple::TopologyTuple;
+pub use crate::tc_sets::tuple::{KeyedTuple, TopologyTuple};

@@ -1,5 +1,6 @@
 -- What a TC does to one set of tuples.
-use Rattle.mesh_topo.proofs.Common.{common_steps, ◌≡◌, ℕ, ◌+◌, ◌<◌, ◌≤◌, ◌⊎◌, inl, inr, Bool, true, false, cond, not, ◌&&◌, List, length, take, Option, Some, None, slice_index_or, refl, sym, ap, subst, ◌∙◌, arith, eq-eqb, option_map, slice_get, nat_eq, is_some, count_by, IsTrue, ◌↔◌, BTreeSet, IsEquivalence, Ordering, cases_Bool, count_by_more_yes, count_by_more_no, slice_get-get_or, slice_get_within, get_or_from_slice_get, Addr4, Metric, Tc, Base, find, SetsOnly, addr_eq, if_not_dropped, Becomes, BecomesSet, Given, Left, AreKeys, find_same, SaysSame, GivenBy, GivenBefore, PutsGiven, PutsRows, Put, Stood}
+use Rattle.mesh_topo.proofs.Common.{common_steps, ◌≡◌, ℕ, ◌+◌, ◌<◌, ◌≤◌, ◌⊎◌, inl, inr, Bool, true, false, cond, not, ◌&&◌, List, length, take, Option, Some, None, slice_index_or, refl, sym, ap, subst, ◌∙◌, arith, eq-eqb, option_map, slice_get, nat_eq, is_some, count_by, IsTrue, ◌↔◌, BTreeSet, IsEquivalence, Ordering, cases_Bool, count_by_more_yes, count_by_more_no, slice_get-get_or, slice_get_within, get_or_from_slice_get, Addr4, Metric, Tc, TcRow, Base, find, SetsOnly, addr_eq, if_not_dropped, Becomes, BecomesSet, Given, Left, AreKeys, find_same, SaysSame, TupleKind, given, number_or, GivenBy, GivenBefore, PutsGiven, PutsRows, Put, Stood}
+use Rattle.std.proofs.lemmas.Option.{option_and_then_some}
 
 -- ---- rows that are put one after the other
 
@@ -102,6 +103,16 @@ keys_held {eq = eq} laws cmp key entry keys base base' held sets are q = are q �
   by_key : (b : Bool) → eq key q ≡ b → is_some (find eq base q) ≡ is_some (cond b (Some entry) (find eq base q))
   by_key true is = ap is_some (find_same laws key q is base) ∙ sym held
   by_key false is = refl
+
+-- ---- what a row gives
+
+-- the number of the tuple is the TC's
+numbered_pair : {K V : Type 0} (number : V → ℕ) (ansn : ℕ) (k key : K) (o : Option V) (value : V) → number_or number ansn o ≡ ansn → option_map {U = K × V} (λ tuple. (k, tuple)) o ≡ Some (key, value) → number value ≡ ansn
+numbered_pair number ansn k key o value is gives = grind (arith, common_steps)
+
+pub given_numbered : {K V : Type 0} (kind : TupleKind K V) (from : Addr4) (ansn : ℕ) (row : TcRow) (key : K) (value : V) → given kind from ansn row ≡ Some (key, value) → kind.number value ≡ ansn
+given_numbered kind from ansn row key value gives = option_and_then_some _ row.metric (key, value) gives (λ metric _ is.
+    numbered_pair kind.number ansn (kind.key_to from row.dest) key (kind.by_row ansn metric row) value (kind.numbered ansn metric row) is)
 
 -- ---- all of it
 

@@ -1,5 +1,7 @@
--- The tuples that the rows of a TC give.
-use Rattle.std.specs.Prelude.{ℕ, Option, Some, None, cond, option_map}
+-- The kinds of topology tuples: what their keys and tuples say, and what the rows of a TC give.
+use Rattle.std.specs.Prelude.{◌≡◌, ℕ, Bool, true, false, Option, Some, None, option_map, option_and_then, refl}
+use Rattle.std.specs.Bool.{then_some}
+use Rattle.mesh_atoms.specs.Base.{host}
 use Rattle.mesh_atoms.specs.declared.addr.Addr4.{Addr4}
 use Rattle.mesh_atoms.specs.declared.addr.NetAddr.{NetAddr}
 use Rattle.mesh_atoms.specs.declared.codes.metric.Metric.{Metric}
@@ -11,21 +13,33 @@ use Rattle.mesh_atoms.specs.declared.tuples.AddressTuple.{AddressTuple}
 use Rattle.mesh_atoms.specs.declared.tuples.NetworkKey.{NetworkKey}
 use Rattle.mesh_atoms.specs.declared.tuples.NetworkTuple.{NetworkTuple}
 
--- what an ORIGINATOR row with a metric gives in a TC of that originator and number
-abbrev pub router_of : Addr4 → ℕ → TcRow → Option (RouterKey × RouterTuple)
-router_of from ansn row = cond row.origin (option_map (λ m. (record { from = from; to = row.dest.addr }, record { ansn = ansn; metric = m })) row.metric) None
+-- the number of a tuple, or that number where there is none
+abbrev pub number_or : {V : Type 0} → (V → ℕ) → ℕ → Option V → ℕ
+number_or number ansn None = ansn
+number_or number ansn (Some tuple) = number tuple
 
--- what a ROUTABLE row with a metric gives
-abbrev pub address_of : Addr4 → ℕ → TcRow → Option (AddressKey × AddressTuple)
-address_of from ansn row = cond row.routable (option_map (λ m. (record { from = from; addr = row.dest.addr }, record { ansn = ansn; metric = m })) row.metric) None
+-- a kind of topology tuples
+pub record TupleKind (K V : Type 0) : Type 0 where
+  -- the originator of the TC that gave a tuple
+  pub origin : K → Addr4
+  -- the router, address or network to which the originator leads
+  pub dest : K → NetAddr
+  -- the key from an originator to there; the prefix counts for networks alone
+  pub key_to : Addr4 → NetAddr → K
+  -- that key is one of the originator
+  pub from_is : (from : Addr4) (net : NetAddr) → origin (key_to from net) ≡ from
+  -- the number of the TC that gave the tuple
+  pub number : V → ℕ
+  -- what the tuple says beside its number: the distance of a network, and the metric
+  pub says : V → Option ℕ × Metric
+  -- the tuple that a row with that metric gives in a TC of that number
+  pub by_row : ℕ → Metric → TcRow → Option V
+  -- that tuple has the number
+  pub numbered : (ansn : ℕ) (metric : Metric) (row : TcRow) → number_or number ansn (by_row ansn metric row) ≡ ansn
 
--- what a GATEWAY row with a metric gives
-abbrev pub network_with : Addr4 → ℕ → NetAddr → Option ℕ → Option Metric → Option (NetworkKey × NetworkTuple)
-network_with from ansn net (Some distance) (Some m) = Some (record { from = from; net = net }, record { ansn = ansn; distance = distance; metric = m })
-network_with from ansn net distance metric = None
-
-abbrev pub network_of : Addr4 → ℕ → TcRow → Option (NetworkKey × NetworkTuple)
-network_of from ansn row = network_with from ansn row.dest row.gateway row.metric
+-- what a row gives in a TC of that originator and number; nothing where it has no metric
+abbrev pub given : {K V : Type 0} → TupleKind K V → Addr4 → ℕ → TcRow → Option (K × V)
+given kind from ansn row = option_and_then (λ metric. option_map (λ tuple. (kind.key_to from row.dest, tuple)) (kind.by_row ansn metric row)) row.metric
 
 -- what a tuple says beside its number: the distance of a network, and the metric
 abbrev pub router_says : RouterTuple → Option ℕ × Metric
@@ -36,3 +50,35 @@ address_says t = (None, t.metric)
 
 abbrev pub network_says : NetworkTuple → Option ℕ × Metric
 network_says t = (Some t.distance, t.metric)
+
+-- a tuple that a flag gives has its number
+pub by_flag : {V : Type 0} (number : V → ℕ) (ansn : ℕ) (tuple : V) → number tuple ≡ ansn → (flag : Bool) → number_or number ansn (then_some flag tuple) ≡ ansn
+by_flag number ansn tuple is true = is
+by_flag number ansn tuple is false = refl
+
+-- a tuple that a distance gives has its number
+pub by_distance : {V : Type 0} (number : V → ℕ) (ansn : ℕ) (tuple_at : ℕ → V) → ((distance : ℕ) → number (tuple_at distance) ≡ ansn) → (distance : Option ℕ) →
+    number_or number ansn (option_map tuple_at distance) ≡ ansn
+by_distance number ansn tuple_at is (Some distance) = is distance
+by_distance number ansn tuple_at is None = refl
+
+-- the router topology tuples, which ORIGINATOR rows give
+abbrev pub router_kind : TupleKind RouterKey RouterTuple
+router_kind = record {
+  origin = λ key. key.from; dest = λ key. host key.to; key_to = λ from net. record { from = from; to = net.addr }; from_is = λ from net. refl; number = λ t. t.ansn; says = router_says;
+  by_row = λ ansn m row. then_some row.origin (record { ansn = ansn; metric = m }); numbered = λ ansn m row. by_flag (λ (t : RouterTuple). t.ansn) ansn _ refl row.origin;
+}
+
+-- the routable address topology tuples, which ROUTABLE rows give
+abbrev pub address_kind : TupleKind AddressKey AddressTuple
+address_kind = record {
+  origin = λ key. key.from; dest = λ key. host key.addr; key_to = λ from net. record { from = from; addr = net.addr }; from_is = λ from net. refl; number = λ t. t.ansn; says = address_says;
+  by_row = λ ansn m row. then_some row.routable (record { ansn = ansn; metric = m }); numbered = λ ansn m row. by_flag (λ (t : AddressTuple). t.ansn) ansn _ refl row.routable;
+}
+
+-- the attached network tuples, which GATEWAY rows give
+abbrev pub network_kind : TupleKind NetworkKey NetworkTuple
+network_kind = record {
+  origin = λ key. key.from; dest = λ key. key.net; key_to = λ from net. record { from = from; net = net }; from_is = λ from net. refl; number = λ t. t.ansn; says = network_says;
+  by_row = λ ansn m row. option_map (λ d. record { ansn = ansn; distance = d; metric = m }) row.gateway; numbered = λ ansn m row. by_distance (λ (t : NetworkTuple). t.ansn) ansn _ (λ d. refl) row.gateway;
+}

@@ -5,6 +5,7 @@ ghost use Rattle.mesh_atoms.specs.AfterTc.{BecomesSet};
 ghost use Rattle.mesh_expire.specs.Keyed.{AreKeys};
 ghost use Rattle.mesh_topo.specs.TcSets.Same.{SaysSame};
 ghost use Rattle.mesh_topo.specs.TcSets.Sets.{GivenBy, PutsGiven, PutsRows};
+ghost use Rattle.mesh_topo.specs.TcSets.Tuples.{given};
 
 use crate::tc_sets::outdated::drop_outdated;
 use crate::tc_sets::tuple::TopologyTuple;
@@ -45,7 +46,7 @@ fn put_tuple<K: Key + Ord + Drop, V: TopologyTuple<K>, T: Table<K, V>>(
     ensures keys { AreKeys K.eq K.cmp keys.new (T.content table.new) }
     ensures distinct { HasDistinctKeys K.eq (T.content table.new) }
     ensures ok { OnOk result (SetsOnly K.eq (T.content table.old) (T.content table.new) key (Some (tuple, until))) }
-    ensures same { IfOk result (λ changed. changed ≡ false ↔ SaysSame K.eq V.says (T.content table.old) (T.content table.new)) }
+    ensures same { IfOk result (λ changed. changed ≡ false ↔ SaysSame K.eq V.kind.says (T.content table.old) (T.content table.new)) }
     ensures count { OnOk result (length (T.content table.new) ≤ length (T.content table.old) + 1) }
 {
     // Where it stands, its key is among the keys.
@@ -87,9 +88,9 @@ impl<K: Key + Ord + Drop, V: TopologyTuple<K>, T: Table<K, V>> KeyedSet<K, V, T>
     /// originator with another number goes. Whether what the tuples say may have changed. After an allocation failure the set
     /// may only be dropped.
     pub fn take_rows(&mut self, tc: &Tc, until: u64) -> Result<bool, AllocError>
-        ensures becomes { OnOk result (BecomesSet K.eq tc.now until V.origin V.number (GivenBy V.given tc.now) self.old self.new) }
-        ensures same { IfOk result (λ changed. changed ≡ false → SaysSame K.eq V.says self.old self.new) }
-        ensures count { OnOk result (length self.new ≤ length self.old + count_by (λ row. is_some (V.given tc.now.originator tc.now.ansn row)) tc.now.rows) }
+        ensures becomes { OnOk result (BecomesSet K.eq tc.now until V.kind.origin V.kind.number (GivenBy (given V.kind) tc.now) self.old self.new) }
+        ensures same { IfOk result (λ changed. changed ≡ false → SaysSame K.eq V.kind.says self.old self.new) }
+        ensures count { OnOk result (length self.new ≤ length self.old + count_by (λ row. is_some (given V.kind tc.now.originator tc.now.ansn row)) tc.now.rows) }
     {
         let mut changed = self.put_rows(tc, until)?;
         changed |= drop_outdated(&mut self.table, &mut self.keys, tc)?;
@@ -109,7 +110,7 @@ impl<K: Key + Ord + Drop, V: TopologyTuple<K>, T: Table<K, V>> KeyedSet<K, V, T>
     // Puts a tuple, if there is one, until that moment. Whether none that says the same stood there.
     fn put_given(&mut self, given: Option<(K, V)>, until: u64) -> Result<bool, AllocError>
         ensures put { OnOk result (PutsGiven K.eq given until self.old self.new) }
-        ensures same { IfOk result (λ changed. changed ≡ false ↔ SaysSame K.eq V.says self.old self.new) }
+        ensures same { IfOk result (λ changed. changed ≡ false ↔ SaysSame K.eq V.kind.says self.old self.new) }
         ensures count { OnOk result (length self.new ≤ length self.old + cond (is_some given) 1 0) }
     {
         let Some((key, tuple)) = given else {
@@ -120,10 +121,10 @@ impl<K: Key + Ord + Drop, V: TopologyTuple<K>, T: Table<K, V>> KeyedSet<K, V, T>
 
     // Puts what the TC's rows give, until that moment. Whether what the tuples say may have changed.
     fn put_rows(&mut self, tc: &Tc, until: u64) -> Result<bool, AllocError>
-        ensures put { OnOk result ((q : K) → PutsRows (V.given tc.now.originator tc.now.ansn) until tc.now.rows (length tc.now.rows) q
+        ensures put { OnOk result ((q : K) → PutsRows (given V.kind tc.now.originator tc.now.ansn) until tc.now.rows (length tc.now.rows) q
             (find K.eq self.old q) (find K.eq self.new q)) }
-        ensures same { IfOk result (λ changed. changed ≡ false → SaysSame K.eq V.says self.old self.new) }
-        ensures count { OnOk result (length self.new ≤ length self.old + count_by (λ row. is_some (V.given tc.now.originator tc.now.ansn row)) tc.now.rows) }
+        ensures same { IfOk result (λ changed. changed ≡ false → SaysSame K.eq V.kind.says self.old self.new) }
+        ensures count { OnOk result (length self.new ≤ length self.old + count_by (λ row. is_some (given V.kind tc.now.originator tc.now.ansn row)) tc.now.rows) }
     {
         let mut changed = false;
         for row in tc.rows.as_slice() {

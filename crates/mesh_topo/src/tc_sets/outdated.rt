@@ -23,7 +23,7 @@ pub(crate) fn drop_outdated<K: Key + Ord + Drop, V: TopologyTuple<K>, T: Table<K
     ensures keys { AreKeys K.eq K.cmp keys.new (T.content table.new) }
     ensures distinct { HasDistinctKeys K.eq (T.content table.new) }
     ensures dropped { OnOk result ((q : K) → find K.eq (T.content table.new) q
-        ≡ if_not_dropped tc.now (V.origin q) V.number (find K.eq (T.content table.old) q)) }
+        ≡ if_not_dropped tc.now (V.kind.origin q) V.kind.number (find K.eq (T.content table.old) q)) }
     ensures same { IfOk result (λ changed. changed ≡ false → T.content table.new ≡ T.content table.old) }
     ensures count { OnOk result (length (T.content table.new) ≤ length (T.content table.old)) }
 {
@@ -44,10 +44,10 @@ fn has_other_number<K: Key + Ord, V: TopologyTuple<K>, T: Table<K, V>>(
     key: &K,
     ansn: u16,
 ) -> bool
-    ensures { result ≡ has_other_number ansn V.number (find K.eq (T.content table.now) key.now) }
+    ensures { result ≡ has_other_number ansn V.kind.number (find K.eq (T.content table.now) key.now) }
 {
     match table.get(key) {
-        Some((tuple, _)) => tuple.number_of() != ansn,
+        Some((tuple, _)) => tuple.number_and_rest().0 != ansn,
         None => false,
     }
 }
@@ -61,11 +61,11 @@ fn outdated<K: Key + Ord + Drop, V: TopologyTuple<K>, T: Table<K, V>>(
     ansn: u16,
 ) -> Result<Seq<K>, AllocError>
     requires { AreKeys K.eq K.cmp keys.now (T.content table.now) }
-    ensures { IfOk result (λ found. (q : K) → list_any (K.eq q) found ≡ is_outdated K.eq originator ansn V.origin V.number (T.content table.now) q) }
+    ensures { IfOk result (λ found. (q : K) → list_any (K.eq q) found ≡ is_outdated K.eq originator ansn V.kind.origin V.kind.number (T.content table.now) q) }
 {
     let mut found = Seq::new(alloc);
     for key in keys.range(V::first_key(originator)..) {
-        if V::origin_of(key) != originator {
+        if V::ends_of(key).0 != originator {
             return Ok(found);
         }
         if has_other_number(table, key, ansn) {

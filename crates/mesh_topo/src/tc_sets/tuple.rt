@@ -1,246 +1,161 @@
 //! The topology tuples (RFC 7181, sections 10.2 to 10.4), and which of them the rows of a TC give (section 16.3.3).
-ghost use Rattle.std.specs.Prelude.{◌≡◌, ◌≤◌, ◌↔◌, ℕ, Option, Some, IsTrue, false};
+ghost use Rattle.std.specs.Prelude.{◌≡◌, ◌≤◌, ◌↔◌, IsTrue, false, refl};
 ghost use Rattle.std.specs.Ordering.{is_gt};
-ghost use Rattle.mesh_atoms.specs.declared.addr.Addr4.{Addr4};
+ghost use Rattle.std.proofs.Common.{rules};
 ghost use Rattle.mesh_atoms.specs.declared.addr.NetAddr.{NetAddr};
-ghost use Rattle.mesh_atoms.specs.declared.codes.metric.Metric.{Metric};
-ghost use Rattle.mesh_atoms.specs.declared.tc.TcRow.{TcRow};
+ghost use Rattle.mesh_expire.proofs.KeyOrder.{no_later};
+ghost use Rattle.mesh_topo.specs.TcSets.Tuples.{TupleKind, given, router_kind, address_kind, network_kind};
 
 use mesh_atoms::{
     Addr4, AddressKey, AddressTuple, Metric, NetAddr, NetworkKey, NetworkTuple, RouterKey,
     RouterTuple, TcRow, host,
 };
 
-/// A topology tuple: the originator of a TC leads to a router, a routable address or an attached network.
-pub trait TopologyTuple<K: Ord>: Copy {
-    ghost origin: { K → Addr4 };
+/// A tuple with a key: the originator of a TC leads to a router, a routable address or an attached network.
+pub trait KeyedTuple<K: Ord>: Copy {
+    ghost kind: { TupleKind K Self };
 
-    ghost dest: { K → NetAddr };
+    /// The originator of the TC that gave the tuple, and the router, address or network to which the originator leads.
+    fn ends_of(key: &K) -> (Addr4, NetAddr)
+        ensures { result ≡ (kind.origin key.now, kind.dest key.now) };
 
-    ghost number: { Self → ℕ };
+    /// The key from an originator to there. The prefix counts for networks alone.
+    fn key_to(from: Addr4, net: NetAddr) -> K
+        ensures { result ≡ kind.key_to from net };
 
-    ghost says: { Self → Option ℕ × Metric };
+    /// No key of the originator is before this one.
+    final fn first_key(originator: Addr4) -> K
+        ensures of { kind.origin result ≡ originator }
+        ensures first { (q : K) → kind.origin q ≡ originator → is_gt (K.cmp result q) ≡ false }
+    {
+        Self::key_to(
+            originator,
+            NetAddr {
+                addr: Addr4(0),
+                prefix: 0,
+            },
+        )
+    }
 
-    ghost given: { Addr4 → ℕ → TcRow → Option (K × Self) };
+    ghost first: { (q : K) (net : NetAddr) → net.addr.0 ≡ 0 → net.prefix ≡ 0 → is_gt (K.cmp (kind.key_to (kind.origin q) net) q) ≡ false };
 
-    /// The originator of the TC that gave the tuple.
-    fn origin_of(key: &K) -> Addr4
-        ensures { result ≡ origin key.now };
+    ghost by_origin: { (a b : K) → is_gt (K.cmp a b) ≡ false → (kind.origin a).0 ≤ (kind.origin b).0 };
+}
 
-    /// The router, address or network to which the originator leads.
-    fn dest_of(key: &K) -> NetAddr
-        ensures { result ≡ dest key.now };
+/// A topology tuple: what it says, and which rows of a TC give it.
+pub trait TopologyTuple<K: Ord>: KeyedTuple<K> {
+    /// The number of the TC that gave the tuple, and what the tuple says beside it: the distance of a network, and the metric.
+    fn number_and_rest(&self) -> (u16, (Option<u8>, Metric))
+        ensures { result ≡ (Self.kind.number self.now, Self.kind.says self.now) };
 
-    /// The number of the TC that gave the tuple.
-    fn number_of(&self) -> u16
-        ensures { result ≡ number self.now };
+    /// The tuple that a row with that metric gives in a TC of that number.
+    fn by_row(ansn: u16, metric: Metric, row: &TcRow) -> Option<Self>
+        ensures { result ≡ Self.kind.by_row ansn metric row.now };
 
-    /// What the tuple says beside its number: the distance of a network, and the metric.
-    fn distance_and_metric(&self) -> (Option<u8>, Metric)
-        ensures { result ≡ says self.now };
+    /// What a row gives in a TC of that originator and number.
+    final fn given_by(originator: Addr4, ansn: u16, row: &TcRow) -> Option<(K, Self)>
+        ensures { result ≡ given Self.kind originator ansn row.now }
+    {
+        let tuple = Self::by_row(ansn, row.metric?, row)?;
+        Some((Self::key_to(originator, row.dest), tuple))
+    }
 
     /// The metric at which the originator leads there.
     final fn metric(&self) -> Metric
-        ensures { result ≡ (says self.now).1 }
+        ensures { result ≡ (Self.kind.says self.now).1 }
     {
-        self.distance_and_metric().1
+        self.number_and_rest().1.1
     }
 
     /// Whether two tuples say the same, whatever their numbers.
     final fn is_same_but_number(&self, other: &Self) -> bool
-        ensures { IsTrue result ↔ (says self.now ≡ says other.now) }
+        ensures { IsTrue result ↔ (Self.kind.says self.now ≡ Self.kind.says other.now) }
     {
-        self.distance_and_metric() == other.distance_and_metric()
+        self.number_and_rest().1 == other.number_and_rest().1
+    }
+}
+
+impl KeyedTuple<RouterKey> for RouterTuple {
+    ghost kind = { router_kind };
+
+    fn ends_of(key: &RouterKey) -> (Addr4, NetAddr) {
+        (key.from, host(key.to))
     }
 
-    /// No key of the originator is before this one.
-    fn first_key(originator: Addr4) -> K
-        ensures of { origin result ≡ originator }
-        ensures first { (q : K) → origin q ≡ originator → is_gt (K.cmp result q) ≡ false };
+    fn key_to(from: Addr4, net: NetAddr) -> RouterKey {
+        RouterKey { from, to: net.addr }
+    }
 
-    /// What a row gives in a TC of that originator and number.
-    fn given_by(originator: Addr4, ansn: u16, row: &TcRow) -> Option<(K, Self)>
-        ensures { result ≡ given originator ansn row.now };
+    ghost first = { Prim.search rules };
 
-    ghost numbered: { (from : Addr4) (ansn : ℕ) (row : TcRow) (key : K) (tuple : Self) → given from ansn row ≡ Some (key, tuple) → number tuple ≡ ansn };
+    ghost by_origin = { λ a b h. no_later a.from.0 b.from.0 _ _ refl h };
+}
 
-    ghost by_origin: { (a b : K) → is_gt (K.cmp a b) ≡ false → (origin a).0 ≤ (origin b).0 };
+impl KeyedTuple<AddressKey> for AddressTuple {
+    ghost kind = { address_kind };
+
+    fn ends_of(key: &AddressKey) -> (Addr4, NetAddr) {
+        (key.from, host(key.addr))
+    }
+
+    fn key_to(from: Addr4, net: NetAddr) -> AddressKey {
+        AddressKey {
+            from,
+            addr: net.addr,
+        }
+    }
+
+    ghost first = { Prim.search rules };
+
+    ghost by_origin = { λ a b h. no_later a.from.0 b.from.0 _ _ refl h };
+}
+
+impl KeyedTuple<NetworkKey> for NetworkTuple {
+    ghost kind = { network_kind };
+
+    fn ends_of(key: &NetworkKey) -> (Addr4, NetAddr) {
+        (key.from, key.net)
+    }
+
+    fn key_to(from: Addr4, net: NetAddr) -> NetworkKey {
+        NetworkKey { from, net }
+    }
+
+    ghost first = { Prim.search rules };
+
+    ghost by_origin = { λ a b h. no_later a.from.0 b.from.0 _ _ refl h };
 }
 
 impl TopologyTuple<RouterKey> for RouterTuple {
-    ghost use Rattle.mesh_atoms.specs.Base.{host};
-    ghost use Rattle.mesh_topo.specs.TcSets.Tuples.{router_of, router_says};
-    ghost use Rattle.std.specs.Prelude.{refl};
-    ghost use Rattle.mesh_expire.proofs.KeyOrder.{no_later};
-    ghost use Rattle.mesh_topo.specs.TcSets.Given.{router_numbered};
-
-    ghost origin = { λ key. key.from };
-
-    ghost dest = { λ key. host key.to };
-
-    ghost number = { λ tuple. tuple.ansn };
-
-    ghost says = { router_says };
-
-    ghost given = { router_of };
-
-    fn origin_of(key: &RouterKey) -> Addr4 {
-        key.from
+    fn number_and_rest(&self) -> (u16, (Option<u8>, Metric)) {
+        (self.ansn, (None, self.metric))
     }
 
-    fn dest_of(key: &RouterKey) -> NetAddr {
-        host(key.to)
-    }
-
-    fn number_of(&self) -> u16 {
-        self.ansn
-    }
-
-    fn distance_and_metric(&self) -> (Option<u8>, Metric) {
-        (None, self.metric)
-    }
-
-    fn first_key(originator: Addr4) -> RouterKey {
-        RouterKey {
-            from: originator,
-            to: Addr4(0),
-        }
-    }
-
-    ghost numbered = { router_numbered };
-
-    ghost by_origin = { λ a b h. no_later a.from.0 b.from.0 _ _ refl h };
-
-    fn given_by(originator: Addr4, ansn: u16, row: &TcRow) -> Option<(RouterKey, RouterTuple)> {
-        if !row.origin {
-            return None;
-        }
-        let metric = row.metric?;
-        let key = RouterKey {
-            from: originator,
-            to: row.dest.addr,
-        };
-        Some((key, RouterTuple { ansn, metric }))
+    fn by_row(ansn: u16, metric: Metric, row: &TcRow) -> Option<RouterTuple> {
+        row.origin.then_some(RouterTuple { ansn, metric })
     }
 }
 
 impl TopologyTuple<AddressKey> for AddressTuple {
-    ghost use Rattle.mesh_atoms.specs.Base.{host};
-    ghost use Rattle.mesh_topo.specs.TcSets.Tuples.{address_of, address_says};
-    ghost use Rattle.std.specs.Prelude.{refl};
-    ghost use Rattle.mesh_expire.proofs.KeyOrder.{no_later};
-    ghost use Rattle.mesh_topo.specs.TcSets.Given.{address_numbered};
-
-    ghost origin = { λ key. key.from };
-
-    ghost dest = { λ key. host key.addr };
-
-    ghost number = { λ tuple. tuple.ansn };
-
-    ghost says = { address_says };
-
-    ghost given = { address_of };
-
-    fn origin_of(key: &AddressKey) -> Addr4 {
-        key.from
+    fn number_and_rest(&self) -> (u16, (Option<u8>, Metric)) {
+        (self.ansn, (None, self.metric))
     }
 
-    fn dest_of(key: &AddressKey) -> NetAddr {
-        host(key.addr)
-    }
-
-    fn number_of(&self) -> u16 {
-        self.ansn
-    }
-
-    fn distance_and_metric(&self) -> (Option<u8>, Metric) {
-        (None, self.metric)
-    }
-
-    fn first_key(originator: Addr4) -> AddressKey {
-        AddressKey {
-            from: originator,
-            addr: Addr4(0),
-        }
-    }
-
-    ghost numbered = { address_numbered };
-
-    ghost by_origin = { λ a b h. no_later a.from.0 b.from.0 _ _ refl h };
-
-    fn given_by(originator: Addr4, ansn: u16, row: &TcRow) -> Option<(AddressKey, AddressTuple)> {
-        if !row.routable {
-            return None;
-        }
-        let metric = row.metric?;
-        let key = AddressKey {
-            from: originator,
-            addr: row.dest.addr,
-        };
-        Some((key, AddressTuple { ansn, metric }))
+    fn by_row(ansn: u16, metric: Metric, row: &TcRow) -> Option<AddressTuple> {
+        row.routable.then_some(AddressTuple { ansn, metric })
     }
 }
 
 impl TopologyTuple<NetworkKey> for NetworkTuple {
-    ghost use Rattle.mesh_topo.specs.TcSets.Tuples.{network_of, network_says};
-    ghost use Rattle.std.specs.Prelude.{refl};
-    ghost use Rattle.mesh_expire.proofs.KeyOrder.{no_later};
-    ghost use Rattle.mesh_topo.specs.TcSets.Given.{network_numbered};
-
-    ghost origin = { λ key. key.from };
-
-    ghost dest = { λ key. key.net };
-
-    ghost number = { λ tuple. tuple.ansn };
-
-    ghost says = { network_says };
-
-    ghost given = { network_of };
-
-    fn origin_of(key: &NetworkKey) -> Addr4 {
-        key.from
+    fn number_and_rest(&self) -> (u16, (Option<u8>, Metric)) {
+        (self.ansn, (Some(self.distance), self.metric))
     }
 
-    fn dest_of(key: &NetworkKey) -> NetAddr {
-        key.net
-    }
-
-    fn number_of(&self) -> u16 {
-        self.ansn
-    }
-
-    fn distance_and_metric(&self) -> (Option<u8>, Metric) {
-        (Some(self.distance), self.metric)
-    }
-
-    fn first_key(originator: Addr4) -> NetworkKey {
-        NetworkKey {
-            from: originator,
-            net: NetAddr {
-                addr: Addr4(0),
-                prefix: 0,
-            },
-        }
-    }
-
-    ghost numbered = { network_numbered };
-
-    ghost by_origin = { λ a b h. no_later a.from.0 b.from.0 _ _ refl h };
-
-    fn given_by(originator: Addr4, ansn: u16, row: &TcRow) -> Option<(NetworkKey, NetworkTuple)> {
-        let distance = row.gateway?;
-        let metric = row.metric?;
-        let key = NetworkKey {
-            from: originator,
-            net: row.dest,
-        };
-        Some((
-            key,
-            NetworkTuple {
-                ansn,
-                distance,
-                metric,
-            },
-        ))
+    fn by_row(ansn: u16, metric: Metric, row: &TcRow) -> Option<NetworkTuple> {
+        Some(NetworkTuple {
+            ansn,
+            distance: row.gateway?,
+            metric,
+        })
     }
 }

@@ -17,7 +17,7 @@ returns-in-Some-clause-same g c =
     let base = g.T.Table.content c.args.table.now in
     let stood = sym c.in-Some.is ∙ c.in_ok-before.ensures.before in
     let sets = (renewed g.met.K.Eq.laws c.args.key (c.args.tuple, c.args.until) c.in-Some.before base (g.T.Table.content c.renew.new.self) stood c.in_ok-before.ensures.ok).2 in
-    put_same g.K.PartialEq.eq g.V.TopologyTuple.says g.met.K.Eq.laws g.met.K.Key.exact c.args.key c.in-Some.before c.args.tuple c.args.until base (g.T.Table.content c.renew.new.self) c.is_same_but_number.result stood c.is_same_but_number.ensures sets
+    put_same g.K.PartialEq.eq g.V.KeyedTuple.kind.says g.met.K.Eq.laws g.met.K.Key.exact c.args.key c.in-Some.before c.args.tuple c.args.until base (g.T.Table.content c.renew.new.self) c.is_same_but_number.result stood c.is_same_but_number.ensures sets
 
 pub put_keyed-requires : goal.put_keyed-requires
 put_keyed-requires g c =
