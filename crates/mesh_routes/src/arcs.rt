@@ -63,11 +63,12 @@ pub(crate) fn put_two_hop_arcs<N: Near4>(
 
 // The arc from the originator that told of a topology tuple to what it told.
 fn topology_arc<K: Ord, V: TopologyTuple<K>>(key: &K, tuple: &V) -> Arc4
-    ensures { result ≡ arc_at (host (V.origin key.now)) (V.dest key.now) (V.says tuple.now).1 }
+    ensures { result ≡ arc_at (host (V.kind.origin key.now)) (V.kind.dest key.now) (V.kind.says tuple.now).1 }
 {
+    let (from, to) = V::ends_of(key);
     Arc4 {
-        from: host(V::origin_of(key)),
-        to: V::dest_of(key),
+        from: host(from),
+        to,
         metric: tuple.metric().value(),
     }
 }
@@ -77,7 +78,7 @@ pub(crate) fn put_topology_arcs<K: Key + Ord, V: TopologyTuple<K>, T: Table<K, V
     arcs: &mut Seq<Arc4>,
     table: &T,
 ) -> Result<(), AllocError>
-    ensures adds { OnOk result (Adds (GivenByElement (λ e arc. arc_at (host (V.origin e.0)) (V.dest e.0) (V.says e.1.0).1 ≡ arc) (T.content table.now)) arcs.old arcs.new) }
+    ensures adds { OnOk result (Adds (GivenByElement (λ e arc. arc_at (host (V.kind.origin e.0)) (V.kind.dest e.0) (V.kind.says e.1.0).1 ≡ arc) (T.content table.now)) arcs.old arcs.new) }
     ensures few { OnOk result (length arcs.new ≤ length arcs.old + length (T.content table.now)) }
 {
     for place in 0..table.len() {
