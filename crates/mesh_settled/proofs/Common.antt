@@ -4,7 +4,7 @@ pub use Rattle.mesh_atoms.proofs.Lists.{contains_at, contains_map, contains_none
 pub use Rattle.mesh_atoms.proofs.Lookups.{address_equiv, has_found, looks_up_links, looks_up_neighbours, looks_up_two_hops, network_equiv, router_equiv, same_address, same_net, same_network, same_router, tests_symmetric}
 pub use Rattle.mesh_atoms.proofs.Options.{cond_none_some, same_answer, same_some, some_equal, true_false}
 pub use Rattle.mesh_atoms.proofs.Values.{not_before_itself, on_interface, one_originator, same_addr}
-pub use Rattle.mesh_atoms.specs.Base.{Base, Has, HasDistinctKeys, addr_eq, address_eq, base_of, find, host, link_eq, net_eq, network_eq, router_eq, two_hop_eq}
+pub use Rattle.mesh_atoms.specs.Base.{Base, Has, HasDistinctKeys, addr_eq, base_of, find, host, link_eq, net_eq, two_hop_eq}
 pub use Rattle.mesh_atoms.specs.Codes.Codes.{metric_value}
 pub use Rattle.mesh_atoms.specs.Hello.{Flooding, Routing, Says, SaysSymmetric}
 pub use Rattle.mesh_atoms.specs.Radio.{Adjacent, IsMetric, IsRadioGraph, Joined, Joins, Leads}
@@ -40,7 +40,7 @@ pub use Rattle.mesh_settled.specs.Gaps.Neighbours.{IsGivenNear, IsNear, IsNeighb
 pub use Rattle.mesh_settled.specs.Gaps.Network.{IsNetwork}
 pub use Rattle.mesh_settled.specs.Gaps.Peers.{IsOrigin, IsPeerOriginator, IsStrayAt, IsValueOf}
 pub use Rattle.mesh_settled.specs.Gaps.Site.{seen, states}
-pub use Rattle.mesh_settled.specs.Gaps.Topics.{IsByAllRows, IsByRows, IsClaimBy, IsHeldAt, IsPresentClaim, IsToRow, IsToRows, IsTopicKey, IsTupleHeld, claim, claim_by, claim_fields, claim_if, dest_of, ends_at, is_row_of, key_at}
+pub use Rattle.mesh_settled.specs.Gaps.Topics.{IsByAllRows, IsByRows, IsClaimBy, IsHeldAt, IsPresentClaim, IsToRow, IsToRows, IsTopicKey, IsTupleHeld, claim, claim_by, claim_fields, claim_if, dest_of, held_claim, ends_at, is_row_of, key_at}
 pub use Rattle.mesh_settled.specs.Gaps.TwoHops.{IsGivenBy, IsGivenIn, IsHeldBy, IsJoinedPeer, IsKeyBy, IsKeyIn, IsKeyNear, IsKeyOf, IsKeyOfAt, IsKeyOfSome, IsTwoHopAt, IsTwoHopKey, if_far, key_by}
 pub use Rattle.mesh_settled.specs.Kinds.{IsFirstAt, IsFirstFound, IsFirstOf, IsTopologyKey, reported}
 pub use Rattle.mesh_settled.specs.declared.gaps.found.Found.{Found}

@@ -1,5 +1,5 @@
 -- Topology tuples on both sides, of any kind.
-use Rattle.mesh_settled.proofs.Common.{arith, common_steps, ◌≡◌, ℕ, ◌<◌, ◌⊎◌, inl, inr, refl, sym, ◌∙◌, ap, subst, length, List, Option, Some, None, slice_get, map, ◌↔◌, option_map, Addr4, NetAddr, RadioGraph, RouterSettings, Scenario, Base, Has, find, host, router_eq, address_eq, network_eq, Joined, At, IsPeer, IsStray, Sound, State, IsOriginator, has_found, router_equiv, same_router, address_equiv, same_address, network_equiv, same_network, sound_scenario, originator_address, Found, GapKey, Claim, TopologyKind, Routers, Addresses, Networks, Field, AllSame, IsSide, IsLeastGap, lesser, Look, look, IsHeldTuple, IsPresentTuple, IsExcepted, AreSame, IsNetwork, IsPeerOriginator, IsValueOf, claim, claim_fields, key_at, ends_at, IsClaimBy, IsPresentClaim, IsHeldAt, IsTupleHeld, IsToRows, IsByRows, IsByAllRows, IsTopicKey, same_some, place_of as place_in, one_originator}
+use Rattle.mesh_settled.proofs.Common.{arith, common_steps, ◌≡◌, ℕ, ◌<◌, ◌⊎◌, inl, inr, refl, sym, ◌∙◌, ap, subst, length, List, Option, Some, None, slice_get, map, ◌↔◌, option_map, Addr4, NetAddr, RadioGraph, RouterSettings, Scenario, Base, Has, host, Joined, At, IsPeer, IsStray, Sound, State, IsOriginator, has_found, router_equiv, same_router, address_equiv, same_address, network_equiv, same_network, sound_scenario, originator_address, Found, GapKey, Claim, TopologyKind, Routers, Addresses, Networks, Field, AllSame, IsSide, IsLeastGap, lesser, Look, look, IsHeldTuple, IsPresentTuple, IsExcepted, AreSame, IsNetwork, IsPeerOriginator, IsValueOf, claim, claim_fields, key_at, ends_at, IsClaimBy, IsPresentClaim, held_claim, IsHeldAt, IsTupleHeld, IsToRows, IsByRows, IsByAllRows, IsTopicKey, same_some, place_of as place_in, one_originator}
 use Rattle.mesh_atoms.specs.declared.tuples.RouterKey.{RouterKey}
 use Rattle.mesh_atoms.specs.declared.tuples.AddressKey.{AddressKey}
 use Rattle.mesh_atoms.specs.declared.tuples.NetworkKey.{NetworkKey}
@@ -13,14 +13,16 @@ use Rattle.mesh_settled.proofs.GapsLemmas.Sides.{all_self, held_in}
 -- What is held
 
 module _ (l : Look) (sound : Sound l.p) (from : Addr4) (net : NetAddr) where
-  pub held_router : IsSide (IsHeldTuple l (key_at Routers from net)) (option_map claim_fields (option_map (λ e. claim e.0.ansn (router_says e.0)) (find router_eq l.p.bases.topology.routers (record { from = from; to = net.addr }))))
-  held_router = let key : RouterKey = record { from = from; to = net.addr } in held_in (λ t. claim t.ansn (router_says t)) claim_fields (Has l.p.bases.topology.routers key) _ (λ t. has_found router_equiv same_router l.p.bases.topology.routers key t sound.topology.routers.distinct)
-
-  pub held_address : IsSide (IsHeldTuple l (key_at Addresses from net)) (option_map claim_fields (option_map (λ e. claim e.0.ansn (address_says e.0)) (find address_eq l.p.bases.topology.addresses (record { from = from; addr = net.addr }))))
-  held_address = let key : AddressKey = record { from = from; addr = net.addr } in held_in (λ t. claim t.ansn (address_says t)) claim_fields (Has l.p.bases.topology.addresses key) _ (λ t. has_found address_equiv same_address l.p.bases.topology.addresses key t sound.topology.addresses.distinct)
-
-  pub held_network : IsSide (IsHeldTuple l (key_at Networks from net)) (option_map claim_fields (option_map (λ e. claim e.0.ansn (network_says e.0)) (find network_eq l.p.bases.topology.networks (record { from = from; net = net }))))
-  held_network = let key : NetworkKey = record { from = from; net = net } in held_in (λ t. claim t.ansn (network_says t)) claim_fields (Has l.p.bases.topology.networks key) _ (λ t. has_found network_equiv same_network l.p.bases.topology.networks key t sound.topology.networks.distinct)
+  pub held_side : (topic : TopologyKind) → IsSide (IsHeldTuple l (key_at topic from net)) (option_map claim_fields (held_claim l.p topic from net))
+  held_side Routers =
+      let key : RouterKey = record { from = from; to = net.addr } in
+      held_in (λ t. claim t.ansn (router_says t)) claim_fields (Has l.p.bases.topology.routers key) _ (λ t. has_found router_equiv same_router l.p.bases.topology.routers key t sound.topology.routers.distinct)
+  held_side Addresses =
+      let key : AddressKey = record { from = from; addr = net.addr } in
+      held_in (λ t. claim t.ansn (address_says t)) claim_fields (Has l.p.bases.topology.addresses key) _ (λ t. has_found address_equiv same_address l.p.bases.topology.addresses key t sound.topology.addresses.distinct)
+  held_side Networks =
+      let key : NetworkKey = record { from = from; net = net } in
+      held_in (λ t. claim t.ansn (network_says t)) claim_fields (Has l.p.bases.topology.networks key) _ (λ t. has_found network_equiv same_network l.p.bases.topology.networks key t sound.topology.networks.distinct)
 
 -- What is given
 

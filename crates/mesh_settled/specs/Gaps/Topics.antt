@@ -7,7 +7,7 @@ use Rattle.mesh_atoms.specs.declared.tc.TcRow.{TcRow}
 use Rattle.mesh_atoms.specs.declared.tuples.AddressTuple.{AddressTuple}
 use Rattle.mesh_atoms.specs.declared.tuples.NetworkTuple.{NetworkTuple}
 use Rattle.mesh_atoms.specs.declared.tuples.RouterTuple.{RouterTuple}
-use Rattle.mesh_atoms.specs.Base.{host, net_eq}
+use Rattle.mesh_atoms.specs.Base.{host, net_eq, find, router_eq, address_eq, network_eq}
 use Rattle.mesh_atoms.specs.Settled.{At, IsPeer, IsRouterBy, IsAddressBy, IsNetworkBy}
 use Rattle.mesh_atoms.specs.State.{State, IsOriginator}
 use Rattle.mesh_atoms.specs.declared.gap.GapKey.{GapKey}
@@ -50,6 +50,15 @@ IsClaimBy q Networks from net t = (u : NetworkTuple) × IsNetworkBy q (record { 
 abbrev pub IsPresentClaim : Look → TopologyKind → Addr4 → NetAddr → List Field → Type 0
 IsPresentClaim l topic from net gs =
     (w : ℕ) × (q : State) × (t : Claim) × IsPeer l.s l.states l.x w q × IsClaimBy q topic from net t × (gs ≡ claim_fields t)
+
+-- what the router's own tuple says
+abbrev pub held_claim : State → TopologyKind → Addr4 → NetAddr → Option Claim
+held_claim p Routers from net =
+    option_map (λ e. claim e.0.ansn (router_says e.0)) (find router_eq p.bases.topology.routers (record { from = from; to = net.addr }))
+held_claim p Addresses from net =
+    option_map (λ e. claim e.0.ansn (address_says e.0)) (find address_eq p.bases.topology.addresses (record { from = from; addr = net.addr }))
+held_claim p Networks from net =
+    option_map (λ e. claim e.0.ansn (network_says e.0)) (find network_eq p.bases.topology.networks (record { from = from; net = net }))
 
 -- Rows
 

@@ -1,5 +1,5 @@
 //! Where two tuples of a key differ.
-ghost use Rattle.std.specs.Prelude.{◌≡◌, ◌+◌, List, ◌∷◌, Contains, Some};
+ghost use Rattle.std.specs.Prelude.{◌≡◌, ◌+◌, List, ◌∷◌, Contains, Some, option_map};
 ghost use Rattle.mesh_atoms.specs.declared.addr.Addr4.{Addr4};
 ghost use Rattle.mesh_settled.specs.Gaps.Fields.{Field, Addresses, Number, flag_field, known_cost};
 ghost use Rattle.mesh_settled.specs.Gaps.Found.{IsFieldTest, IsTestFrom, IsLeastMissing, lower, least_of, compared};
@@ -150,6 +150,26 @@ pub fn first_of(field: u8, apart: Option<Apart>, rest: Option<Difference>) -> Op
             present: apart.present,
         }),
         None => rest,
+    }
+}
+
+/// A tuple that is of one type on both sides: as the router holds it, and as it is given at present.
+pub trait ComparedTuple: Copy {
+    ghost fields: { Self → List Field };
+
+    /// Where the two tuples differ.
+    fn difference_between(held: Self, given: Self) -> Option<Difference>
+        ensures { IsTestFrom 0 (fields held) (fields given) result };
+}
+
+/// Where the two tuples differ, if there are two.
+pub fn difference_of<T: ComparedTuple>(held: Option<T>, given: Option<T>) -> Option<Difference>
+    ensures { (fs gs : List Field) → option_map T.fields held ≡ Some fs → option_map T.fields given ≡ Some gs →
+        IsTestFrom 0 fs gs result }
+{
+    match (held, given) {
+        (Some(held), Some(given)) => T::difference_between(held, given),
+        _ => None,
     }
 }
 

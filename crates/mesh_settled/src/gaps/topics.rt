@@ -1,19 +1,19 @@
 //! Gaps among the topology tuples of a router, of any kind (RFC 7181, section 10).
-ghost use Rattle.std.specs.Prelude.{◌≡◌, List, Some, length, option_map, nat_eq, ◌&&◌};
+ghost use Rattle.std.specs.Prelude.{◌≡◌, Some, length, option_map, nat_eq, ◌&&◌};
 ghost use Rattle.mesh_atoms.specs.declared.addr.Addr4.{Addr4};
 ghost use Rattle.mesh_atoms.specs.Words.{IsValue};
 ghost use Rattle.mesh_atoms.specs.Sound.{Sound};
 ghost use Rattle.mesh_atoms.specs.State.{IsOriginator};
 ghost use Rattle.mesh_machine.specs.expire.Table.{entry_of, value_of};
-ghost use Rattle.mesh_settled.specs.Gaps.Fields.{Field};
-ghost use Rattle.mesh_settled.specs.Gaps.Found.{IsSide, IsTestFrom, IsLeastGap};
-ghost use Rattle.mesh_settled.specs.Gaps.Gaps.{IsHeldTuple};
+ghost use Rattle.mesh_settled.specs.Gaps.Found.{IsSide, IsLeastGap};
 ghost use Rattle.mesh_settled.specs.Gaps.Joints.{IsOfSome};
 ghost use Rattle.mesh_settled.specs.Gaps.Peers.{IsOrigin, IsValueOf};
 ghost use Rattle.mesh_settled.specs.Gaps.Site.{states, seen, IsSite};
-ghost use Rattle.mesh_settled.specs.Gaps.Topics.{claim, claim_fields, key_at, ends_at, is_row_of, claim_if, held_count, IsPresentClaim, IsClaimBy, IsHeldAt, IsTupleHeld, IsToRows, IsByRows, IsByAllRows, IsTopicKey};
+ghost use Rattle.mesh_settled.specs.Gaps.Topics.{claim, claim_fields, key_at, ends_at, is_row_of, claim_if, held_claim, held_count, IsPresentClaim, IsClaimBy, IsHeldAt, IsTupleHeld, IsToRows, IsByRows, IsByAllRows, IsTopicKey};
 
-use crate::gaps::compare::{Difference, compared, first_of, known_cost, numbers};
+use crate::gaps::compare::{
+    ComparedTuple, Difference, compared, difference_of, first_of, known_cost, numbers,
+};
 use crate::gaps::found::{Found, found_at, lesser};
 use crate::gaps::joints::router_at;
 use crate::gaps::peers::{Origin, next_origin, origin_of};
@@ -23,7 +23,7 @@ use mesh_atoms::{
     RouterTuple, TcRow,
 };
 use mesh_machine::RouterView;
-use mesh_topo::TopologyTuple;
+use mesh_topo::{KeyedTuple, TopologyTuple};
 
 /// A kind of topology tuples.
 #[derive(Clone, Copy)]
@@ -31,6 +31,14 @@ pub enum TopologyKind {
     Routers,
     Addresses,
     Networks,
+}
+
+/// A topology tuple that is sought on both sides: its kind, its originator and its destination.
+#[derive(Clone, Copy)]
+pub struct SoughtTuple {
+    pub topic: TopologyKind,
+    pub origin: Origin,
+    pub net: NetAddr,
 }
 
 /// What a topology tuple says; of a network also its distance.
@@ -109,19 +117,14 @@ fn claim_of<R: RouterView>(other: &R, topic: TopologyKind, net: NetAddr) -> Opti
 }
 
 // What the TC of a router says of it that is joined with router x, and has that originator.
-fn given_claim<R: RouterView>(
-    site: &RouterAt<'_, R>,
-    topic: TopologyKind,
-    origin: &Origin,
-    net: NetAddr,
-) -> Option<Claim>
+fn given_claim<R: RouterView>(site: &RouterAt<'_, R>, at: SoughtTuple) -> Option<Claim>
     requires site { IsSite R.state site.now }
-    requires origin { IsOrigin site.now.scenario.now (states R.state site.now) site.now.x origin.now }
-    ensures { IsSide (IsPresentClaim (seen R.state site.entry.now) topic origin.now.addr net) (option_map claim_fields result) }
+    requires origin { IsOrigin site.now.scenario.now (states R.state site.now) site.now.x at.origin }
+    ensures { IsSide (IsPresentClaim (seen R.state site.entry.now) at.topic at.origin.addr at.net) (option_map claim_fields result) }
 {
-    match origin.sender {
+    match at.origin.sender {
         Some(w) => match router_at(site.routers, w) {
-            Some(other) => claim_of(other, topic, net),
+            Some(other) => claim_of(other, at.topic, at.net),
             None => None,
         },
         None => None,
@@ -130,12 +133,12 @@ fn given_claim<R: RouterView>(
 
 // What the tuple says that a look-up finds.
 fn found_claim<K: Ord, T: TopologyTuple<K>>(found: Option<(&T, u64)>) -> Option<Claim>
-    ensures { result ≡ option_map (λ e. claim (T.number e.0) (T.says e.0)) (value_of found.entry) }
+    ensures { result ≡ option_map (λ e. claim (T.kind.number e.0) (T.kind.says e.0)) (value_of found.entry) }
 {
     let (tuple, _) = found?;
-    let (distance, metric) = tuple.distance_and_metric();
+    let (ansn, (distance, metric)) = tuple.number_and_rest();
     Some(Claim {
-        ansn: tuple.number_of(),
+        ansn,
         metric,
         distance,
     })
@@ -143,30 +146,23 @@ fn found_claim<K: Ord, T: TopologyTuple<K>>(found: Option<(&T, u64)>) -> Option<
 
 // What the router's own tuple says.
 fn held_claim<R: RouterView>(
-    site: &RouterAt<'_, R>,
+    router: &R,
     topic: TopologyKind,
     from: Addr4,
     net: NetAddr,
 ) -> Option<Claim>
-    requires { IsSite R.state site.now }
-    ensures { IsSide (IsHeldTuple (seen R.state site.entry.now) (key_at topic from net)) (option_map claim_fields result) }
+    ensures { result ≡ held_claim (R.state router.now) topic from net }
 {
     match topic {
-        TopologyKind::Routers => {
-            let key = RouterKey { from, to: net.addr };
-            found_claim::<RouterKey, RouterTuple>(site.router.router_of(&key))
-        }
-        TopologyKind::Addresses => {
-            let key = AddressKey {
-                from,
-                addr: net.addr,
-            };
-            found_claim::<AddressKey, AddressTuple>(site.router.address_of(&key))
-        }
-        TopologyKind::Networks => {
-            let key = NetworkKey { from, net };
-            found_claim::<NetworkKey, NetworkTuple>(site.router.network_of(&key))
-        }
+        TopologyKind::Routers => found_claim::<RouterKey, RouterTuple>(router.router_of(
+            &RouterTuple::key_to(from, net),
+        )),
+        TopologyKind::Addresses => found_claim::<AddressKey, AddressTuple>(router.address_of(
+            &AddressTuple::key_to(from, net),
+        )),
+        TopologyKind::Networks => found_claim::<NetworkKey, NetworkTuple>(router.network_of(
+            &NetworkTuple::key_to(from, net),
+        )),
     }
 }
 
@@ -176,51 +172,36 @@ fn number(distance: Option<u8>) -> Option<u64>
     Some(u64::from(distance?))
 }
 
-// Where the two tuples differ.
-fn difference_between(held: Claim, given: Claim) -> Option<Difference>
-    ensures { IsTestFrom 0 (claim_fields held) (claim_fields given) result }
-{
-    let ansn = numbers(Some(u64::from(held.ansn)), Some(u64::from(given.ansn)));
-    let metric = numbers(
-        known_cost(Some(held.metric)),
-        known_cost(Some(given.metric)),
-    );
-    let distance = numbers(number(held.distance), number(given.distance));
-    let last = first_of(2, distance, None);
-    let second = first_of(1, metric, last);
-    first_of(0, ansn, second)
-}
+impl ComparedTuple for Claim {
+    ghost fields = { claim_fields };
 
-// Where the two tuples differ, if there are two.
-fn difference_of(held: Option<Claim>, given: Option<Claim>) -> Option<Difference>
-    ensures { (fs gs : List Field) → option_map claim_fields held ≡ Some fs → option_map claim_fields given ≡ Some gs →
-        IsTestFrom 0 fs gs result }
-{
-    match (held, given) {
-        (Some(held), Some(given)) => difference_between(held, given),
-        _ => None,
+    fn difference_between(held: Claim, given: Claim) -> Option<Difference> {
+        let ansn = numbers(Some(u64::from(held.ansn)), Some(u64::from(given.ansn)));
+        let metric = numbers(
+            known_cost(Some(held.metric)),
+            known_cost(Some(given.metric)),
+        );
+        let distance = numbers(number(held.distance), number(given.distance));
+        let last = first_of(2, distance, None);
+        let second = first_of(1, metric, last);
+        first_of(0, ansn, second)
     }
 }
 
 // The gap at the tuple of that kind, originator and destination.
-fn gap_at<R: RouterView>(
-    site: &RouterAt<'_, R>,
-    topic: TopologyKind,
-    origin: &Origin,
-    net: NetAddr,
-) -> Option<Found>
+fn gap_at<R: RouterView>(site: &RouterAt<'_, R>, at: SoughtTuple) -> Option<Found>
     requires site { IsSite R.state site.now }
-    requires origin { IsOrigin site.now.scenario.now (states R.state site.now) site.now.x origin.now }
-    ensures { IsLeastGap (seen R.state site.entry.now) (λ k. k ≡ key_at topic origin.now.addr net) result }
+    requires origin { IsOrigin site.now.scenario.now (states R.state site.now) site.now.x at.origin }
+    ensures { IsLeastGap (seen R.state site.entry.now) (λ k. k ≡ key_at at.topic at.origin.addr at.net) result }
 {
-    if origin.stray {
+    if at.origin.stray {
         return None;
     }
-    let held = held_claim(site, topic, origin.addr, net);
-    let given = given_claim(site, topic, origin, net);
+    let held = held_claim(site.router, at.topic, at.origin.addr, at.net);
+    let given = given_claim(site, at);
     let difference = difference_of(held, given);
     let values = compared(held.is_some(), given.is_some(), difference);
-    found_at(key_at(topic, origin.addr, net), values)
+    found_at(key_at(at.topic, at.origin.addr, at.net), values)
 }
 
 // How many tuples of that kind the router holds.
@@ -236,10 +217,10 @@ fn held_count<R: RouterView>(router: &R, topic: TopologyKind) -> usize
 
 // The originator and the destination of the tuple at a place.
 fn found_ends<K: Ord, T: TopologyTuple<K>>(found: Option<(&K, &T, u64)>) -> Option<(Addr4, NetAddr)>
-    ensures { result ≡ option_map (λ e. (T.origin e.0, T.dest e.0)) (entry_of found.entry) }
+    ensures { result ≡ option_map (λ e. (T.kind.origin e.0, T.kind.dest e.0)) (entry_of found.entry) }
 {
     let (key, _, _) = found?;
-    Some((T::origin_of(key), T::dest_of(key)))
+    Some(T::ends_of(key))
 }
 
 // The originator and the destination of the tuple at that place that the router holds.
@@ -273,7 +254,7 @@ fn held_at<R: RouterView>(
         Some((from, net)) => {
             let origin = next_origin(site, *last, from);
             *last = origin;
-            gap_at(site, topic, &origin, net)
+            gap_at(site, SoughtTuple { topic, origin, net })
         }
         None => None,
     }
@@ -305,7 +286,12 @@ fn rows_gap<R: RouterView>(
 {
     let mut best = None;
     for n in 0..rows.len() {
-        best = lesser(best, gap_at(site, topic, origin, rows[n].dest));
+        let at = SoughtTuple {
+            topic,
+            origin: *origin,
+            net: rows[n].dest,
+        };
+        best = lesser(best, gap_at(site, at));
     }
     best
 }

@@ -1,13 +1,15 @@
 //! Gaps among the 2-hop tuples of a router (RFC 6130, section 7.2).
-ghost use Rattle.std.specs.Prelude.{◌≡◌, List, Some, None, Contains, option_map};
+ghost use Rattle.std.specs.Prelude.{◌≡◌, None, Contains, option_map};
 ghost use Rattle.mesh_machine.specs.expire.Table.{value_of};
-ghost use Rattle.mesh_settled.specs.Gaps.Fields.{Field, two_hop_fields};
-ghost use Rattle.mesh_settled.specs.Gaps.Found.{IsTestFrom, IsLeastGap};
+ghost use Rattle.mesh_settled.specs.Gaps.Fields.{two_hop_fields};
+ghost use Rattle.mesh_settled.specs.Gaps.Found.{IsLeastGap};
 ghost use Rattle.mesh_settled.specs.Gaps.Links.{IsLinkKey};
 ghost use Rattle.mesh_settled.specs.Gaps.Site.{states, seen, IsSite, IsEndAt};
 ghost use Rattle.mesh_settled.specs.Gaps.TwoHops.{if_far, key_by, IsTwoHopAt, IsHeldBy, IsGivenIn, IsKeyNear, IsGivenBy, IsKeyBy, IsKeyOf, IsKeyOfSome, IsTwoHopKey};
 
-use crate::gaps::compare::{Difference, compared, first_of, known_cost, numbers};
+use crate::gaps::compare::{
+    ComparedTuple, Difference, compared, difference_of, first_of, known_cost, numbers,
+};
 use crate::gaps::found::{Found, found_at, lesser};
 use crate::gaps::joints::{is_address_of, least_address, router_at};
 use crate::gaps::site::{JoinedPeer, RouterAt};
@@ -38,23 +40,13 @@ fn found_tuple(found: Option<(&TwoHop, u64)>) -> Option<TwoHop>
     }
 }
 
-// Where the two tuples differ.
-fn difference_between(held: TwoHop, given: TwoHop) -> Option<Difference>
-    ensures { IsTestFrom 0 (two_hop_fields held) (two_hop_fields given) result }
-{
-    let metric_in = numbers(known_cost(held.metric_in), known_cost(given.metric_in));
-    let metric_out = numbers(known_cost(held.metric_out), known_cost(given.metric_out));
-    first_of(0, metric_in, first_of(1, metric_out, None))
-}
+impl ComparedTuple for TwoHop {
+    ghost fields = { two_hop_fields };
 
-// Where the two tuples differ, if there are two.
-fn difference_of(held: Option<TwoHop>, given: Option<TwoHop>) -> Option<Difference>
-    ensures { (fs gs : List Field) → option_map two_hop_fields held ≡ Some fs → option_map two_hop_fields given ≡ Some gs →
-        IsTestFrom 0 fs gs result }
-{
-    match (held, given) {
-        (Some(held), Some(given)) => difference_between(held, given),
-        _ => None,
+    fn difference_between(held: TwoHop, given: TwoHop) -> Option<Difference> {
+        let metric_in = numbers(known_cost(held.metric_in), known_cost(given.metric_in));
+        let metric_out = numbers(known_cost(held.metric_out), known_cost(given.metric_out));
+        first_of(0, metric_in, first_of(1, metric_out, None))
     }
 }
 

@@ -12,13 +12,13 @@ returns-in-Some-router_at g c =
     let all = states g.R.RouterView.state site in
     let q = g.R.RouterView.state c.in-Some-router_at.other.now in
     let p = g.R.RouterView.state site.router.now in
-    let sender = value_some (IsPeerOriginator site.scenario.now all site.x c.args.origin.now.addr) c.args.origin.now.sender c.in-Some.w c.in-Some.is c.requires.origin.sender in
-    let origin = its_origin site.scenario.now site.graph.now all site.moment site.x c.requires.site.network p c.args.topic c.args.origin.now.addr c.args.net c.in-Some.w q (router_found g.R.RouterView.state c.router_at.ensures c.in-Some-router_at.is) sender in
-    given_side site.scenario.now site.graph.now all site.moment site.x c.requires.site.network p c.args.topic c.args.origin.now.addr c.args.net c.in-Some.w q (router_found g.R.RouterView.state c.router_at.ensures c.in-Some-router_at.is) sender c.claim_of.result (c.claim_of.ensures c.args.origin.now.addr origin)
+    let sender = value_some (IsPeerOriginator site.scenario.now all site.x c.args.at.origin.addr) c.args.at.origin.sender c.in-Some.w c.in-Some.is c.requires.origin.sender in
+    let origin = its_origin site.scenario.now site.graph.now all site.moment site.x c.requires.site.network p c.args.at.topic c.args.at.origin.addr c.args.at.net c.in-Some.w q (router_found g.R.RouterView.state c.router_at.ensures c.in-Some-router_at.is) sender in
+    given_side site.scenario.now site.graph.now all site.moment site.x c.requires.site.network p c.args.at.topic c.args.at.origin.addr c.args.at.net c.in-Some.w q (router_found g.R.RouterView.state c.router_at.ensures c.in-Some-router_at.is) sender c.claim_of.result (c.claim_of.ensures c.args.at.origin.addr origin)
 
 pub returns-in-None : goal.returns-in-None
 returns-in-None g c =
     let site = c.args.site.now in
     let all = states g.R.RouterView.state site in
-    none_given site.scenario.now site.graph.now all site.moment site.x c.requires.site.network (g.R.RouterView.state site.router.now) c.args.topic c.args.origin.now.addr c.args.net
-    (value_none (IsPeerOriginator site.scenario.now all site.x c.args.origin.now.addr) c.args.origin.now.sender c.in-None.is c.requires.origin.sender)
+    none_given site.scenario.now site.graph.now all site.moment site.x c.requires.site.network (g.R.RouterView.state site.router.now) c.args.at.topic c.args.at.origin.addr c.args.at.net
+    (value_none (IsPeerOriginator site.scenario.now all site.x c.args.at.origin.addr) c.args.at.origin.sender c.in-None.is c.requires.origin.sender)

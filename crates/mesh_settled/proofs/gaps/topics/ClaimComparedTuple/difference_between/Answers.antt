@@ -1,5 +1,5 @@
 use Rattle.mesh_settled.proofs.Common.{Some, [], ◌∷◌, Number, cost_field}
-use Rattle.mesh_settled.proofs.gaps.topics.difference_between.Goals as goal
+use Rattle.mesh_settled.proofs.gaps.topics.ClaimComparedTuple.difference_between.Goals as goal
 
 pub returns : goal.returns
 returns c =

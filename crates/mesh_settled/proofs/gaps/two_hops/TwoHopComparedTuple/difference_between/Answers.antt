@@ -1,5 +1,5 @@
 use Rattle.mesh_settled.proofs.Common.{[], ◌∷◌, Number, known_cost}
-use Rattle.mesh_settled.proofs.gaps.two_hops.difference_between.Goals as goal
+use Rattle.mesh_settled.proofs.gaps.two_hops.TwoHopComparedTuple.difference_between.Goals as goal
 
 pub returns : goal.returns
 returns c =
