@@ -1,4 +1,4 @@
-use Rattle.mesh_report.proofs.Common.{common_steps, ◌-◌, arith, grows_none, grows_on}
+use Rattle.mesh_report.proofs.Common.{common_steps, arith, grows_none, grows_on}
 use Rattle.mesh_report.proofs.Digits.{digits_none, digits_more}
 use Rattle.mesh_report.proofs.pieces.put_hex.Goals as goal
 

@@ -1,4 +1,4 @@
-use Rattle.mesh_report.proofs.Common.{common_steps, ℕ, ◌+◌, List, ◌++◌, sym, ap, ◌∙◌, arith, decimal_digit}
+use Rattle.mesh_report.proofs.Common.{common_steps, ℕ, List, ◌++◌, sym, ap, ◌∙◌, arith, decimal_digit}
 use Rattle.mesh_report.proofs.Decimals.{two_digits, one_digit}
 use Rattle.mesh_report.proofs.piece.TextBuffer.put_small.Goals as goal
 
