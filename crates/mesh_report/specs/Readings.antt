@@ -12,20 +12,20 @@ use Rattle.mesh_wire.specs.Tc.{TcIs}
 use Rattle.mesh_wire.specs.declared.fault.WireFault.{WireFault}
 use Rattle.mesh_wire.specs.declared.fault.WireFault.TheVariants.{Broken, Memory}
 use Rattle.mesh_wire.specs.declared.hello.HelloHeader.{HelloHeader}
-use Rattle.mesh_wire.specs.declared.rows.Summary.{Summary}
+use Rattle.mesh_wire.specs.declared.rows.MessageSummary.{MessageSummary}
 use Rattle.mesh_wire.specs.declared.tc.TcHeader.{TcHeader}
 use Rattle.mesh_wire.specs.TcRules.{BreaksTc}
 use Rattle.mesh_report.specs.Pieces.{numbered, numbered_or_none, addressed_by_number, chosen, named}
 
 -- a HELLO by its summary; times are in ticks
-unfoldable pub hello_summary_line : Summary HelloHeader → List ℕ
+unfoldable pub hello_summary_line : MessageSummary HelloHeader → List ℕ
 hello_summary_line hello =
     (numbered (codes " reading hello validity ") hello.header.validity ++ numbered_or_none (codes " interval ") hello.header.interval)
     ++ (numbered (codes " flooding ") hello.header.willing.flooding ++ numbered (codes " routing ") hello.header.willing.routing)
     ++ (numbered (codes " rows ") hello.row_count ++ codes "\n")
 
 -- a TC by its summary; times are in ticks
-unfoldable pub tc_summary_line : Summary TcHeader → List ℕ
+unfoldable pub tc_summary_line : MessageSummary TcHeader → List ℕ
 tc_summary_line tc =
     (addressed_by_number (codes " reading tc originator ") tc.header.originator ++ numbered (codes " sequence ") tc.header.sequence
     ++ numbered (codes " ansn ") tc.header.content.ansn ++ chosen (codes " complete ") tc.header.content.complete)

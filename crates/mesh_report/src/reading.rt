@@ -10,7 +10,7 @@ use crate::piece::TextBuffer;
 use crate::pieces::{put_choice, put_number_or_none, put_numbered, put_router};
 use mesh_atoms::Willing;
 use mesh_packet::Message;
-use mesh_wire::{HelloHeader, Summary, TcHeader, WireFault, hello_summary, tc_summary};
+use mesh_wire::{HelloHeader, MessageSummary, TcHeader, WireFault, hello_summary, tc_summary};
 use std::alloc::{AllocError, Global};
 
 // Puts the times that a message tells.
@@ -61,7 +61,7 @@ trait MessageReading: Sized + Drop {
         ensures len { length line.new ≤ 320 };
 }
 
-impl MessageReading for Summary<HelloHeader> {
+impl MessageReading for MessageSummary<HelloHeader> {
     ghost use Rattle.mesh_report.specs.Readings.{hello_summary_line};
 
     ghost line_of = { hello_summary_line };
@@ -92,7 +92,7 @@ fn put_content(line: &mut TextBuffer, tc: &TcHeader)
     put_choice(line, *b" complete ", tc.content.complete);
 }
 
-impl MessageReading for Summary<TcHeader> {
+impl MessageReading for MessageSummary<TcHeader> {
     ghost use Rattle.mesh_report.specs.Readings.{tc_summary_line};
 
     ghost line_of = { tc_summary_line };

@@ -78,7 +78,7 @@ pub use Rattle.mesh_wire.specs.declared.octets.OctetKind.TheVariants.{Gateway, L
 pub use Rattle.mesh_wire.specs.declared.octets.Octets.{Octets}
 pub use Rattle.mesh_wire.specs.declared.parts.MetricParts.{MetricParts}
 pub use Rattle.mesh_wire.specs.declared.parts.RowParts.{RowParts}
-pub use Rattle.mesh_wire.specs.declared.rows.Summary.{Summary}
+pub use Rattle.mesh_wire.specs.declared.rows.MessageSummary.{MessageSummary}
 pub use Rattle.mesh_wire.specs.declared.singles.Single.{Single}
 pub use Rattle.mesh_wire.specs.declared.singles.Single.TheVariants.{Absent, Conflict, Value}
 pub use Rattle.mesh_wire.specs.declared.tc.TcHeader.{TcHeader}

@@ -1,5 +1,5 @@
 -- What the reading of a message answers, of either type.
-use Rattle.mesh_wire.proofs.Common.{arith, common_steps, ◌≡◌, ℕ, subst, Contains, Option, None, Result, Ok, Err, List, length, map, sym, ap, ◌∙◌, refl, length-map, IfOk, IfErr, err_from_is_err_and, NetAddr, MessageFields, WireFault, AddressParts, IfBroken, GivesValue, RefusesAt, ReadsOrRefuses, Sums, of_blocks, BreakNone, BreaksFirst, HasKept, HasBroken, FirstBroken, Keeps, Summary}
+use Rattle.mesh_wire.proofs.Common.{arith, common_steps, ◌≡◌, ℕ, subst, Contains, Option, None, Result, Ok, Err, List, length, map, sym, ap, ◌∙◌, refl, length-map, IfOk, IfErr, err_from_is_err_and, NetAddr, MessageFields, WireFault, AddressParts, IfBroken, GivesValue, RefusesAt, ReadsOrRefuses, Sums, of_blocks, BreakNone, BreaksFirst, HasKept, HasBroken, FirstBroken, Keeps, MessageSummary}
 use Rattle.std.specs.Result.{IsErrAnd}
 use Rattle.mesh_wire.specs.declared.fault.WireFault.TheVariants as faults
 use Rattle.mesh_wire.proofs.InOrder.{NoneBelow, Outcome, of_rows, rule_broken, none_broken}
@@ -33,7 +33,7 @@ one_sum summary_of Is one s t (x, is_x, e) (y, is_y, f) = e ∙ ap summary_of (o
 -- ---- messages of one type
 
 module _ {X H Row : Type 0} (m : MessageFields) (rule : AddressParts → Option ℕ) (Breaks : ℕ → Option NetAddr → Type 0) (HeaderIs : H → Type 0) (Is : X → Type 0)
-    (row_of : AddressParts → Row) (IsRows : List Row → Type 0) (summary_of : X → Summary H) where
+    (row_of : AddressParts → Row) (IsRows : List Row → Type 0) (summary_of : X → MessageSummary H) where
   pub record Laws : Type 0 where
     -- the first rule that addresses break is the first of the message
     pub found : (header : H) → HeaderIs header → (number : ℕ) (addr : Option NetAddr) → HasBroken rule (of_blocks m.blocks) number addr → FirstBroken Breaks number addr
@@ -89,13 +89,13 @@ module _ {X H Row : Type 0} (m : MessageFields) (rule : AddressParts → Option 
       pub read_answered : (x : X) → Is x → Keeps Breaks → ReadsOrRefuses Is Breaks (Ok x)
       read_answered x is keeps = answered Is Breaks (Ok x) laws.one is keeps tt
 
-      sums : (s : Summary H) → header ≡ Ok s.header → HasKept rule (of_blocks m.blocks) s.row_count → Sums summary_of Is s × Keeps Breaks
+      sums : (s : MessageSummary H) → header ≡ Ok s.header → HasKept rule (of_blocks m.blocks) s.row_count → Sums summary_of Is s × Keeps Breaks
       sums s is (told, clean, count) =
           let (says, keeps, rows) = all_said s.header is told clean (map row_of told) refl in
           let (x, of_x, e) = laws.value s.header says (map row_of told) rows in
-          ((x, of_x, ap (λ (n : ℕ). let t : Summary H = record { header = s.header; row_count = n } in t) (count ∙ sym (length-map told row_of)) ∙ sym e), keeps)
+          ((x, of_x, ap (λ (n : ℕ). let t : MessageSummary H = record { header = s.header; row_count = n } in t) (count ∙ sym (length-map told row_of)) ∙ sym e), keeps)
 
-      pub summary_answered : (r : Result (Summary H) WireFault) → IfOk r (λ s. header ≡ Ok s.header) → IfOk r (λ s. HasKept rule (of_blocks m.blocks) s.row_count) → IfErr r (IfBroken (BreaksFirst header rule (of_blocks m.blocks))) →
+      pub summary_answered : (r : Result (MessageSummary H) WireFault) → IfOk r (λ s. header ≡ Ok s.header) → IfOk r (λ s. HasKept rule (of_blocks m.blocks) s.row_count) → IfErr r (IfBroken (BreaksFirst header rule (of_blocks m.blocks))) →
           ReadsOrRefuses (Sums summary_of Is) Breaks r
       summary_answered (Ok s) is counted broken =
           let (sum, keeps) = sums s is counted in

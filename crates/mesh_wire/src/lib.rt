@@ -28,7 +28,7 @@ pub use laws::{
     written_for_each_distance,
 };
 pub use octets::is_status_type;
-pub use rows::Summary;
+pub use rows::MessageSummary;
 pub use summary::{hello_summary, tc_summary};
 pub use tc::{TcContent, TcHeader, tc_of};
 pub use times::only_value;

@@ -22,7 +22,7 @@ pub(crate) enum TypedKind {
 
 /// What a message says before its rows, and how many rows it has.
 #[derive(Clone, Copy)]
-pub struct Summary<H: Copy> {
+pub struct MessageSummary<H: Copy> {
     pub header: H,
     pub row_count: usize,
 }
@@ -124,13 +124,13 @@ pub(crate) fn summary_of<H: Copy>(
     message: &Message,
     header: Result<H, u8>,
     kind: TypedKind,
-) -> Result<Summary<H>, WireFault>
+) -> Result<MessageSummary<H>, WireFault>
     ensures header { IfOk result (λ summary. header ≡ Ok summary.header) }
     ensures kept { IfOk result (λ summary. HasKept (rule_of kind) (of_blocks (map fields_of_block message.now.blocks)) summary.row_count) }
     ensures broken { IfErr result (IfBroken (BreaksFirst header (rule_of kind) (of_blocks (map fields_of_block message.now.blocks)))) }
 {
     let (header, told) = kept_of(alloc, message, header, kind)?;
-    Ok(Summary {
+    Ok(MessageSummary {
         header,
         row_count: told.len(),
     })

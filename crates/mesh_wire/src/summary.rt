@@ -9,14 +9,17 @@ ghost use Rattle.mesh_wire.specs.TcRules.{BreaksTc};
 
 use crate::fault::WireFault;
 use crate::hello::{self, HelloHeader};
-use crate::rows::{Summary, TypedKind, summary_of};
+use crate::rows::{MessageSummary, TypedKind, summary_of};
 use crate::tc::{self, TcHeader};
 use mesh_packet::Message;
 use std::alloc::Global;
 
 /// Reads a message as a HELLO, as `hello_of` does, but makes no rows: the answer is the summary of the HELLO that `hello_of` reads, or the
 /// same fault.
-pub fn hello_summary(alloc: Global, message: &Message) -> Result<Summary<HelloHeader>, WireFault>
+pub fn hello_summary(
+    alloc: Global,
+    message: &Message,
+) -> Result<MessageSummary<HelloHeader>, WireFault>
     ensures reads { ReadsOrRefuses (Sums hello_summary_of (HelloIs (fields_of_message message.now))) (BreaksHello (fields_of_message message.now)) result }
 {
     summary_of(alloc, message, hello::header_of(message), TypedKind::Hello)
@@ -24,7 +27,7 @@ pub fn hello_summary(alloc: Global, message: &Message) -> Result<Summary<HelloHe
 
 /// Reads a message as a TC, as `tc_of` does, but makes no rows: the answer is the summary of the TC that `tc_of` reads, or the same
 /// fault.
-pub fn tc_summary(alloc: Global, message: &Message) -> Result<Summary<TcHeader>, WireFault>
+pub fn tc_summary(alloc: Global, message: &Message) -> Result<MessageSummary<TcHeader>, WireFault>
     ensures reads { ReadsOrRefuses (Sums tc_summary_of (TcIs (fields_of_message message.now))) (BreaksTc (fields_of_message message.now)) result }
 {
     summary_of(alloc, message, tc::header_of(message), TypedKind::Tc)
