@@ -20,9 +20,9 @@ originator_of (Some address) = (Some (record { 0 = address_in address.octets }),
 pub hello_laws : (m : MessageFields) → Laws m hello_rule (BreaksHello m) (HelloHeaderIs m) (HelloIs m) hello_row (AreRows m (λ (row : HelloRow). row.addr) (IsReadHelloRow m)) hello_summary_of
 hello_laws m = laws_of m hello_rule (BreaksHello m) (HelloHeaderIs m) (HelloIs m) hello_row _ hello_summary_of 26 (hello_decides m) (up_of m) (λ told are none. rows_are m told are (λ t has. sound_of t (none t has)))
     (λ header h rows are. (
-      let o = originator_of m.originator in (
-        record { originator = o.0; validity = header.validity; interval = header.interval; willing = header.willing; rows = rows; ascending = are.ascending },
-        record { originator = o.1; validity = h.validity; interval = h.interval; willing = h.willing; rows = are },
-        refl,
-      )))
+    let o = originator_of m.originator in (
+      record { originator = o.0; validity = header.validity; interval = header.interval; willing = header.willing; rows = rows; ascending = are.ascending },
+      record { originator = o.1; validity = h.validity; interval = h.interval; willing = h.willing; rows = are },
+      refl,
+    )))
     (one_hello m)

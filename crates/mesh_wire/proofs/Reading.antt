@@ -50,8 +50,8 @@ module _ {X H Row : Type 0} (m : MessageFields) (rule : AddressParts → Option 
   laws_of start decides below rows value one = record {
     found = λ header h. rule_broken m Breaks rule start decides (below header h);
     kept = λ header h told f. (
-      let (keeps, none) = none_broken m Breaks rule start decides (below header h) told f in
-      (keeps, rows told (are_told m told f.collected) none));
+        let (keeps, none) = none_broken m Breaks rule start decides (below header h) told f in
+        (keeps, rows told (are_told m told f.collected) none));
     value = value;
     one = one;
   }
