@@ -62,23 +62,37 @@ pub by_distance : {V : Type 0} (number : V → ℕ) (ansn : ℕ) (tuple_at : ℕ
 by_distance number ansn tuple_at is (Some distance) = is distance
 by_distance number ansn tuple_at is None = refl
 
+-- a kind of tuples that lead to an address, which the rows with a flag give
+abbrev pub host_kind : {K V : Type 0} (origin to : K → Addr4) (key_of : Addr4 → Addr4 → K) → ((from to_addr : Addr4) → origin (key_of from to_addr) ≡ from) → (number : V → ℕ) (says : V → Option ℕ × Metric) (tuple_of : ℕ → Metric → V) →
+    ((ansn : ℕ) (metric : Metric) → number (tuple_of ansn metric) ≡ ansn) → (TcRow → Bool) → TupleKind K V
+host_kind origin to key_of from_is number says tuple_of numbered flag = record {
+  origin = origin;
+  dest = λ key. host (to key);
+  key_to = λ from net. key_of from net.addr;
+  from_is = λ from net. from_is from net.addr;
+  number = number;
+  says = says;
+  by_row = λ ansn metric row. then_some (flag row) (tuple_of ansn metric);
+  numbered = λ ansn metric row. by_flag number ansn (tuple_of ansn metric) (numbered ansn metric) (flag row);
+}
+
 -- the router topology tuples, which ORIGINATOR rows give
 abbrev pub router_kind : TupleKind RouterKey RouterTuple
-router_kind = record {
-  origin = λ key. key.from; dest = λ key. host key.to; key_to = λ from net. record { from = from; to = net.addr }; from_is = λ from net. refl; number = λ t. t.ansn; says = router_says;
-  by_row = λ ansn m row. then_some row.origin (record { ansn = ansn; metric = m }); numbered = λ ansn m row. by_flag (λ (t : RouterTuple). t.ansn) ansn _ refl row.origin;
-}
+router_kind = host_kind (λ key. key.from) (λ key. key.to) (λ from to. record { from = from; to = to }) (λ from to. refl) (λ t. t.ansn) router_says (λ ansn m. record { ansn = ansn; metric = m }) (λ ansn m. refl) (λ row. row.origin)
 
 -- the routable address topology tuples, which ROUTABLE rows give
 abbrev pub address_kind : TupleKind AddressKey AddressTuple
-address_kind = record {
-  origin = λ key. key.from; dest = λ key. host key.addr; key_to = λ from net. record { from = from; addr = net.addr }; from_is = λ from net. refl; number = λ t. t.ansn; says = address_says;
-  by_row = λ ansn m row. then_some row.routable (record { ansn = ansn; metric = m }); numbered = λ ansn m row. by_flag (λ (t : AddressTuple). t.ansn) ansn _ refl row.routable;
-}
+address_kind = host_kind (λ key. key.from) (λ key. key.addr) (λ from to. record { from = from; addr = to }) (λ from to. refl) (λ t. t.ansn) address_says (λ ansn m. record { ansn = ansn; metric = m }) (λ ansn m. refl) (λ row. row.routable)
 
 -- the attached network tuples, which GATEWAY rows give
 abbrev pub network_kind : TupleKind NetworkKey NetworkTuple
 network_kind = record {
-  origin = λ key. key.from; dest = λ key. key.net; key_to = λ from net. record { from = from; net = net }; from_is = λ from net. refl; number = λ t. t.ansn; says = network_says;
-  by_row = λ ansn m row. option_map (λ d. record { ansn = ansn; distance = d; metric = m }) row.gateway; numbered = λ ansn m row. by_distance (λ (t : NetworkTuple). t.ansn) ansn _ (λ d. refl) row.gateway;
+  origin = λ key. key.from;
+  dest = λ key. key.net;
+  key_to = λ from net. record { from = from; net = net };
+  from_is = λ from net. refl;
+  number = λ t. t.ansn;
+  says = network_says;
+  by_row = λ ansn m row. option_map (λ d. record { ansn = ansn; distance = d; metric = m }) row.gateway;
+  numbered = λ ansn m row. by_distance (λ (t : NetworkTuple). t.ansn) ansn _ (λ d. refl) row.gateway;
 }
