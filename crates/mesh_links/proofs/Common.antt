@@ -15,7 +15,7 @@ pub use Rattle.mesh_expire.proofs.Laws.{changed_at-absent, changed_at-agrees, di
 pub use Rattle.mesh_expire.specs.Table.{changed_at}
 pub use Rattle.mesh_links.specs.Ending.{Spares}
 pub use Rattle.mesh_links.specs.Links.{AdmitsLinks, ExpiresLinks, HasRoom, HearsOn, IsLinkUnchanged, Linked, Unlinked}
-pub use Rattle.mesh_links.specs.Owners.{HasLinkOwners, IsFewer, IsKeptOrGone, OwnsAll, OwnsMore, SoundLinks, owner_of}
+pub use Rattle.mesh_links.specs.Owners.{purged, HasLinkOwners, IsFewer, IsKeptOrGone, OwnsAll, OwnsMore, SoundLinks, owner_of}
 pub use Rattle.mesh_links.specs.Rulings.{is_steady, ruled}
 pub use Rattle.std.proofs.Common.{Bool, Contains, Decides, IsSome, IsTrue, List, None, Option, Some, [], ap, arith, cond, drop, false, get_or, inl, inr, is_some, length, map, min, nat_eq, nat_lt, not, option_map, refl, rules, slice_get, subst, sym, take, true, ℕ, ◌++◌, ◌+◌, ◌<◌, ◌^◌, ◌↔◌, ◌∙◌, ◌∷◌, ◌≡◌, ◌≢◌, ◌≤◌, ◌⊎◌}
 pub use Rattle.std.proofs.lemmas.Bool.{and_parts, false≢true}

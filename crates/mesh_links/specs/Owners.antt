@@ -1,5 +1,5 @@
 -- Which link has an address.
-use Rattle.std.specs.Prelude.{◌≡◌, ◌⊎◌, ℕ, List, Contains, Option, Some, None, slice_get}
+use Rattle.std.specs.Prelude.{◌≡◌, ◌⊎◌, ℕ, List, filter, Contains, Option, is_some, Some, None, slice_get}
 use Rattle.std.specs.List.{All}
 use Rattle.std.specs.Map.{lookup}
 use Rattle.mesh_atoms.specs.declared.addr.Addr4.{Addr4}
@@ -11,6 +11,10 @@ use Rattle.mesh_links.specs.Links.{HasRoom}
 -- the key that is noted for an address
 abbrev pub owner_of : List (Addr4 × LinkKey) → Addr4 → Option LinkKey
 owner_of owners a = lookup (addr_eq a) owners
+
+-- what is noted of links that are there
+abbrev pub purged : Base LinkKey Link → List (Addr4 × LinkKey) → List (Addr4 × LinkKey)
+purged links owners = filter (λ (p : Addr4 × LinkKey). is_some (find link_eq links p.1)) owners
 
 -- each address of a link has its key, which is the link's first address
 pub record HasLinkOwners (owners : List (Addr4 × LinkKey)) (links : Base LinkKey Link) : Type 0 where

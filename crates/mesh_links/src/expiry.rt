@@ -1,5 +1,5 @@
 //! What expiry leaves of the links of an interface (RFC 6130, section 13).
-ghost use Rattle.std.specs.Prelude.{◌≡◌, map};
+ghost use Rattle.std.specs.Prelude.{◌≡◌, ◌+◌, length, map};
 ghost use Rattle.mesh_atoms.specs.Base.{HasDistinctKeys, link_eq};
 ghost use Rattle.mesh_atoms.specs.Live.{trimmed};
 ghost use Rattle.mesh_expire.specs.Table.{changed_at};
@@ -37,6 +37,7 @@ fn trim_all<T: Table<LinkKey, Link>>(table: &mut T, now: u64)
 pub fn expire_all<T: Table<LinkKey, Link>>(table: &mut T, now: u64) -> usize
     requires room { HasRoom (T.content table.old) }
     ensures expired { ExpiresLinks now (T.content table.old) (T.content table.new) }
+    ensures count { result + length (T.content table.new) ≡ length (T.content table.old) }
     ensures room { HasRoom (T.content table.new) }
     ensures distinct { HasDistinctKeys link_eq (T.content table.new) }
 {

@@ -1,12 +1,12 @@
 //! The map from addresses to the keys of links. It is tied one way: each address of a link leads to the link's key. An address
 //! of a link that is gone may stand there up to the next purge, and lead to no link, or to one that hasn't the address.
-ghost use Rattle.std.specs.Prelude.{◌≡◌, ℕ, is_some, IsSome, IfSome, IfNone, OnOk, Some};
+ghost use Rattle.std.specs.Prelude.{◌≡◌, ◌<◌, ℕ, is_some, IsSome, IfSome, IfNone, OnOk, Some};
 ghost use Rattle.mesh_atoms.specs.declared.addr.Addr4.{Addr4};
 ghost use Rattle.mesh_atoms.specs.declared.tuples.LinkKey.{LinkKey};
 ghost use Rattle.mesh_atoms.specs.declared.tuples.Link.{Link};
 ghost use Rattle.mesh_atoms.specs.Base.{HasDistinctKeys, find, link_eq};
 ghost use Rattle.mesh_links.specs.Links.{HasLinkWith};
-ghost use Rattle.mesh_links.specs.Owners.{owner_of, HasLinkOwners, OwnsAll, OwnsMore};
+ghost use Rattle.mesh_links.specs.Owners.{owner_of, purged, HasLinkOwners, OwnsAll, OwnsMore};
 
 use indexmap::IndexMap;
 use mesh_atoms::{Addr4, Link, LinkKey, contains};
@@ -61,7 +61,8 @@ fn has_key<T: Table<LinkKey, Link>>(table: &T, key: LinkKey) -> bool
 
 /// Takes out each address whose link is gone. Goes over the whole map. Takes no memory.
 fn purge<T: Table<LinkKey, Link>>(owners: &mut IndexMap<Addr4, LinkKey>, table: &T)
-    ensures { (a : Addr4) (key : LinkKey) → IsSome (find link_eq (T.content table.now) key) → owner_of owners.old.entries a ≡ Some key → owner_of owners.new.entries a ≡ Some key }
+    ensures purged { owners.new.entries ≡ purged (T.content table.now) owners.old.entries }
+    ensures kept { (a : Addr4) (key : LinkKey) → IsSome (find link_eq (T.content table.now) key) → owner_of owners.old.entries a ≡ Some key → owner_of owners.new.entries a ≡ Some key }
 {
     // Its keys are distinct, which the proof needs.
     let _count = owners.len();
@@ -74,7 +75,9 @@ pub fn purge_after<T: Table<LinkKey, Link>>(
     table: &T,
     gone: usize,
 )
-    ensures { (a : Addr4) (key : LinkKey) → IsSome (find link_eq (T.content table.now) key) → owner_of owners.old.entries a ≡ Some key → owner_of owners.new.entries a ≡ Some key }
+    ensures none { gone ≡ 0 → owners.new.entries ≡ owners.old.entries }
+    ensures purged { 0 < gone → owners.new.entries ≡ purged (T.content table.now) owners.old.entries }
+    ensures kept { (a : Addr4) (key : LinkKey) → IsSome (find link_eq (T.content table.now) key) → owner_of owners.old.entries a ≡ Some key → owner_of owners.new.entries a ≡ Some key }
 {
     if gone > 0 {
         purge(owners, table);
