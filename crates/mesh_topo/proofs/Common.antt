@@ -23,11 +23,11 @@ pub use Rattle.mesh_topo.specs.Advertised.Spans.{AreSpans, part_of}
 pub use Rattle.mesh_topo.specs.Sets.{AreFew, AreFresh, sets_of}
 pub use Rattle.mesh_topo.specs.TcSets.Same.{SaysSame}
 pub use Rattle.mesh_topo.specs.TcSets.Sets.{GivenBefore, GivenBy, Put, PutsGiven, PutsRows, Stood, has_other_number, is_outdated}
-pub use Rattle.mesh_topo.specs.TcSets.Tuples.{TupleKind, address_kind, address_says, given, network_kind, network_says, number_or, router_kind, router_says}
+pub use Rattle.mesh_topo.specs.TcSets.Tuples.{TupleKind, address_kind, address_says, given, network_kind, network_says, router_kind, router_says}
 pub use Rattle.mesh_topo.specs.declared.advertised.rows.Offer.{Offer}
 pub use Rattle.mesh_topo.specs.declared.advertised.rows.Selector.{Selector}
 pub use Rattle.mesh_topo.specs.declared.advertised.spans.PartSpan.{PartSpan}
-pub use Rattle.std.proofs.Common.{AllPairs, Bool, Contains, Decides, Err, IfOk, IsTrue, List, None, Ok, OnOk, Option, Result, Some, [], ap, arith, cond, count_by, drop, eq-eqb, eqb, false, flat_map, inl, inr, is_none, is_some, length, length-append, length-drop, length-take, map, min, nat_eq, nat_lt, not, option_and_then, option_map, refl, slice_get, slice_index_or, slice_range, subst, suc, sym, take, true, zero, ℕ, ◌&&◌, ◌*◌, ◌++◌, ◌+◌, ◌-◌, ◌<◌, ◌||◌, ◌↔◌, ◌∙◌, ◌∷◌, ◌≡◌, ◌≤◌, ◌⊎◌}
+pub use Rattle.std.proofs.Common.{IfSome, AllPairs, Bool, Contains, Decides, Err, IfOk, IsTrue, List, None, Ok, OnOk, Option, Result, Some, [], ap, arith, cond, count_by, drop, eq-eqb, eqb, false, flat_map, inl, inr, is_none, is_some, length, length-append, length-drop, length-take, map, min, nat_eq, nat_lt, not, option_and_then, option_map, refl, slice_get, slice_index_or, slice_range, subst, suc, sym, take, true, zero, ℕ, ◌&&◌, ◌*◌, ◌++◌, ◌+◌, ◌-◌, ◌<◌, ◌||◌, ◌↔◌, ◌∙◌, ◌∷◌, ◌≡◌, ◌≤◌, ◌⊎◌}
 pub use Rattle.std.proofs.lemmas.Bool.{and_parts, cases_Bool, cases_lt, lt-ltb, ltb-false, not-true, or_parts}
 pub use Rattle.std.proofs.lemmas.Grind.{common_steps, flat_map-append}
 pub use Rattle.std.proofs.lemmas.List.{append-nil, at_drop_more, length-map, nil_from_length, take-append-drop}

@@ -1,5 +1,5 @@
 -- What a TC does to one set of tuples.
-use Rattle.mesh_topo.proofs.Common.{common_steps, ◌≡◌, ℕ, ◌+◌, ◌<◌, ◌≤◌, ◌⊎◌, inl, inr, Bool, true, false, cond, not, ◌&&◌, List, length, take, Option, Some, None, slice_index_or, refl, sym, ap, subst, ◌∙◌, arith, eq-eqb, option_map, slice_get, nat_eq, is_some, count_by, IsTrue, ◌↔◌, BTreeSet, IsEquivalence, Ordering, cases_Bool, count_by_more_yes, count_by_more_no, slice_get-get_or, slice_get_within, get_or_from_slice_get, Addr4, Metric, Tc, TcRow, Base, find, SetsOnly, addr_eq, if_not_dropped, Becomes, BecomesSet, Given, Left, AreKeys, find_same, SaysSame, TupleKind, given, number_or, GivenBy, GivenBefore, PutsGiven, PutsRows, Put, Stood}
+use Rattle.mesh_topo.proofs.Common.{common_steps, ◌≡◌, ℕ, ◌+◌, ◌<◌, ◌≤◌, ◌⊎◌, inl, inr, Bool, true, false, cond, not, ◌&&◌, List, length, take, Option, Some, None, IfSome, slice_index_or, refl, sym, ap, subst, ◌∙◌, arith, eq-eqb, option_map, slice_get, nat_eq, is_some, count_by, IsTrue, ◌↔◌, BTreeSet, IsEquivalence, Ordering, cases_Bool, count_by_more_yes, count_by_more_no, slice_get-get_or, slice_get_within, get_or_from_slice_get, Addr4, Metric, Tc, TcRow, Base, find, SetsOnly, addr_eq, if_not_dropped, Becomes, BecomesSet, Given, Left, AreKeys, find_same, SaysSame, TupleKind, given, GivenBy, GivenBefore, PutsGiven, PutsRows, Put, Stood}
 use Rattle.std.proofs.lemmas.Option.{option_and_then_some}
 
 -- ---- rows that are put one after the other
@@ -107,7 +107,7 @@ keys_held {eq = eq} laws cmp key entry keys base base' held sets are q = are q �
 -- ---- what a row gives
 
 -- the number of the tuple is the TC's
-numbered_pair : {K V : Type 0} (number : V → ℕ) (ansn : ℕ) (k key : K) (o : Option V) (value : V) → number_or number ansn o ≡ ansn → option_map {U = K × V} (λ tuple. (k, tuple)) o ≡ Some (key, value) → number value ≡ ansn
+numbered_pair : {K V : Type 0} (number : V → ℕ) (ansn : ℕ) (k key : K) (o : Option V) (value : V) → IfSome o (λ tuple. number tuple ≡ ansn) → option_map {U = K × V} (λ tuple. (k, tuple)) o ≡ Some (key, value) → number value ≡ ansn
 numbered_pair number ansn k key o value is gives = grind (arith, common_steps)
 
 pub given_numbered : {K V : Type 0} (kind : TupleKind K V) (from : Addr4) (ansn : ℕ) (row : TcRow) (key : K) (value : V) → given kind from ansn row ≡ Some (key, value) → kind.number value ≡ ansn

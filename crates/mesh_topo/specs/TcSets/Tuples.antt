@@ -1,5 +1,5 @@
 -- The kinds of topology tuples: what their keys and tuples say, and what the rows of a TC give.
-use Rattle.std.specs.Prelude.{◌≡◌, ℕ, Bool, true, false, Option, Some, None, option_map, option_and_then, refl}
+use Rattle.std.specs.Prelude.{◌≡◌, ℕ, Bool, true, false, Option, Some, None, IfSome, option_map, option_and_then, refl}
 use Rattle.std.specs.Bool.{then_some}
 use Rattle.mesh_atoms.specs.Base.{host}
 use Rattle.mesh_atoms.specs.declared.addr.Addr4.{Addr4}
@@ -12,11 +12,6 @@ use Rattle.mesh_atoms.specs.declared.tuples.AddressKey.{AddressKey}
 use Rattle.mesh_atoms.specs.declared.tuples.AddressTuple.{AddressTuple}
 use Rattle.mesh_atoms.specs.declared.tuples.NetworkKey.{NetworkKey}
 use Rattle.mesh_atoms.specs.declared.tuples.NetworkTuple.{NetworkTuple}
-
--- the number of a tuple, or that number where there is none
-abbrev pub number_or : {V : Type 0} → (V → ℕ) → ℕ → Option V → ℕ
-number_or number ansn None = ansn
-number_or number ansn (Some tuple) = number tuple
 
 -- a kind of topology tuples
 pub record TupleKind (K V : Type 0) : Type 0 where
@@ -35,7 +30,7 @@ pub record TupleKind (K V : Type 0) : Type 0 where
   -- the tuple that a row with that metric gives in a TC of that number
   pub by_row : ℕ → Metric → TcRow → Option V
   -- that tuple has the number
-  pub numbered : (ansn : ℕ) (metric : Metric) (row : TcRow) → number_or number ansn (by_row ansn metric row) ≡ ansn
+  pub numbered : (ansn : ℕ) (metric : Metric) (row : TcRow) → IfSome (by_row ansn metric row) (λ tuple. number tuple ≡ ansn)
 
 -- what a row gives in a TC of that originator and number; nothing where it has no metric
 abbrev pub given : {K V : Type 0} → TupleKind K V → Addr4 → ℕ → TcRow → Option (K × V)
@@ -52,15 +47,15 @@ abbrev pub network_says : NetworkTuple → Option ℕ × Metric
 network_says t = (Some t.distance, t.metric)
 
 -- a tuple that a flag gives has its number
-pub by_flag : {V : Type 0} (number : V → ℕ) (ansn : ℕ) (tuple : V) → number tuple ≡ ansn → (flag : Bool) → number_or number ansn (then_some flag tuple) ≡ ansn
+pub by_flag : {V : Type 0} (number : V → ℕ) (ansn : ℕ) (tuple : V) → number tuple ≡ ansn → (flag : Bool) → IfSome (then_some flag tuple) (λ given. number given ≡ ansn)
 by_flag number ansn tuple is true = is
-by_flag number ansn tuple is false = refl
+by_flag number ansn tuple is false = tt
 
 -- a tuple that a distance gives has its number
 pub by_distance : {V : Type 0} (number : V → ℕ) (ansn : ℕ) (tuple_at : ℕ → V) → ((distance : ℕ) → number (tuple_at distance) ≡ ansn) → (distance : Option ℕ) →
-    number_or number ansn (option_map tuple_at distance) ≡ ansn
+    IfSome (option_map tuple_at distance) (λ given. number given ≡ ansn)
 by_distance number ansn tuple_at is (Some distance) = is distance
-by_distance number ansn tuple_at is None = refl
+by_distance number ansn tuple_at is None = tt
 
 -- a kind of tuples that lead to an address, which the rows with a flag give
 abbrev pub host_kind : {K V : Type 0} (origin to : K → Addr4) (key_of : Addr4 → Addr4 → K) → ((from to_addr : Addr4) → origin (key_of from to_addr) ≡ from) → (number : V → ℕ) (says : V → Option ℕ × Metric) (tuple_of : ℕ → Metric → V) →
