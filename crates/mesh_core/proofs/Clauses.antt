@@ -1,6 +1,5 @@
 -- What the clauses of an event say of a core to which all is kept, put together.
 use Rattle.mesh_core.proofs.Common.{arith, common_steps, ◌≡◌, ◌<◌, ◌≤◌, ◌++◌, ℕ, List, Result, Ok, Err, Bool, true, subst, All, IfOk, OnOk, OnErr, Sound, State, Arrival, Heard, Frame, sent_since, Hear, Tick, Step, Heard_frame, Ticked, Hears, TicksAt, due, IsSendable, since_same, step_sound, EventWants, Outdated, IsKeptFor, KeepsWanted, HearsAndKeeps, HearsTo, TicksTo, kept_answer, CoreValue}
-use Rattle.mesh_machine.specs.declared.fate.Heard.TheVariants as heard
 
 -- a core has heard a frame, or met an allocation failure
 pub record HearClauses {E : Type 0} (came : Result Heard E) (fates : Bool) (old : State) (arrival : Arrival) (bytes : List ℕ) (before after : List Frame) (new : State) : Type 0 where

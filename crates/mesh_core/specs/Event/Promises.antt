@@ -1,10 +1,10 @@
 -- What an event promises of a router of which not all may have been wanted.
-use Rattle.std.specs.Prelude.{◌≡◌, ◌<◌, ◌≤◌, ◌++◌, ℕ, List, Bool, All}
+use Rattle.std.specs.Prelude.{◌≡◌, ◌<◌, ◌≤◌, ◌++◌, ℕ, List, length, Bool, IsTrue, All}
 use Rattle.mesh_atoms.specs.State.{State}
 use Rattle.mesh_core.specs.declared.event.outdated.Outdated.{Outdated}
 use Rattle.mesh_core.specs.declared.event.outdated.EventWants.{EventWants}
 use Rattle.mesh_core.specs.Deferred.{IsSoundButForDerived}
-use Rattle.mesh_core.specs.Event.Outdated.{KeepsWanted}
+use Rattle.mesh_core.specs.Event.Outdated.{IsCurrent, KeepsWanted}
 use Rattle.mesh_bases.specs.Held.Taking.{kept_fates}
 use Rattle.mesh_machine.specs.declared.arrival.Arrival.{Arrival}
 use Rattle.mesh_machine.specs.declared.fate.Heard.{Heard}
@@ -13,6 +13,14 @@ use Rattle.mesh_machine.specs.declared.frame.Frame.{Frame}
 use Rattle.mesh_machine.specs.Frames.{sent_since}
 use Rattle.mesh_machine.specs.Machine.{Hears, TicksAt, due}
 use Rattle.mesh_machine.specs.Sendable.{IsSendable}
+
+-- a router with this state, of which so much is outdated, is ready to hear a frame that arrives so: no earlier than its last event, on one of its
+-- interfaces
+pub record IsReadyToHear (outdated : Outdated) (s : State) (arrival : Arrival) : Type 0 where
+  pub later : s.last ≤ arrival.now
+  pub iface : arrival.iface < length s.settings.interfaces
+  pub sound : IsSoundButForDerived s
+  pub current : IsCurrent outdated s
 
 -- a router with the state `old` has heard a frame and answered it; `out`, which had the frames `before`, has the frames `after`; and `new` is
 -- left, of which so much is outdated
@@ -37,6 +45,12 @@ pub record HearsAndKeeps (wants : EventWants) (old : State) (arrival : Arrival) 
   pub answer : Heard
   pub kept_is : kept ≡ kept_answer wants.fates answer
   pub hears : HearsTo wants old arrival bytes answer before after outdated new
+
+-- it is ready for a tick of its clock, at which relays are wanted
+pub record IsReadyToTick (wants : EventWants) (outdated : Outdated) (s : State) : Type 0 where
+  pub relays : IsTrue wants.relays
+  pub sound : IsSoundButForDerived s
+  pub current : IsCurrent outdated s
 
 -- its clock has ticked
 pub record TicksTo (wants : EventWants) (old : State) (now : ℕ) (before after : List Frame) (outdated : Outdated) (new : State) : Type 0 where

@@ -1,9 +1,8 @@
 //! What the clock's tick does to what a router holds (RFC 6130, sections 11 and 13, and RFC 7181, section 16).
-ghost use Rattle.std.specs.Prelude.{◌≡◌, ◌<◌, ◌^◌, ◌++◌, List, OnOk, OnErr, IsTrue};
-ghost use Rattle.mesh_core.specs.Deferred.{IsSoundButForDerived};
+ghost use Rattle.std.specs.Prelude.{◌≡◌, ◌<◌, ◌^◌, ◌++◌, List, OnOk, OnErr};
 ghost use Rattle.mesh_bases.specs.Held.RouterState.{router_state};
-ghost use Rattle.mesh_core.specs.Event.Outdated.{IsCurrent, KeepsWanted};
-ghost use Rattle.mesh_core.specs.Event.Promises.{TicksTo};
+ghost use Rattle.mesh_core.specs.Event.Outdated.{KeepsWanted};
+ghost use Rattle.mesh_core.specs.Event.Promises.{IsReadyToTick, TicksTo};
 ghost use Rattle.mesh_machine.specs.declared.frame.Frame.{Frame};
 ghost use Rattle.mesh_machine.specs.Machine.{TicksAt};
 
@@ -25,9 +24,7 @@ pub(crate) fn tick<B: Bases>(
     out: &mut Outbox,
 ) -> Result<(), AllocError>
     requires now { now < 2 ^ 62 }
-    requires relays { IsTrue wants.relays }
-    requires sound { IsSoundButForDerived (router_state router.old.holding router.old.derived) }
-    requires current { IsCurrent router.old.outdated (router_state router.old.holding router.old.derived) }
+    requires ready { IsReadyToTick wants router.old.outdated (router_state router.old.holding router.old.derived) }
     // What is sent, and the state after it, are the machine's.
     ensures ticks { OnOk result (TicksTo wants (router_state router.old.holding router.old.derived) now out.old out.new
         router.new.outdated (router_state router.new.holding router.new.derived)) }
@@ -47,9 +44,7 @@ fn do_tick<B: Bases>(
     out: &mut Outbox,
 ) -> Result<(), AllocError>
     requires now { now < 2 ^ 62 }
-    requires relays { IsTrue wants.relays }
-    requires sound { IsSoundButForDerived (router_state router.old.holding router.old.derived) }
-    requires current { IsCurrent router.old.outdated (router_state router.old.holding router.old.derived) }
+    requires ready { IsReadyToTick wants router.old.outdated (router_state router.old.holding router.old.derived) }
     ensures { OnOk result ((sent : List Frame) × (out.new ≡ out.old ++ sent)
         × KeepsWanted (TicksAt (router_state router.old.holding router.old.derived) now sent) wants router.new.outdated (router_state router.new.holding router.new.derived)) }
 {

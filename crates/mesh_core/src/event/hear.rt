@@ -1,9 +1,7 @@
 //! What a frame that is heard does to what a router holds (RFC 6130, section 12, and RFC 7181, section 14).
-ghost use Rattle.std.specs.Prelude.{◌≡◌, ◌<◌, ◌≤◌, ◌^◌, ℕ, [], length, IfOk, OnOk, OnErr};
-ghost use Rattle.mesh_core.specs.Deferred.{IsSoundButForDerived};
+ghost use Rattle.std.specs.Prelude.{◌≡◌, ◌<◌, ◌^◌, ℕ, [], IfOk, OnOk, OnErr};
 ghost use Rattle.mesh_bases.specs.Held.RouterState.{router_state};
-ghost use Rattle.mesh_core.specs.Event.Outdated.{IsCurrent};
-ghost use Rattle.mesh_core.specs.Event.Promises.{HearsAndKeeps, HearsTo};
+ghost use Rattle.mesh_core.specs.Event.Promises.{IsReadyToHear, HearsAndKeeps, HearsTo};
 ghost use Rattle.mesh_bases.specs.Reading.Content.{IsContentOf, IsPacketOf};
 ghost use Rattle.mesh_machine.specs.declared.fate.Heard.{Heard as HeardValue};
 ghost use Rattle.mesh_packet.specs.Grammar.{FirstFault};
@@ -30,10 +28,7 @@ pub(crate) fn hear_frame<B: Bases>(
     out: &mut Outbox,
 ) -> Result<Heard, AllocError>
     requires now { arrival.now < 2 ^ 62 }
-    requires later { router.old.derived.last ≤ arrival.now }
-    requires iface { arrival.iface < length router.old.holding.settings.interfaces }
-    requires sound { IsSoundButForDerived (router_state router.old.holding router.old.derived) }
-    requires current { IsCurrent router.old.outdated (router_state router.old.holding router.old.derived) }
+    requires ready { IsReadyToHear router.old.outdated (router_state router.old.holding router.old.derived) arrival }
     // What is answered and sent, and the state after it, are the machine's; the answer has fates where they are wanted.
     ensures hears { IfOk result (λ kept. HearsAndKeeps wants (router_state router.old.holding router.old.derived) arrival bytes.now kept out.old out.new
         router.new.outdated (router_state router.new.holding router.new.derived)) }
@@ -55,10 +50,7 @@ pub(crate) fn hear_into<B: Bases>(
     out: &mut Outbox,
 ) -> Result<(), AllocError>
     requires now { arrival.now < 2 ^ 62 }
-    requires later { router.old.derived.last ≤ arrival.now }
-    requires iface { arrival.iface < length router.old.holding.settings.interfaces }
-    requires sound { IsSoundButForDerived (router_state router.old.holding router.old.derived) }
-    requires current { IsCurrent router.old.outdated (router_state router.old.holding router.old.derived) }
+    requires ready { IsReadyToHear router.old.outdated (router_state router.old.holding router.old.derived) arrival }
     ensures { OnOk result ((answer : HeardValue) × HearsTo wants (router_state router.old.holding router.old.derived) arrival frame.now answer [] out.new
         router.new.outdated (router_state router.new.holding router.new.derived)) }
 {
@@ -78,10 +70,7 @@ fn hear_content<B: Bases>(
     out: &mut Outbox,
 ) -> Result<Heard, AllocError>
     requires now { arrival.now < 2 ^ 62 }
-    requires later { router.old.derived.last ≤ arrival.now }
-    requires iface { arrival.iface < length router.old.holding.settings.interfaces }
-    requires sound { IsSoundButForDerived (router_state router.old.holding router.old.derived) }
-    requires current { IsCurrent router.old.outdated (router_state router.old.holding router.old.derived) }
+    requires ready { IsReadyToHear router.old.outdated (router_state router.old.holding router.old.derived) arrival }
     requires content { IsContentOf bytes.now content.now }
     ensures hears { IfOk result (λ kept. HearsAndKeeps wants (router_state router.old.holding router.old.derived) arrival bytes.now kept out.old out.new
         router.new.outdated (router_state router.new.holding router.new.derived)) }
@@ -106,10 +95,7 @@ fn take_packet<B: Bases>(
     out: &mut Outbox,
 ) -> Result<Heard, AllocError>
     requires now { arrival.now < 2 ^ 62 }
-    requires later { router.old.derived.last ≤ arrival.now }
-    requires iface { arrival.iface < length router.old.holding.settings.interfaces }
-    requires sound { IsSoundButForDerived (router_state router.old.holding router.old.derived) }
-    requires current { IsCurrent router.old.outdated (router_state router.old.holding router.old.derived) }
+    requires ready { IsReadyToHear router.old.outdated (router_state router.old.holding router.old.derived) arrival }
     requires packet { IsPacketOf bytes.now packet.now }
     ensures hears { IfOk result (λ kept. HearsAndKeeps wants (router_state router.old.holding router.old.derived) arrival bytes.now kept out.old out.new
         router.new.outdated (router_state router.new.holding router.new.derived)) }

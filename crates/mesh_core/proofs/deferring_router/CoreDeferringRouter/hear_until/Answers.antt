@@ -7,17 +7,13 @@ use Rattle.mesh_core.proofs.deferring_router.CoreDeferringRouter.hear_until.Goal
 pub hear_into-came-requires-clause-now : goal.hear_into-came-requires-clause-now
 hear_into-came-requires-clause-now g c = c.requires.now
 
-pub hear_into-came-requires-clause-later : goal.hear_into-came-requires-clause-later
-hear_into-came-requires-clause-later g c = subst (λ (v : CoreValue). v.state.last ≤ c.args.arrival.now) (sym c.self.view_is) c.requires.later
-
-pub hear_into-came-requires-clause-iface : goal.hear_into-came-requires-clause-iface
-hear_into-came-requires-clause-iface g c = subst (λ (v : CoreValue). c.args.arrival.iface < length v.state.settings.interfaces) (sym c.self.view_is) c.requires.iface
-
-pub hear_into-came-requires-clause-sound : goal.hear_into-came-requires-clause-sound
-hear_into-came-requires-clause-sound g c = sound_but (router_state c.self.inside.router.holding c.self.inside.router.derived) (c.self.invariant c.if-self.false)
-
-pub hear_into-came-requires-clause-current : goal.hear_into-came-requires-clause-current
-hear_into-came-requires-clause-current g c = current_of c.self.inside.router.outdated (router_state c.self.inside.router.holding c.self.inside.router.derived) (c.self.invariant c.if-self.false)
+pub hear_into-came-requires-clause-ready : goal.hear_into-came-requires-clause-ready
+hear_into-came-requires-clause-ready g c = record {
+  later = subst (λ (v : CoreValue). v.state.last ≤ c.args.arrival.now) (sym c.self.view_is) c.requires.later;
+  iface = subst (λ (v : CoreValue). c.args.arrival.iface < length v.state.settings.interfaces) (sym c.self.view_is) c.requires.iface;
+  sound = sound_but (router_state c.self.inside.router.holding c.self.inside.router.derived) (c.self.invariant c.if-self.false);
+  current = current_of c.self.inside.router.outdated (router_state c.self.inside.router.holding c.self.inside.router.derived) (c.self.invariant c.if-self.false);
+}
 
 pub returns-clause-step : goal.returns-clause-step
 returns-clause-step g c =

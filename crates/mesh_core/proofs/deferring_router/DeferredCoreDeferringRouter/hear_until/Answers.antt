@@ -6,17 +6,13 @@ use Rattle.mesh_core.proofs.deferring_router.DeferredCoreDeferringRouter.hear_un
 pub hear_into-came-requires-clause-now : goal.hear_into-came-requires-clause-now
 hear_into-came-requires-clause-now g c = c.requires.now
 
-pub hear_into-came-requires-clause-later : goal.hear_into-came-requires-clause-later
-hear_into-came-requires-clause-later g c = subst (λ (v : CoreValue). v.state.last ≤ c.args.arrival.now) (sym c.self.view_is) c.requires.later
-
-pub hear_into-came-requires-clause-iface : goal.hear_into-came-requires-clause-iface
-hear_into-came-requires-clause-iface g c = subst (λ (v : CoreValue). c.args.arrival.iface < length v.state.settings.interfaces) (sym c.self.view_is) c.requires.iface
-
-pub hear_into-came-requires-clause-sound : goal.hear_into-came-requires-clause-sound
-hear_into-came-requires-clause-sound g c = (c.self.invariant c.if-self.false).0
-
-pub hear_into-came-requires-clause-current : goal.hear_into-came-requires-clause-current
-hear_into-came-requires-clause-current g c = (c.self.invariant c.if-self.false).1
+pub hear_into-came-requires-clause-ready : goal.hear_into-came-requires-clause-ready
+hear_into-came-requires-clause-ready g c = record {
+  later = subst (λ (v : CoreValue). v.state.last ≤ c.args.arrival.now) (sym c.self.view_is) c.requires.later;
+  iface = subst (λ (v : CoreValue). c.args.arrival.iface < length v.state.settings.interfaces) (sym c.self.view_is) c.requires.iface;
+  sound = (c.self.invariant c.if-self.false).0;
+  current = (c.self.invariant c.if-self.false).1;
+}
 
 pub returns-clause-step : goal.returns-clause-step
 returns-clause-step g c =

@@ -6,14 +6,12 @@ use Rattle.mesh_core.proofs.deferring_router.DeferredCoreDeferringRouter.tick_un
 pub tick-came-requires-clause-now : goal.tick-came-requires-clause-now
 tick-came-requires-clause-now g c = c.requires.now
 
-pub tick-came-requires-clause-relays : goal.tick-came-requires-clause-relays
-tick-came-requires-clause-relays g c = refl
-
-pub tick-came-requires-clause-sound : goal.tick-came-requires-clause-sound
-tick-came-requires-clause-sound g c = (c.self.invariant c.if-self.false).0
-
-pub tick-came-requires-clause-current : goal.tick-came-requires-clause-current
-tick-came-requires-clause-current g c = (c.self.invariant c.if-self.false).1
+pub tick-came-requires-clause-ready : goal.tick-came-requires-clause-ready
+tick-came-requires-clause-ready g c = record {
+  relays = refl;
+  sound = (c.self.invariant c.if-self.false).0;
+  current = (c.self.invariant c.if-self.false).1;
+}
 
 pub returns-clause-step : goal.returns-clause-step
 returns-clause-step g c =

@@ -6,16 +6,16 @@ use Rattle.mesh_bases.proofs.HeldLemmas.Taken.{live_held}
 use Rattle.mesh_core.proofs.event.clock.do_tick.Goals as goal
 
 pub expire-requires-clause-sound : goal.expire-requires-clause-sound
-expire-requires-clause-sound g c = bases_but (router_state c.args.router.now.holding c.args.router.now.derived) c.requires.sound
+expire-requires-clause-sound g c = bases_but (router_state c.args.router.now.holding c.args.router.now.derived) c.requires.ready.sound
 
 pub end_event-requires-clause-near : goal.end_event-requires-clause-near
 end_event-requires-clause-near g c =
-    (live_held c.args.router.now.holding c.expire.new.self c.args.router.now.derived.last c.args.now (bases_but (router_state c.args.router.now.holding c.args.router.now.derived) c.requires.sound)
+    (live_held c.args.router.now.holding c.expire.new.self c.args.router.now.derived.last c.args.now (bases_but (router_state c.args.router.now.holding c.args.router.now.derived) c.requires.ready.sound)
     c.in_ok-quiet.ensures.live c.in_ok-quiet.ensures.settings).neighbourhood
 
 pub end_event-requires-clause-topology : goal.end_event-requires-clause-topology
 end_event-requires-clause-topology g c =
-    (live_held c.args.router.now.holding c.expire.new.self c.args.router.now.derived.last c.args.now (bases_but (router_state c.args.router.now.holding c.args.router.now.derived) c.requires.sound)
+    (live_held c.args.router.now.holding c.expire.new.self c.args.router.now.derived.last c.args.now (bases_but (router_state c.args.router.now.holding c.args.router.now.derived) c.requires.ready.sound)
     c.in_ok-quiet.ensures.live c.in_ok-quiet.ensures.settings).topology
 
 pub send_hellos-requires-clause-now : goal.send_hellos-requires-clause-now
@@ -23,7 +23,7 @@ send_hellos-requires-clause-now g c = rw c.in_ok-end_event.ensures.last c.requir
 
 pub send_hellos-requires-clause-sound : goal.send_hellos-requires-clause-sound
 send_hellos-requires-clause-sound g c = rw (c.in_ok-end_event.ensures.last, c.nhdp.ensures.near, c.nhdp.ensures.settings)
-    (live_held c.args.router.now.holding c.expire.new.self c.args.router.now.derived.last c.args.now (bases_but (router_state c.args.router.now.holding c.args.router.now.derived) c.requires.sound)
+    (live_held c.args.router.now.holding c.expire.new.self c.args.router.now.derived.last c.args.now (bases_but (router_state c.args.router.now.holding c.args.router.now.derived) c.requires.ready.sound)
     c.in_ok-quiet.ensures.live c.in_ok-quiet.ensures.settings).neighbourhood
 
 pub send_tcs-requires-clause-now : goal.send_tcs-requires-clause-now
@@ -33,7 +33,7 @@ pub send_tcs-requires-clause-rows : goal.send_tcs-requires-clause-rows
 send_tcs-requires-clause-rows g c =
     let before : State = router_state c.args.router.now.holding c.args.router.now.derived in
     let s : State = router_state c.expire.new.self c.end_event.new.derived in
-    let begins = before_event c.args.router.now.holding c.expire.new.self c.args.router.now.derived c.args.router.now.outdated c.in_ok-quiet.quiet c.args.now c.requires.sound c.requires.current
+    let begins = before_event c.args.router.now.holding c.expire.new.self c.args.router.now.derived c.args.router.now.outdated c.in_ok-quiet.quiet c.args.now c.requires.ready.sound c.requires.ready.current
     c.in_ok-quiet.ensures.settings c.in_ok-quiet.ensures.near c.in_ok-quiet.ensures.advertised in (
       s,
       subst (λ (rows : List TcRow). AreTcRows s rows) (sym (ap (λ (d : Derived). d.rows) c.send_hellos.ensures.others))
@@ -44,11 +44,11 @@ pub send_tcs-requires-clause-few : goal.send_tcs-requires-clause-few
 send_tcs-requires-clause-few g c =
     let before : State = router_state c.args.router.now.holding c.args.router.now.derived in
     let s : State = router_state c.expire.new.self c.end_event.new.derived in
-    let begins = before_event c.args.router.now.holding c.expire.new.self c.args.router.now.derived c.args.router.now.outdated c.in_ok-quiet.quiet c.args.now c.requires.sound c.requires.current
+    let begins = before_event c.args.router.now.holding c.expire.new.self c.args.router.now.derived c.args.router.now.outdated c.in_ok-quiet.quiet c.args.now c.requires.ready.sound c.requires.ready.current
     c.in_ok-quiet.ensures.settings c.in_ok-quiet.ensures.near c.in_ok-quiet.ensures.advertised in
     let rows = rows_at_end before c.args.now c.args.wants c.end_event.new.outdated s (c.in_ok-end_event.ensures.ends before s begins refl refl (has_own c.expire.new.self c.end_event.new.derived)) in
     let few = tc_rows_few s c.args.now c.end_event.new.derived.rows
-    (live_held c.args.router.now.holding c.expire.new.self c.args.router.now.derived.last c.args.now (bases_but (router_state c.args.router.now.holding c.args.router.now.derived) c.requires.sound)
+    (live_held c.args.router.now.holding c.expire.new.self c.args.router.now.derived.last c.args.now (bases_but (router_state c.args.router.now.holding c.args.router.now.derived) c.requires.ready.sound)
     c.in_ok-quiet.ensures.live c.in_ok-quiet.ensures.settings).neighbourhood rows in
     let same = ap (λ (d : Derived). length d.rows) c.send_hellos.ensures.others in
     omega (arith, few, same)
@@ -58,7 +58,7 @@ returns g c =
     let before : State = router_state c.args.router.now.holding c.args.router.now.derived in
     let s : State = router_state c.expire.new.self c.send_tcs.new.derived in
     let has = derived_after c.expire.new.self c.end_event.new.derived c.send_hellos.new.derived c.send_tcs.new.derived c.send_hellos.ensures.others c.send_tcs.ensures.others in
-    let begins = before_event c.args.router.now.holding c.expire.new.self c.args.router.now.derived c.args.router.now.outdated c.in_ok-quiet.quiet c.args.now c.requires.sound c.requires.current
+    let begins = before_event c.args.router.now.holding c.expire.new.self c.args.router.now.derived c.args.router.now.outdated c.in_ok-quiet.quiet c.args.now c.requires.ready.sound c.requires.ready.current
     c.in_ok-quiet.ensures.settings c.in_ok-quiet.ensures.near c.in_ok-quiet.ensures.advertised in
     let ends = c.in_ok-end_event.ensures.ends before s begins refl refl has in
     let same = ends.rest.same in
@@ -75,7 +75,7 @@ returns g c =
           hellos = hellos;
           sends_hellos = are_hellos before ends.whole (sym c.in_ok-end_event.ensures.next_hello) (ap (λ (w : State). w.settings) same ∙ sym c.nhdp.ensures.settings)
               (ap (λ (w : State). w.bases.neighbourhood) same ∙ sym c.nhdp.ensures.near)
-              (ends.rest.relays c.requires.relays ∙ ap (λ (d : Derived). d.relays) c.send_tcs.ensures.others)
+              (ends.rest.relays c.requires.ready.relays ∙ ap (λ (d : Derived). d.relays) c.send_tcs.ensures.others)
               (ap (λ (w : State). w.last) same ∙ ap (λ (d : Derived). d.last) c.send_tcs.ensures.others)
               (ap (λ (w : State). w.next_hello) same ∙ ap (λ (d : Derived). d.next_hello) c.send_tcs.ensures.others);
           tcs = tcs;

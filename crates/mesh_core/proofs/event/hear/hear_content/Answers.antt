@@ -8,8 +8,8 @@ pub returns-in-Refused-clause-hears : goal.returns-in-Refused-clause-hears
 returns-in-Refused-clause-hears g c = record {
   answer = heard.Refused c.in-Refused.refusal;
   kept_is = refl;
-  hears = refused_to c.args.wants (router_state c.args.router.now.holding c.args.router.now.derived) c.args.arrival c.args.bytes.now c.args.out.now c.args.router.now.outdated c.requires.sound c.requires.later
-      (λ i. omega (arith, c.type_inv.bytes i)) c.requires.current c.in-Refused.refusal (rw c.in-Refused.is at c.requires.content);
+  hears = refused_to c.args.wants (router_state c.args.router.now.holding c.args.router.now.derived) c.args.arrival c.args.bytes.now c.args.out.now c.args.router.now.outdated c.requires.ready.sound c.requires.ready.later
+      (λ i. omega (arith, c.type_inv.bytes i)) c.requires.ready.current c.in-Refused.refusal (rw c.in-Refused.is at c.requires.content);
 }
 
 pub returns-in-Refused-clause-refused : goal.returns-in-Refused-clause-refused

@@ -6,7 +6,7 @@ use Rattle.mesh_core.proofs.EventLemmas.Wholes.{bases_but}
 use Rattle.mesh_core.proofs.event.hear.take_packet.Goals as goal
 
 pub take_frame-requires-clause-sound : goal.take_frame-requires-clause-sound
-take_frame-requires-clause-sound g c = bases_but (router_state c.args.router.now.holding c.args.router.now.derived) c.requires.sound
+take_frame-requires-clause-sound g c = bases_but (router_state c.args.router.now.holding c.args.router.now.derived) c.requires.ready.sound
 
 pub end_event-requires-clause-near : goal.end_event-requires-clause-near
 end_event-requires-clause-near g c = c.in_ok-fates.ensures.sound.neighbourhood
@@ -19,7 +19,7 @@ returns-clause-hears g c =
     let before : State = router_state c.args.router.now.holding c.args.router.now.derived in
     let after : State = router_state c.take_frame.new.self c.end_event.new.derived in
     let (given, sent, fates, out, taken) = c.in_ok-fates.ensures.taken in
-    let begins = before_event c.args.router.now.holding c.take_frame.new.self c.args.router.now.derived c.args.router.now.outdated c.in_ok-fates.quiet c.args.arrival.now c.requires.sound c.requires.current
+    let begins = before_event c.args.router.now.holding c.take_frame.new.self c.args.router.now.derived c.args.router.now.outdated c.in_ok-fates.quiet c.args.arrival.now c.requires.ready.sound c.requires.ready.current
     c.in_ok-fates.ensures.settings c.in_ok-fates.ensures.near c.in_ok-fates.ensures.advertised in
     let ends = c.in_ok-end_event.ensures.ends before after begins refl refl (has_own c.take_frame.new.self c.end_event.new.derived) in
     let leaves : KeepsWanted (HearsPacket before c.args.arrival c.args.bytes.now given sent) c.args.wants c.end_event.new.outdated after =
@@ -46,6 +46,6 @@ returns-clause-hears g c =
     record {
       answer = heard.Taken given;
       kept_is = ap (λ (f : List Fate). heard.Taken f) fates;
-      hears = packet_to c.args.wants before c.args.arrival c.args.bytes.now c.args.out.now c.put_all.new.self c.end_event.new.outdated after c.requires.sound c.requires.later (λ i. omega (arith, c.type_inv.bytes i)) given sent
+      hears = packet_to c.args.wants before c.args.arrival c.args.bytes.now c.args.out.now c.put_all.new.self c.end_event.new.outdated after c.requires.ready.sound c.requires.ready.later (λ i. omega (arith, c.type_inv.bytes i)) given sent
           (c.in_ok-put_all.ensures.ok ∙ (ap (λ (f : List Frame). c.args.out.now ++ f) out ∙ ap (λ (f : List Frame). c.args.out.now ++ (f ++ sent)) c.new-sent.ensures)) leaves;
     }

@@ -7,17 +7,13 @@ use Rattle.mesh_core.proofs.router.Core.hear.Goals as goal
 pub hear_frame-came-requires-clause-now : goal.hear_frame-came-requires-clause-now
 hear_frame-came-requires-clause-now g c = c.requires.now
 
-pub hear_frame-came-requires-clause-later : goal.hear_frame-came-requires-clause-later
-hear_frame-came-requires-clause-later g c = subst (λ (v : CoreValue). v.state.last ≤ c.args.now) (sym c.self.view_is) c.requires.later
-
-pub hear_frame-came-requires-clause-iface : goal.hear_frame-came-requires-clause-iface
-hear_frame-came-requires-clause-iface g c = subst (λ (v : CoreValue). c.args.iface < length v.state.settings.interfaces) (sym c.self.view_is) c.requires.iface
-
-pub hear_frame-came-requires-clause-sound : goal.hear_frame-came-requires-clause-sound
-hear_frame-came-requires-clause-sound g c = sound_but (router_state c.self.inside.router.holding c.self.inside.router.derived) (c.self.invariant c.if-self.false)
-
-pub hear_frame-came-requires-clause-current : goal.hear_frame-came-requires-clause-current
-hear_frame-came-requires-clause-current g c = current_of c.self.inside.router.outdated (router_state c.self.inside.router.holding c.self.inside.router.derived) (c.self.invariant c.if-self.false)
+pub hear_frame-came-requires-clause-ready : goal.hear_frame-came-requires-clause-ready
+hear_frame-came-requires-clause-ready g c = record {
+  later = subst (λ (v : CoreValue). v.state.last ≤ c.args.now) (sym c.self.view_is) c.requires.later;
+  iface = subst (λ (v : CoreValue). c.args.iface < length v.state.settings.interfaces) (sym c.self.view_is) c.requires.iface;
+  sound = sound_but (router_state c.self.inside.router.holding c.self.inside.router.derived) (c.self.invariant c.if-self.false);
+  current = current_of c.self.inside.router.outdated (router_state c.self.inside.router.holding c.self.inside.router.derived) (c.self.invariant c.if-self.false);
+}
 
 pub returns-clause-step : goal.returns-clause-step
 returns-clause-step g c =

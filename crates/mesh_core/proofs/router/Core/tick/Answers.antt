@@ -7,14 +7,12 @@ use Rattle.mesh_core.proofs.router.Core.tick.Goals as goal
 pub tick-came-requires-clause-now : goal.tick-came-requires-clause-now
 tick-came-requires-clause-now g c = c.requires.now
 
-pub tick-came-requires-clause-relays : goal.tick-came-requires-clause-relays
-tick-came-requires-clause-relays g c = refl
-
-pub tick-came-requires-clause-sound : goal.tick-came-requires-clause-sound
-tick-came-requires-clause-sound g c = sound_but (router_state c.self.inside.router.holding c.self.inside.router.derived) (c.self.invariant c.if-self.false)
-
-pub tick-came-requires-clause-current : goal.tick-came-requires-clause-current
-tick-came-requires-clause-current g c = current_of c.self.inside.router.outdated (router_state c.self.inside.router.holding c.self.inside.router.derived) (c.self.invariant c.if-self.false)
+pub tick-came-requires-clause-ready : goal.tick-came-requires-clause-ready
+tick-came-requires-clause-ready g c = record {
+  relays = refl;
+  sound = sound_but (router_state c.self.inside.router.holding c.self.inside.router.derived) (c.self.invariant c.if-self.false);
+  current = current_of c.self.inside.router.outdated (router_state c.self.inside.router.holding c.self.inside.router.derived) (c.self.invariant c.if-self.false);
+}
 
 pub returns-clause-step : goal.returns-clause-step
 returns-clause-step g c = (tick_clauses _ _ _ _ _ _ c.tick-came.result refl refl c.self.view_is (c.self.invariant c.if-self.false) c.tick-came.ensures.wanting c.tick-came.ensures.ticks).step
