@@ -1,5 +1,5 @@
 -- Each message reads as a HELLO or breaks a first rule of one.
-use Rattle.mesh_wire.proofs.Common.{hello_summary_of, ◌≡◌, ℕ, ◌<◌, ◌/◌, ◌%◌, inl, inr, refl, arith, None, cases_eq, MessageFields, HelloIs, HelloHeaderIs, hello_row, BreaksHello, HopLimit, HopCount, WrongWilling, HasOctets, ReadsOrBreaks, hello_rule}
+use Rattle.mesh_wire.proofs.Common.{◌≡◌, ℕ, ◌<◌, ◌/◌, ◌%◌, inl, inr, refl, arith, None, cases_eq, MessageFields, HelloIs, BreaksHello, HopLimit, HopCount, WrongWilling, HasOctets, ReadsOrBreaks}
 use Rattle.mesh_wire.specs.HelloRules.{AddressWidth, NoValidity, WrongInterval}
 use Rattle.mesh_wire.proofs.Deciding.{other_or, validity_or, interval_or, willing_or, willing_octet}
 use Rattle.mesh_wire.proofs.HelloHeading.{first_number, width_kept, limit_kept, count_kept, validity_kept, interval_kept, willing_kept}
@@ -37,7 +37,7 @@ module _ (m : MessageFields) (octets : HasOctets m) where
       let i = of_either (never 24) (omega arith) (interval_or m 1) WrongInterval in
       let w = of_either (never 25) (omega arith) (willing_or m) WrongWilling in
       let octet = willing_octet m octets w.0 w.1 in
-      outcome_of m hello_rule (BreaksHello m) (HelloHeaderIs m) (HelloIs m) hello_row _ hello_summary_of (hello_laws m) (record {
+      outcome_of (hello_laws m) (record {
         validity = v.0;
         interval = i.0;
         willing = record { flooding = w.0 / 16; routing = w.0 % 16; flooding_within = omega (arith, octet); routing_within = omega arith };

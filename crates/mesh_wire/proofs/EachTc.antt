@@ -1,5 +1,5 @@
 -- Each message reads as a TC or breaks a first rule of one.
-use Rattle.mesh_wire.proofs.Common.{tc_summary_of, common_steps, ◌≡◌, ℕ, ◌<◌, ◌⊎◌, inl, inr, refl, arith, Option, Some, None, cases_eq, Addr4, address_in, none_not, RawAddr, MessageFields, OriginatorIs, HasOctets, ReadsOrBreaks, tc_rule, TcIs, TcHeaderIs, tc_row, BreaksTc, AddressWidth, NoOriginator, NoSequence, NoValidity, WrongInterval, Content, distance_of}
+use Rattle.mesh_wire.proofs.Common.{common_steps, ◌≡◌, ℕ, ◌<◌, ◌⊎◌, inl, inr, refl, arith, Option, Some, None, cases_eq, Addr4, address_in, none_not, RawAddr, MessageFields, OriginatorIs, HasOctets, ReadsOrBreaks, TcIs, BreaksTc, AddressWidth, NoOriginator, NoSequence, NoValidity, WrongInterval, Content, distance_of}
 use Rattle.mesh_wire.proofs.Deciding.{validity_or, interval_or, content_or}
 use Rattle.mesh_wire.proofs.InOrder.{NoneBelow, Decided, Outcome, first_or_none, of_either}
 use Rattle.mesh_wire.proofs.TcHeading.{first_number, width_kept, header_kept, validity_kept, interval_kept, content_kept, an_originator}
@@ -46,7 +46,7 @@ module _ (m : MessageFields) (octets : HasOctets m) where
       let v = of_either (never 34) (omega arith) (validity_or m (distance_of m.count)) NoValidity in
       let i = of_either (never 35) (omega arith) (interval_or m (distance_of m.count)) WrongInterval in
       let c = of_either (never 36) (omega arith) (content_or m) (λ none. Content (λ ansn complete. none (ansn, complete))) in
-      outcome_of m tc_rule (BreaksTc m) (TcHeaderIs m) (TcIs m) tc_row _ tc_summary_of (tc_laws m) (record { originator = self_of o.0; sequence = s.0; content = record { ansn = c.0.0; complete = c.0.1 }; validity = v.0; interval = i.0 })
+      outcome_of (tc_laws m) (record { originator = self_of o.0; sequence = s.0; content = record { ansn = c.0.0; complete = c.0.1 }; validity = v.0; interval = i.0 })
       (record { width = width; originator = self_is o.0 m.originator o.1; sequence = s.1; validity = v.1; interval = i.1; content = c.1 })
     where
       never : (k : ℕ) → BreaksTc m k None → k < 37 → ⊥

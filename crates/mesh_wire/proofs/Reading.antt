@@ -56,48 +56,50 @@ module _ {X H Row : Type 0} (m : MessageFields) (rule : AddressParts → Option 
     one = one;
   }
 
-  module _ (laws : Laws) where
-    -- what a message reads as whose header breaks no rule, or the first rule that it breaks
-    pub outcome_of : (header : H) → HeaderIs header → Outcome Is Breaks
-    outcome_of header h = of_rows m rule Is Breaks (laws.found header h) (λ told has.
-        let (keeps, rows) = laws.kept header h told has in
-        let read = laws.value header h (map row_of told) rows in
-        (read.0, read.1, keeps))
+-- what follows from them
+module _ {X H Row : Type 0} {m : MessageFields} {rule : AddressParts → Option ℕ} {Breaks : ℕ → Option NetAddr → Type 0} {HeaderIs : H → Type 0} {Is : X → Type 0}
+    {row_of : AddressParts → Row} {IsRows : List Row → Type 0} {summary_of : X → MessageSummary H} (laws : Laws m rule Breaks HeaderIs Is row_of IsRows summary_of) where
+  -- what a message reads as whose header breaks no rule, or the first rule that it breaks
+  pub outcome_of : (header : H) → HeaderIs header → Outcome Is Breaks
+  outcome_of header h = of_rows m rule Is Breaks (laws.found header h) (λ told has.
+      let (keeps, rows) = laws.kept header h told has in
+      let read = laws.value header h (map row_of told) rows in
+      (read.0, read.1, keeps))
 
-    module _ (header : Result H ℕ) (said : IfOk header HeaderIs) (none : IfErr header (λ number. FirstBroken Breaks number None)) where
-      -- the first rule that is broken, on what stands before the rows or on addresses, is the first of the message
-      refused : (fault : WireFault) → IfBroken (BreaksFirst header rule (of_blocks m.blocks)) fault → IfBroken (FirstBroken Breaks) fault
-      refused fault broken = by header said none fault broken
-        where
-          by : (r : Result H ℕ) → IfOk r HeaderIs → IfErr r (λ number. FirstBroken Breaks number None) → (f : WireFault) → IfBroken (BreaksFirst r rule (of_blocks m.blocks)) f → IfBroken (FirstBroken Breaks) f
-          by r said none (faults.Memory e) broken = tt
-          by (Ok x) said none (faults.Broken number addr) broken = laws.found x said number addr broken
-          by (Err first) said none (faults.Broken number addr) (same, at) = rw (same, at) none
+  module _ (header : Result H ℕ) (said : IfOk header HeaderIs) (none : IfErr header (λ number. FirstBroken Breaks number None)) where
+    -- the first rule that is broken, on what stands before the rows or on addresses, is the first of the message
+    refused : (fault : WireFault) → IfBroken (BreaksFirst header rule (of_blocks m.blocks)) fault → IfBroken (FirstBroken Breaks) fault
+    refused fault broken = by header said none fault broken
+      where
+        by : (r : Result H ℕ) → IfOk r HeaderIs → IfErr r (λ number. FirstBroken Breaks number None) → (f : WireFault) → IfBroken (BreaksFirst r rule (of_blocks m.blocks)) f → IfBroken (FirstBroken Breaks) f
+        by r said none (faults.Memory e) broken = tt
+        by (Ok x) said none (faults.Broken number addr) broken = laws.found x said number addr broken
+        by (Err first) said none (faults.Broken number addr) (same, at) = rw (same, at) none
 
-      -- what a message says whose addresses break no rule
-      pub all_said : (x : H) → header ≡ Ok x → (told : List AddressParts) → BreakNone rule (of_blocks m.blocks) told → (rows : List Row) → rows ≡ map row_of told → HeaderIs x × Keeps Breaks × IsRows rows
-      all_said x is told clean rows made =
-          let says : HeaderIs x = subst (λ (r : Result H ℕ). IfOk r HeaderIs) is said in
-          let (keeps, are) = laws.kept x says told clean in
-          (says, keeps, rw made are)
+    -- what a message says whose addresses break no rule
+    pub all_said : (x : H) → header ≡ Ok x → (told : List AddressParts) → BreakNone rule (of_blocks m.blocks) told → (rows : List Row) → rows ≡ map row_of told → HeaderIs x × Keeps Breaks × IsRows rows
+    all_said x is told clean rows made =
+        let says : HeaderIs x = subst (λ (r : Result H ℕ). IfOk r HeaderIs) is said in
+        let (keeps, are) = laws.kept x says told clean in
+        (says, keeps, rw made are)
 
-      pub handed_on : (fault : WireFault) → IfBroken (BreaksFirst header rule (of_blocks m.blocks)) fault → (r : Result X WireFault) → IsErrAnd r (λ e. e ≡ fault) → ReadsOrRefuses Is Breaks r
-      handed_on fault broken r and =
-          let (e, is, same) = err_from_is_err_and r and in
-          rw (is, same) (answered Is Breaks (Err fault) laws.one tt tt (refused fault broken))
+    pub handed_on : (fault : WireFault) → IfBroken (BreaksFirst header rule (of_blocks m.blocks)) fault → (r : Result X WireFault) → IsErrAnd r (λ e. e ≡ fault) → ReadsOrRefuses Is Breaks r
+    handed_on fault broken r and =
+        let (e, is, same) = err_from_is_err_and r and in
+        rw (is, same) (answered Is Breaks (Err fault) laws.one tt tt (refused fault broken))
 
-      pub read_answered : (x : X) → Is x → Keeps Breaks → ReadsOrRefuses Is Breaks (Ok x)
-      read_answered x is keeps = answered Is Breaks (Ok x) laws.one is keeps tt
+    pub read_answered : (x : X) → Is x → Keeps Breaks → ReadsOrRefuses Is Breaks (Ok x)
+    read_answered x is keeps = answered Is Breaks (Ok x) laws.one is keeps tt
 
-      sums : (s : MessageSummary H) → header ≡ Ok s.header → HasKept rule (of_blocks m.blocks) s.row_count → Sums summary_of Is s × Keeps Breaks
-      sums s is (told, clean, count) =
-          let (says, keeps, rows) = all_said s.header is told clean (map row_of told) refl in
-          let (x, of_x, e) = laws.value s.header says (map row_of told) rows in
-          ((x, of_x, ap (λ (n : ℕ). let t : MessageSummary H = record { header = s.header; row_count = n } in t) (count ∙ sym (length-map told row_of)) ∙ sym e), keeps)
+    sums : (s : MessageSummary H) → header ≡ Ok s.header → HasKept rule (of_blocks m.blocks) s.row_count → Sums summary_of Is s × Keeps Breaks
+    sums s is (told, clean, count) =
+        let (says, keeps, rows) = all_said s.header is told clean (map row_of told) refl in
+        let (x, of_x, e) = laws.value s.header says (map row_of told) rows in
+        ((x, of_x, ap (λ (n : ℕ). let t : MessageSummary H = record { header = s.header; row_count = n } in t) (count ∙ sym (length-map told row_of)) ∙ sym e), keeps)
 
-      pub summary_answered : (r : Result (MessageSummary H) WireFault) → IfOk r (λ s. header ≡ Ok s.header) → IfOk r (λ s. HasKept rule (of_blocks m.blocks) s.row_count) → IfErr r (IfBroken (BreaksFirst header rule (of_blocks m.blocks))) →
-          ReadsOrRefuses (Sums summary_of Is) Breaks r
-      summary_answered (Ok s) is counted broken =
-          let (sum, keeps) = sums s is counted in
-          answered (Sums summary_of Is) Breaks (Ok s) (λ k. one_sum summary_of Is (laws.one k)) sum keeps tt
-      summary_answered (Err fault) is counted broken = answered (Sums summary_of Is) Breaks (Err fault) (λ k. one_sum summary_of Is (laws.one k)) tt tt (refused fault broken)
+    pub summary_answered : (r : Result (MessageSummary H) WireFault) → IfOk r (λ s. header ≡ Ok s.header) → IfOk r (λ s. HasKept rule (of_blocks m.blocks) s.row_count) → IfErr r (IfBroken (BreaksFirst header rule (of_blocks m.blocks))) →
+        ReadsOrRefuses (Sums summary_of Is) Breaks r
+    summary_answered (Ok s) is counted broken =
+        let (sum, keeps) = sums s is counted in
+        answered (Sums summary_of Is) Breaks (Ok s) (λ k. one_sum summary_of Is (laws.one k)) sum keeps tt
+    summary_answered (Err fault) is counted broken = answered (Sums summary_of Is) Breaks (Err fault) (λ k. one_sum summary_of Is (laws.one k)) tt tt (refused fault broken)

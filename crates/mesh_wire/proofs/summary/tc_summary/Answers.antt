@@ -1,7 +1,7 @@
-use Rattle.mesh_wire.proofs.Common.{fields_of_message, tc_rule, tc_row, tc_summary_of, TcHeaderIs, TcIs, BreaksTc}
+use Rattle.mesh_wire.proofs.Common.{fields_of_message}
 use Rattle.mesh_wire.proofs.TcRead.{tc_laws}
 use Rattle.mesh_wire.proofs.Reading.{summary_answered}
 use Rattle.mesh_wire.proofs.summary.tc_summary.Goals as goal
 
 pub returns : goal.returns
-returns c = let m = fields_of_message c.args.message.now in record { reads = summary_answered m tc_rule (BreaksTc m) (TcHeaderIs m) (TcIs m) tc_row _ tc_summary_of (tc_laws m) c.header_of.result c.header_of.ensures.header c.header_of.ensures.broken c.summary_of.result c.summary_of.ensures.header c.summary_of.ensures.kept c.summary_of.ensures.broken }
+returns c = let m = fields_of_message c.args.message.now in record { reads = summary_answered (tc_laws m) c.header_of.result c.header_of.ensures.header c.header_of.ensures.broken c.summary_of.result c.summary_of.ensures.header c.summary_of.ensures.kept c.summary_of.ensures.broken }

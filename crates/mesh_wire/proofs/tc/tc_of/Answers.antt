@@ -1,19 +1,19 @@
-use Rattle.mesh_wire.proofs.Common.{fields_of_message, tc_rule, tc_row, tc_summary_of, TcHeaderIs, TcIs, BreaksTc}
+use Rattle.mesh_wire.proofs.Common.{fields_of_message}
 use Rattle.mesh_wire.proofs.TcRead.{tc_laws}
 use Rattle.mesh_wire.proofs.Reading.{all_said, handed_on, read_answered}
 use Rattle.mesh_wire.proofs.TcWhole.{whole_rows}
 use Rattle.mesh_wire.proofs.tc.tc_of.Goals as goal
 
 pub returns-in_err-header-clause-reads : goal.returns-in_err-header-clause-reads
-returns-in_err-header-clause-reads c = let m = fields_of_message c.args.message.now in handed_on m tc_rule (BreaksTc m) (TcHeaderIs m) (TcIs m) tc_row _ tc_summary_of (tc_laws m) c.header_of.result c.header_of.ensures.header c.header_of.ensures.broken c.in_err-header.field-0.0 c.in_err-header.ensures.broken c.from_residual.result c.from_residual.ensures.1
+returns-in_err-header-clause-reads c = let m = fields_of_message c.args.message.now in handed_on (tc_laws m) c.header_of.result c.header_of.ensures.header c.header_of.ensures.broken c.in_err-header.field-0.0 c.in_err-header.ensures.broken c.from_residual.result c.from_residual.ensures.1
 
 pub returns-clause-reads : goal.returns-clause-reads
 returns-clause-reads c = let m = fields_of_message c.args.message.now in
-    let (h, keeps, rows) = all_said m tc_rule (BreaksTc m) (TcHeaderIs m) (TcIs m) tc_row _ tc_summary_of (tc_laws m) c.header_of.result c.header_of.ensures.header c.header_of.ensures.broken c.in_ok-header.header c.in_ok-header.ensures.header c.in_ok-header.told.items c.in_ok-header.ensures.kept c.in_ok-rows.rows (rw c.as_slice.ensures.value at c.in_ok-rows.ensures) in
-    read_answered m tc_rule (BreaksTc m) (TcHeaderIs m) (TcIs m) tc_row _ tc_summary_of (tc_laws m) c.header_of.result c.header_of.ensures.header c.header_of.ensures.broken _ (record { originator = h.originator; sequence = h.sequence; content = h.content; validity = h.validity; interval = h.interval; rows = rows }) keeps
+    let (h, keeps, rows) = all_said (tc_laws m) c.header_of.result c.header_of.ensures.header c.header_of.ensures.broken c.in_ok-header.header c.in_ok-header.ensures.header c.in_ok-header.told.items c.in_ok-header.ensures.kept c.in_ok-rows.rows (rw c.as_slice.ensures.value at c.in_ok-rows.ensures) in
+    read_answered (tc_laws m) c.header_of.result c.header_of.ensures.header c.header_of.ensures.broken _ (record { originator = h.originator; sequence = h.sequence; content = h.content; validity = h.validity; interval = h.interval; rows = rows }) keeps
 
 pub returns-clause-whole : goal.returns-clause-whole
-returns-clause-whole c = let m = fields_of_message c.args.message.now in let (h, keeps, rows) = all_said m tc_rule (BreaksTc m) (TcHeaderIs m) (TcIs m) tc_row _ tc_summary_of (tc_laws m) c.header_of.result c.header_of.ensures.header c.header_of.ensures.broken c.in_ok-header.header c.in_ok-header.ensures.header c.in_ok-header.told.items c.in_ok-header.ensures.kept c.in_ok-rows.rows (rw c.as_slice.ensures.value at c.in_ok-rows.ensures) in whole_rows m c.in_ok-rows.rows rows keeps
+returns-clause-whole c = let m = fields_of_message c.args.message.now in let (h, keeps, rows) = all_said (tc_laws m) c.header_of.result c.header_of.ensures.header c.header_of.ensures.broken c.in_ok-header.header c.in_ok-header.ensures.header c.in_ok-header.told.items c.in_ok-header.ensures.kept c.in_ok-rows.rows (rw c.as_slice.ensures.value at c.in_ok-rows.ensures) in whole_rows m c.in_ok-rows.rows rows keeps
 
 pub invariant_of-result : goal.invariant_of-result
-invariant_of-result c = let m = fields_of_message c.args.message.now in record { ascending = (all_said m tc_rule (BreaksTc m) (TcHeaderIs m) (TcIs m) tc_row _ tc_summary_of (tc_laws m) c.header_of.result c.header_of.ensures.header c.header_of.ensures.broken c.in_ok-header.header c.in_ok-header.ensures.header c.in_ok-header.told.items c.in_ok-header.ensures.kept c.in_ok-rows.rows (rw c.as_slice.ensures.value at c.in_ok-rows.ensures)).2.ascending }
+invariant_of-result c = let m = fields_of_message c.args.message.now in record { ascending = (all_said (tc_laws m) c.header_of.result c.header_of.ensures.header c.header_of.ensures.broken c.in_ok-header.header c.in_ok-header.ensures.header c.in_ok-header.told.items c.in_ok-header.ensures.kept c.in_ok-rows.rows (rw c.as_slice.ensures.value at c.in_ok-rows.ensures)).2.ascending }
