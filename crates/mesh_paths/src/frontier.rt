@@ -279,7 +279,6 @@ fn offer_arc(
     requires small { first.metric + 2 ^ 32 ≤ 2 ^ 64 }
     ensures { OnOk result (OffersArc reached.old frontier.old.keys first arc reached.new frontier.new.keys) }
 {
-    let _number = arc.from.addr.0;
     let step = SearchStep {
         metric: first.metric + u64::from(arc.metric),
         node: arc.to,
