@@ -4,6 +4,7 @@ ghost use Rattle.mesh_atoms.specs.Base.{HasDistinctKeys, find, SetsOnly, Expires
 ghost use Rattle.std.specs.BTreeSet.{contains, btree_set_len};
 ghost use Rattle.mesh_expire.specs.Keyed.{AreKeys};
 
+use crate::distinct::keys_are_distinct;
 use crate::table::{Key, Table};
 use std::alloc::AllocError;
 use std::collections::BTreeSet;
@@ -24,8 +25,7 @@ pub fn put_keyed<K: Key + Ord + Drop, V: Drop, T: Table<K, V>>(
     ensures err { OnErr result (T.content table.new ≡ T.content table.old) }
     ensures distinct { HasDistinctKeys K.eq (T.content table.new) }
 {
-    // Its keys are distinct, which the proof needs.
-    let _count = table.len();
+    keys_are_distinct(table);
     let is_new = keys.insert(key)?;
     let Err(_) = table.put(key, value, until) else {
         return Ok(());

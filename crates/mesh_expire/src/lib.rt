@@ -2,6 +2,7 @@
 #![tactic(auto)]
 
 mod bases;
+mod distinct;
 mod index;
 mod keyed;
 mod keys;
@@ -11,6 +12,7 @@ mod swept_table;
 mod table;
 
 pub use bases::{Bases, NoBases, PlainBases};
+pub use distinct::{keys_are_distinct, map_keys_are_distinct};
 pub use index::{IndexTable, IndexedBases};
 pub use keyed::{expire_keyed, put_keyed, remove_keyed};
 pub use list_table::ListTable;

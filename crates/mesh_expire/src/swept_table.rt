@@ -4,6 +4,7 @@ ghost use Rattle.mesh_atoms.specs.Base.{HasDistinctKeys, find, SetsOnly, Expires
 ghost use Rattle.mesh_expire.specs.Table.{changed_at, TakesExpired};
 ghost use Rattle.mesh_expire.specs.Swept.{AreNotBefore};
 
+use crate::distinct::map_keys_are_distinct;
 use crate::table::{Key, PlacedTable, Table};
 use indexmap::IndexMap;
 use std::alloc::{AllocError, Global};
@@ -159,8 +160,7 @@ fn take_next<K: Key + Hash + Drop, V: Drop>(
     ensures fresh { IfNone result (IsFresh K.eq now map.old.entries) }
     ensures count { length map.new.entries + (if is_some result then 1 else 0) ≡ length map.old.entries }
 {
-    // Its keys are distinct, which the proof needs.
-    let _count = map.len();
+    map_keys_are_distinct(map);
     if now < soonest {
         return None;
     }

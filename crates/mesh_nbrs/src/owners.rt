@@ -13,7 +13,7 @@ use crate::ends::end_all;
 use crate::summary::Summary;
 use indexmap::{IndexMap, IndexSet};
 use mesh_atoms::{Addr4, Neighbour};
-use mesh_expire::Table;
+use mesh_expire::{Table, map_keys_are_distinct};
 use std::alloc::{AllocError, Global};
 
 /// Takes the addresses out of the map. Takes no memory.
@@ -94,8 +94,7 @@ fn has_neighbour<T: Table<Addr4, Neighbour>>(table: &T, originator: &Addr4) -> b
 fn purge<T: Table<Addr4, Neighbour>>(owners: &mut IndexMap<Addr4, Addr4>, table: &T)
     ensures { LeavesNotesOf (λ o. IsSome (find addr_eq (T.content table.now) o)) owners.old.entries owners.new.entries }
 {
-    // Its keys are distinct, which the proof needs.
-    let _count = owners.len();
+    map_keys_are_distinct(owners);
     owners.retain(|_, originator| has_neighbour(table, originator));
 }
 

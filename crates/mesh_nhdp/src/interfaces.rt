@@ -123,8 +123,7 @@ fn change_on<L: Table<LinkKey, Link>, H: PlacedTable<TwoHopKey, TwoHop>>(
             drop_ended(links, two_hops, hearing.keys, hearing.moment);
         }
     }
-    // Its keys are distinct, which the proof needs.
-    let _table = two_hops.table();
+    two_hops.keys_are_distinct();
     Ok(())
 }
 

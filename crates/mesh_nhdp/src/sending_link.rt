@@ -75,7 +75,6 @@ pub fn update_two_hops<H: PlacedTable<TwoHopKey, TwoHop>>(
 {
     start_two_hops(two_hops, rows.link, stood);
     let repeats = tell_if_symmetric(two_hops, rows, symmetric)?;
-    // Its keys are distinct, which the proof needs.
-    let _table = two_hops.table();
+    two_hops.keys_are_distinct();
     Ok(stood & repeats)
 }

@@ -4,6 +4,7 @@ ghost use Rattle.mesh_atoms.specs.Base.{HasDistinctKeys, find, SetsOnly, Expires
 ghost use Rattle.mesh_expire.specs.Table.{changed_at, TakesExpired};
 ghost use Rattle.mesh_expire.specs.Index.Moments.{AreMomentsOf};
 
+use crate::distinct::map_keys_are_distinct;
 use crate::index::moments::{Bucket, move_moment, put_key, take_expired, take_key};
 use crate::{Key, PlacedTable, Table};
 use indexmap::IndexMap;
@@ -39,6 +40,7 @@ fn add_in<K: Key + Hash + Drop, V: Drop>(
     until: u64,
 ) -> Result<(), AllocError>
     requires tells { AreMomentsOf K.eq moments.old map.old.entries }
+    requires distinct { HasDistinctKeys K.eq map.old.entries }
     requires absent { find K.eq map.old.entries key ≡ None }
     ensures tells { AreMomentsOf K.eq moments.new map.new.entries }
     ensures distinct { HasDistinctKeys K.eq map.new.entries }
@@ -46,8 +48,6 @@ fn add_in<K: Key + Hash + Drop, V: Drop>(
     ensures err { OnErr result (map.new.entries ≡ map.old.entries) }
     ensures count { OnOk result (length map.new.entries ≡ length map.old.entries + 1) }
 {
-    // Its keys are distinct, which the proof needs.
-    let _count = map.len();
     put_key(moments, *map.allocator(), until, key)?;
     let Err(_) = map.insert(key, (value, until)) else {
         return Ok(());
@@ -70,8 +70,6 @@ fn put_in<K: Key + Hash + Drop, V: Drop>(
     ensures err { OnErr result (map.new.entries ≡ map.old.entries) }
     ensures count { OnOk result (length map.new.entries ≡ length map.old.entries + (if is_some (find K.eq map.old.entries key) then 0 else 1)) }
 {
-    // Its keys are distinct, which the proof needs.
-    let _count = map.len();
     let alloc = *map.allocator();
     let Some(entry) = map.get_mut(&key) else {
         return add_in(map, moments, key, value, until);
@@ -95,8 +93,6 @@ fn renew_in<K: Key + Hash + Drop, V: Drop>(
     ensures ok { OnOk result (map.new.entries ≡ changed_at K.eq map.old.entries key.now (λ _. (value, until))) }
     ensures err { OnErr result (map.new.entries ≡ map.old.entries) }
 {
-    // Its keys are distinct, which the proof needs.
-    let _count = map.len();
     let alloc = *map.allocator();
     let Some(entry) = map.get_mut(key) else {
         return Ok(None);
@@ -138,8 +134,7 @@ fn remove_from_place<K: Key + Hash + Drop, V: Drop>(
     ensures removed { (e : K × (V × ℕ)) → slice_get map.old.entries place ≡ Some e → map.new.entries ≡ swap_remove map.old.entries place e }
     ensures unchanged { result ≡ false → map.new.entries ≡ map.old.entries }
 {
-    // Its keys are distinct, which the proof needs.
-    let _count = map.len();
+    map_keys_are_distinct(map);
     let Some((key, entry)) = map.swap_remove_index(place) else {
         return false;
     };
@@ -160,8 +155,7 @@ fn take_next<K: Key + Hash + Drop, V: Drop>(
     ensures fresh { IfNone result (IsFresh K.eq now map.old.entries) }
     ensures count { length map.new.entries + (if is_some result then 1 else 0) ≡ length map.old.entries }
 {
-    // Its keys are distinct, which the proof needs.
-    let _count = map.len();
+    map_keys_are_distinct(map);
     let Some(key) = take_expired(moments, now) else {
         return None;
     };
@@ -202,8 +196,6 @@ fn set_until_in<K: Key + Hash + Drop, V>(
     ensures ok { OnOk result (map.new.entries ≡ changed_at K.eq map.old.entries key.now (λ e. (e.0, until))) }
     ensures err { OnErr result (map.new.entries ≡ map.old.entries) }
 {
-    // Its keys are distinct, which the proof needs.
-    let _count = map.len();
     let alloc = *map.allocator();
     let Some(entry) = map.get_mut(key) else {
         return Ok(false);

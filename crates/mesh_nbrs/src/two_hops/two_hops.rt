@@ -5,7 +5,7 @@ ghost use Rattle.mesh_nbrs.specs.TwoHops.TwoHops.{DropsLink, KnowsLinks};
 
 use crate::two_hops::dropping::drop_all;
 use mesh_atoms::{Addr4, LinkKey, Metric, TwoHop, TwoHopKey};
-use mesh_expire::PlacedTable;
+use mesh_expire::{PlacedTable, keys_are_distinct};
 use std::alloc::{AllocError, Global};
 use std::collections::BTreeSet;
 use std::marker::Model;
@@ -83,6 +83,13 @@ impl<T: PlacedTable<TwoHopKey, TwoHop>> TwoHopSet<T> {
         ensures distinct { HasDistinctKeys two_hop_eq self.now }
     {
         &self.table
+    }
+
+    /// No link and address have two tuples, for proofs: what a set keeps shows in what its calls ensure alone. Does nothing.
+    pub fn keys_are_distinct(&self)
+        ensures { HasDistinctKeys two_hop_eq self.now }
+    {
+        keys_are_distinct(&self.table);
     }
 
     /// Makes the tuple of a link and an address, in place of the one that stood there: the metrics are the neighbour's, from

@@ -10,4 +10,4 @@ returns-clause-kept g c a key there noted =
     let test : LinkKey → Bool = λ k. is_some (find link_eq (g.T.Table.content c.args.table.now) k) in
     let e : c.retain.new.self.entries ≡ purged (g.T.Table.content c.args.table.now) c.args.owners.now.entries =
     filter-RetainsPairs _ _ _ (λ k v b w f call. search rules) _ _ c.retain.ensures.filtered in
-    ap (λ l. owner_of l a) e ∙ lookup-filter-values addr_equiv test a c.args.owners.now.entries c.len-count.ensures.unique ∙ rw (noted, there) refl
+    ap (λ l. owner_of l a) e ∙ lookup-filter-values addr_equiv test a c.args.owners.now.entries c.map_keys_are_distinct.ensures ∙ rw (noted, there) refl

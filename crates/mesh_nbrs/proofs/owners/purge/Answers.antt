@@ -8,4 +8,4 @@ returns g c a o =
     let kept : c.retain.new.self.entries ≡ filter (λ p. test p.1) c.args.owners.now.entries =
     filter-RetainsPairs _ _ _ (λ k v b w f call. search rules) _ _ c.retain.ensures.filtered in
     leaves_tested test (owner_of c.args.owners.now.entries a) (owner_of c.retain.new.self.entries a) o
-    (ap (λ l. owner_of l a) kept ∙ lookup-filter-values addr_equiv test a c.args.owners.now.entries c.len-count.ensures.unique)
+    (ap (λ l. owner_of l a) kept ∙ lookup-filter-values addr_equiv test a c.args.owners.now.entries c.map_keys_are_distinct.ensures)

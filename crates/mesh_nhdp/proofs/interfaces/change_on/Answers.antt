@@ -7,7 +7,7 @@ returns g c = elim c.match-change.branch [
   | in-Expiry+in_ok-before-in-Expiry+in_ok-admit_on-in-Expiry w ↦
       rw (w.in-Expiry.is, w.links-is, w.two_hops-is) (λ face at. record {
         distinct_links = w.expire.ensures.distinct;
-        distinct_two_hops = rw (← w.two_hops-is) c.table-table.ensures.distinct;
+        distinct_two_hops = rw (← w.two_hops-is) c.keys_are_distinct.ensures;
         links = (w.admit_on.new.links, w.in_ok-admit_on-in-Expiry.ensures face at, w.expire.ensures.expired);
         two_hops = (
           w.expire-in-Expiry.new.self,

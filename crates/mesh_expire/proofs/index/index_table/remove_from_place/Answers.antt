@@ -4,7 +4,7 @@ use Rattle.mesh_expire.proofs.index.index_table.remove_from_place.Goals as goal
 
 pub returns-clause-tells : goal.returns-clause-tells
 returns-clause-tells g c =
-    goes_from_place g.K.PartialEq.eq g.met.K.Eq.laws c.args.moments.now c.take_key.new.moments c.args.map.now.entries c.swap_remove_index.new.self.entries c.args.place _ c.requires c.len-count.ensures.unique
+    goes_from_place g.K.PartialEq.eq g.met.K.Eq.laws c.args.moments.now c.take_key.new.moments c.args.map.now.entries c.swap_remove_index.new.self.entries c.args.place _ c.requires c.map_keys_are_distinct.ensures
     (sym c.in-Some.ensures.entry) c.take_key.ensures (λ q. c.in-Some.ensures.updates.0 q)
 
 pub returns-clause-found : goal.returns-clause-found
