@@ -6,7 +6,7 @@ ghost use Rattle.mesh_machine.specs.Machine.{Event, Step, due};
 ghost use Rattle.mesh_machine.specs.Sendable.{IsSendable};
 
 use crate::deferred::DeferredCore;
-use crate::event::{EventWants, hear_into, tick};
+use crate::event::{EventWants, hear_into, tick_into};
 use crate::router::Core;
 use mesh_bases::{Outbox, TypedFrame};
 use mesh_expire::Bases;
@@ -113,7 +113,6 @@ impl<B: Bases> DeferringRouter for DeferredCore<B> {
     }
 
     fn tick_until(&mut self, until: u64, now: u64, out: &mut Outbox) -> Result<(), AllocError> {
-        out.clear();
         if self.spent {
             return Err(AllocError);
         }
@@ -122,7 +121,7 @@ impl<B: Bases> DeferringRouter for DeferredCore<B> {
             routes: until <= now,
             fates: false,
         };
-        let came = tick(&mut self.router, wants, now, out);
+        let came = tick_into(&mut self.router, wants, now, out);
         self.spent = came.is_err();
         came
     }

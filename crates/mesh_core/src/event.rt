@@ -5,6 +5,6 @@ mod ending;
 mod hear;
 mod outdated;
 
-pub(crate) use crate::event::clock::tick;
+pub(crate) use crate::event::clock::{tick, tick_into};
 pub(crate) use crate::event::hear::{hear_frame, hear_into};
 pub(crate) use crate::event::outdated::{EventWants, Outdated};

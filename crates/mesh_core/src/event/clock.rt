@@ -1,5 +1,5 @@
 //! What the clock's tick does to what a router holds (RFC 6130, sections 11 and 13, and RFC 7181, section 16).
-ghost use Rattle.std.specs.Prelude.{◌≡◌, ◌<◌, ◌^◌, ◌++◌, List, OnOk, OnErr};
+ghost use Rattle.std.specs.Prelude.{◌≡◌, ◌<◌, ◌^◌, ◌++◌, List, [], OnOk, OnErr};
 ghost use Rattle.mesh_bases.specs.Held.RouterState.{router_state};
 ghost use Rattle.mesh_core.specs.Event.Outdated.{KeepsWanted};
 ghost use Rattle.mesh_core.specs.Event.Promises.{IsReadyToTick, TicksTo};
@@ -34,6 +34,22 @@ pub(crate) fn tick<B: Bases>(
     let mut sent = Outbox::new(alloc);
     do_tick(router, wants, now, &mut sent)?;
     out.put_all(sent)
+}
+
+/// A router's clock ticks, as `tick` has it. What is sent stands in `out` alone. After an allocation failure some of it may stand there.
+pub(crate) fn tick_into<B: Bases>(
+    router: &mut RouterState<B>,
+    wants: EventWants,
+    now: u64,
+    out: &mut Outbox,
+) -> Result<(), AllocError>
+    requires now { now < 2 ^ 62 }
+    requires ready { IsReadyToTick wants router.old.outdated (router_state router.old.holding router.old.derived) }
+    ensures { OnOk result (TicksTo wants (router_state router.old.holding router.old.derived) now [] out.new
+        router.new.outdated (router_state router.new.holding router.new.derived)) }
+{
+    out.clear();
+    do_tick(router, wants, now, out)
 }
 
 // What is expired goes, what follows from the bases is renewed, and what is due is sent.

@@ -38,10 +38,14 @@ pub(crate) fn hear_frame<B: Bases>(
 {
     let alloc = router.holding.settings().interfaces.allocator();
     let content = read_content(alloc, bytes)?;
-    hear_content(router, wants, arrival, bytes, &content, out)
+    let mut sent = Outbox::new(alloc);
+    let heard = hear_content(router, wants, arrival, bytes, &content, &mut sent)?;
+    out.put_all(sent)?;
+    Ok(heard)
 }
 
-/// A router hears a frame that was read before, as `hear_frame` does. What is sent stands in `out` alone, and nothing is answered.
+/// A router hears a frame that was read before, as `hear_frame` does. What is sent stands in `out` alone, and nothing is answered. After an
+/// allocation failure some of it may stand there.
 pub(crate) fn hear_into<B: Bases>(
     router: &mut RouterState<B>,
     wants: EventWants,
@@ -60,7 +64,7 @@ pub(crate) fn hear_into<B: Bases>(
     Ok(())
 }
 
-// A router hears a frame that reads so, as `hear_frame` does.
+// A router hears a frame that reads so, as `hear_frame` does; but after an allocation failure some frames may stand at the end of `out`.
 fn hear_content<B: Bases>(
     router: &mut RouterState<B>,
     wants: EventWants,
@@ -75,7 +79,6 @@ fn hear_content<B: Bases>(
     ensures hears { IfOk result (λ kept. HearsAndKeeps wants (router_state router.old.holding router.old.derived) arrival bytes.now kept out.old out.new
         router.new.outdated (router_state router.new.holding router.new.derived)) }
     ensures refused { (place reason : ℕ) → FirstFault bytes.now place reason → IfOk result (λ kept. kept ≡ Heard.Refused (record { place = place; reason = reason })) }
-    ensures wanting { OnErr result (out.new ≡ out.old) }
 {
     one_reading();
     match content {
@@ -85,7 +88,7 @@ fn hear_content<B: Bases>(
 }
 
 // What is expired goes, the messages of a packet are taken, and what follows from the bases is renewed where they changed it, but for
-// relays and routes that aren't wanted. What is sent is put at the end of `out` where memory suffices.
+// relays and routes that aren't wanted. What is sent is put at the end of `out`.
 fn take_packet<B: Bases>(
     router: &mut RouterState<B>,
     wants: EventWants,
@@ -97,16 +100,14 @@ fn take_packet<B: Bases>(
     requires now { arrival.now < 2 ^ 62 }
     requires ready { IsReadyToHear router.old.outdated (router_state router.old.holding router.old.derived) arrival }
     requires packet { IsPacketOf bytes.now packet.now }
-    ensures hears { IfOk result (λ kept. HearsAndKeeps wants (router_state router.old.holding router.old.derived) arrival bytes.now kept out.old out.new
+    ensures { IfOk result (λ kept. HearsAndKeeps wants (router_state router.old.holding router.old.derived) arrival bytes.now kept out.old out.new
         router.new.outdated (router_state router.new.holding router.new.derived)) }
-    ensures wanting { OnErr result (out.new ≡ out.old) }
 {
     let alloc = router.holding.settings().interfaces.allocator();
     let last = router.derived.last;
-    let mut sent = Outbox::new(alloc);
     let (fates, quiet) = router
         .holding
-        .take_frame(last, arrival, bytes, packet, wants.fates, &mut sent)?;
+        .take_frame(last, arrival, bytes, packet, wants.fates, out)?;
     end_event(
         alloc,
         &router.holding,
@@ -116,6 +117,5 @@ fn take_packet<B: Bases>(
         &mut router.derived,
         &mut router.outdated,
     )?;
-    out.put_all(sent)?;
     Ok(Heard::Taken(fates))
 }

@@ -16,9 +16,6 @@ pub returns-in-Refused-clause-refused : goal.returns-in-Refused-clause-refused
 returns-in-Refused-clause-refused g c = λ place reason fault.
     refused_at c.args.bytes.now c.in-Refused.refusal place reason c.one_reading.ensures.fault (rw c.in-Refused.is at c.requires.content) fault
 
-pub returns-in-Refused-clause-wanting : goal.returns-in-Refused-clause-wanting
-returns-in-Refused-clause-wanting g c = tt
-
 pub take_packet-requires-clause-packet : goal.take_packet-requires-clause-packet
 take_packet-requires-clause-packet g c = rw c.in-Packet.is at c.requires.content
 

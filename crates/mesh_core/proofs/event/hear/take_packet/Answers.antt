@@ -1,4 +1,4 @@
-use Rattle.mesh_core.proofs.Common.{◌++◌, List, arith, refl, ap, ◌∙◌, State, Fate, Frame, HearsPacket, router_state, KeepsWanted}
+use Rattle.mesh_core.proofs.Common.{List, arith, refl, ap, ◌∙◌, State, Fate, HearsPacket, router_state, KeepsWanted}
 use Rattle.mesh_machine.specs.declared.fate.Heard.TheVariants as heard
 use Rattle.mesh_core.proofs.EventLemmas.Derivations.{before_event, has_own}
 use Rattle.mesh_core.proofs.EventLemmas.Hearing.{packet_to}
@@ -14,8 +14,8 @@ end_event-requires-clause-near g c = c.in_ok-fates.ensures.sound.neighbourhood
 pub end_event-requires-clause-topology : goal.end_event-requires-clause-topology
 end_event-requires-clause-topology g c = c.in_ok-fates.ensures.sound.topology
 
-pub returns-clause-hears : goal.returns-clause-hears
-returns-clause-hears g c =
+pub returns : goal.returns
+returns g c =
     let before : State = router_state c.args.router.now.holding c.args.router.now.derived in
     let after : State = router_state c.take_frame.new.self c.end_event.new.derived in
     let (given, sent, fates, out, taken) = c.in_ok-fates.ensures.taken in
@@ -46,6 +46,6 @@ returns-clause-hears g c =
     record {
       answer = heard.Taken given;
       kept_is = ap (λ (f : List Fate). heard.Taken f) fates;
-      hears = packet_to c.args.wants before c.args.arrival c.args.bytes.now c.args.out.now c.put_all.new.self c.end_event.new.outdated after c.requires.ready.sound c.requires.ready.later (λ i. omega (arith, c.type_inv.bytes i)) given sent
-          (c.in_ok-put_all.ensures.ok ∙ (ap (λ (f : List Frame). c.args.out.now ++ f) out ∙ ap (λ (f : List Frame). c.args.out.now ++ (f ++ sent)) c.new-sent.ensures)) leaves;
+      hears = packet_to c.args.wants before c.args.arrival c.args.bytes.now c.args.out.now c.take_frame.new.out c.end_event.new.outdated after c.requires.ready.sound c.requires.ready.later (λ i. omega (arith, c.type_inv.bytes i)) given sent
+          out leaves;
     }
