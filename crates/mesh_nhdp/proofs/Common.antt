@@ -34,7 +34,7 @@ pub use Rattle.mesh_hello.proofs.Fits.{are_more, distinct_fits}
 pub use Rattle.mesh_hello.proofs.Lookups.{live_from, same_key}
 pub use Rattle.mesh_hello.proofs.SayingLemmas.RowCounts.{counted, few_rows, neighbour_held, rows_ascend}
 pub use Rattle.mesh_hello.specs.Gathers.{Gathers}
-pub use Rattle.mesh_hello.specs.Told.Telling.{told_of}
+pub use Rattle.mesh_hello.specs.Told.Telling.{AreOwnAddresses, told_of}
 pub use Rattle.mesh_links.proofs.Tied.{kept_from}
 pub use Rattle.mesh_links.specs.Links.{AdmitsLinks, AllStay, EndsOutside, ExpiresLinks, HearsOn, IsLinkUnchanged, Unlinked}
 pub use Rattle.mesh_nbrs.proofs.Summaries.{least_same}

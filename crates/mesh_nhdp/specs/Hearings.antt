@@ -10,7 +10,8 @@ use Rattle.mesh_atoms.specs.declared.tuples.TwoHopKey.{TwoHopKey}
 use Rattle.mesh_atoms.specs.declared.tuples.TwoHop.{TwoHop}
 use Rattle.mesh_atoms.specs.declared.settings.RouterSettings.{RouterSettings}
 use Rattle.mesh_atoms.specs.Base.{Base, HasDistinctKeys, base_of, two_hop_eq}
-use Rattle.mesh_atoms.specs.State.{Neighbourhood, HasAddress, link_at}
+use Rattle.mesh_atoms.specs.State.{Neighbourhood, link_at}
+use Rattle.mesh_hello.specs.Told.Telling.{AreOwnAddresses}
 use Rattle.mesh_atoms.specs.HelloTold.{Told}
 use Rattle.mesh_nbrs.specs.TwoHops.TwoHops.{DropsLink}
 use Rattle.mesh_nhdp.specs.Calls.{TellsTwoHops, is_symmetric_in, key_at}
@@ -24,7 +25,7 @@ pub record UpdatesTwoHops (stood symmetric : Bool) (own listed : List Addr4) (he
   pub started : Base TwoHopKey TwoHop
   pub goes_on : stood ≡ true → started ≡ old
   pub anew : stood ≡ false → DropsLink link old started
-  pub rows : symmetric ≡ true → (settings : RouterSettings) (told : Told) → ((a : Addr4) → Contains own a ↔ HasAddress settings a) → told.listed ≡ listed →
+  pub rows : symmetric ≡ true → (settings : RouterSettings) (told : Told) → AreOwnAddresses settings own → told.listed ≡ listed →
       TellsTwoHops settings told hello link until started new
   pub no_rows : symmetric ≡ false → new ≡ started
 

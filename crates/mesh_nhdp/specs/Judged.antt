@@ -1,11 +1,11 @@
 -- What is judged of a HELLO before anything changes, and what is answered.
-use Rattle.std.specs.Prelude.{◌≡◌, ℕ, ◌<◌, ◌^◌, ◌↔◌, length, Contains, Option, Some, None}
+use Rattle.std.specs.Prelude.{◌≡◌, ℕ, ◌<◌, ◌^◌, length, Option, Some, None}
 use Rattle.mesh_atoms.specs.declared.addr.Addr4.{Addr4}
 use Rattle.mesh_atoms.specs.declared.hello.Hello.{Hello}
 use Rattle.mesh_atoms.specs.declared.tuples.Base.{Base}
 use Rattle.mesh_atoms.specs.declared.tuples.Base.TheVariants.{Neighbours, TwoHops}
 use Rattle.mesh_atoms.specs.declared.settings.RouterSettings.{RouterSettings}
-use Rattle.mesh_atoms.specs.State.{Neighbourhood, HasAddress}
+use Rattle.mesh_atoms.specs.State.{Neighbourhood}
 use Rattle.mesh_atoms.specs.HelloTold.{Told, Tells}
 use Rattle.mesh_atoms.specs.TakesHello.{IsFault, IsFullOfAddresses, IsFullOfTwoHops, FitsTwoHops}
 use Rattle.mesh_atoms.specs.TakesHello.{HelloAnswer, Taken, Broken_at, Full_of_addresses, Full_of_two_hops}
@@ -37,10 +37,9 @@ Judges settings i sender hello near (Overfills Neighbours) =
 Judges settings i sender hello near (Overfills TwoHops) =
     (told : Told) × IsFault settings sender hello None × Tells settings i sender hello told × (IsFullOfAddresses near told → ⊥) × IsFullOfTwoHops settings i near told hello
 Judges settings i sender hello near (Overfills base) = ⊥
-Judges settings i sender hello near (Fits own telling) =
+Judges settings i sender hello near (Fits telling) =
     IsFault settings sender hello None × Tells settings i sender hello (told_of telling) × (IsFullOfAddresses near (told_of telling) → ⊥)
     × FitsTwoHops settings i near (told_of telling) hello
-    × ((a : Addr4) → Contains own a ↔ HasAddress settings a)
 
 -- the answer, as the definitions of the taking of a HELLO have it
 abbrev pub IsAnswer : HelloTaken → HelloAnswer → Type 0

@@ -1,14 +1,13 @@
 //! What a HELLO that isn't refused makes of the links, the 2-hop tuples, the neighbours and the lost addresses (RFC 6130, sections 12.3 to
 //! 12.6).
-ghost use Rattle.std.specs.Prelude.{◌≡◌, ◌<◌, ◌^◌, ◌↔◌, Contains, Some, None, length, slice_get, true, IsTrue, IfOk, OnOk};
+ghost use Rattle.std.specs.Prelude.{◌≡◌, ◌<◌, ◌^◌, Some, None, length, slice_get, true, IsTrue, IfOk, OnOk};
 ghost use Rattle.mesh_atoms.specs.AfterHello.{AfterHello};
 ghost use Rattle.mesh_atoms.specs.Base.{base_of};
 ghost use Rattle.mesh_atoms.specs.HelloTold.{Tells};
 ghost use Rattle.mesh_atoms.specs.Quality.{rule_of};
 ghost use Rattle.mesh_atoms.specs.Sound.{SoundNeighbourhood};
-ghost use Rattle.mesh_atoms.specs.State.{HasAddress};
 ghost use Rattle.mesh_atoms.specs.TakesHello.{IsFault};
-ghost use Rattle.mesh_hello.specs.Told.Telling.{told_of};
+ghost use Rattle.mesh_hello.specs.Told.Telling.{AreOwnAddresses, told_of};
 ghost use Rattle.mesh_nhdp.specs.Calls.{is_symmetric_in};
 ghost use Rattle.mesh_nhdp.specs.Hearings.{HearsInterfaces, HearsLinks};
 ghost use Rattle.mesh_links.specs.Links.{CanHearHello};
@@ -120,7 +119,7 @@ pub fn hear<B: Bases>(
     sets: &mut NeighbourhoodSets<B>,
 ) -> Result<bool, AllocError>
     requires ready { CanTakeHello settings.now receipt.now.moment receipt.now.iface receipt.now.hello.now }
-    requires own { (a : Addr4) → Contains receipt.now.own.now a ↔ HasAddress settings.now a }
+    requires own { AreOwnAddresses settings.now receipt.now.own.now }
     requires told { (sender : Addr4) × Tells settings.now receipt.now.iface sender receipt.now.hello.now (told_of receipt.now.telling.now)
         × IsFault settings.now sender receipt.now.hello.now None }
     requires sound { SoundNeighbourhood settings.now receipt.now.moment sets.old }

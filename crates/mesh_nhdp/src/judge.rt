@@ -1,36 +1,34 @@
 //! What is judged of a HELLO before anything changes (RFC 6130, section 12.1).
-ghost use Rattle.std.specs.Prelude.{◌<◌, ◌≤◌, ◌↔◌, Contains, length, IfOk};
+ghost use Rattle.std.specs.Prelude.{◌<◌, ◌≤◌, length, IfOk};
 ghost use Rattle.mesh_atoms.specs.Base.{base_of};
-ghost use Rattle.mesh_atoms.specs.State.{HasAddress};
-ghost use Rattle.mesh_atoms.specs.declared.addr.Addr4.{Addr4};
 ghost use Rattle.mesh_atoms.specs.declared.settings.RouterSettings.{RouterSettings};
-ghost use Rattle.mesh_hello.specs.Told.Telling.{told_of};
+ghost use Rattle.mesh_hello.specs.Told.Telling.{AreOwnAddresses, told_of};
 ghost use Rattle.mesh_nhdp.specs.Judged.{IsFilledBy, Judges};
 
 use crate::full::is_full_of_addresses;
 use crate::sets::NeighbourhoodSets;
 use crate::two_hop_rows::count_symmetric;
-use mesh_atoms::{Addr4, Base, Hello, MOST_TUPLES, RouterSettings, Seq};
+use mesh_atoms::{Addr4, Base, Hello, MOST_TUPLES, RouterSettings};
 use mesh_expire::Bases;
-use mesh_hello::{HelloInfo, own_addresses, receive_fault, tell};
+use mesh_hello::{HelloInfo, receive_fault, tell};
 use std::alloc::AllocError;
 
-/// A HELLO from that sender, which arrives on an interface at a moment in ticks of 1/8192 s.
+/// A HELLO from that sender, which arrives on an interface at a moment in ticks of 1/8192 s; and the receiver's own addresses.
 #[derive(Clone, Copy)]
 pub struct HelloArrival<'a> {
     pub moment: u64,
     pub iface: usize,
     pub sender: Addr4,
     pub hello: &'a Hello,
+    pub own: &'a [Addr4],
 }
 
-/// A HELLO breaks the rule of a number, is too much for a base, or can be taken: then with the router's addresses, and with
-/// what it tells.
+/// A HELLO breaks the rule of a number, is too much for a base, or can be taken: then with what it tells.
 #[derive(Drop)]
 pub enum HelloCheck {
     Breaks(u8),
     Overfills(Base),
-    Fits(Seq<Addr4>, HelloInfo),
+    Fits(HelloInfo),
 }
 
 /// The base that the HELLO would fill, if there is one; `own` has the router's addresses. Counts the addresses that the HELLO tells as
@@ -43,7 +41,7 @@ fn base_to_fill<B: Bases>(
     telling: &HelloInfo,
 ) -> Result<Option<Base>, AllocError>
     requires { length (base_of sets.now.two_hops iface) ≤ MOST_TUPLES }
-    ensures { IfOk result (λ base. (settings : RouterSettings) → ((a : Addr4) → Contains own.now a ↔ HasAddress settings a)
+    ensures { IfOk result (λ base. (settings : RouterSettings) → AreOwnAddresses settings own.now
         → IsFilledBy settings iface hello.now sets.now (told_of telling.now) base) }
 {
     let alloc = telling.listed.allocator();
@@ -70,19 +68,26 @@ pub fn judge<B: Bases>(
     arrival: &HelloArrival,
 ) -> Result<HelloCheck, AllocError>
     requires iface { arrival.now.iface < length settings.now.interfaces }
+    requires own { AreOwnAddresses settings.now arrival.now.own.now }
     requires few { length (base_of sets.now.two_hops arrival.now.iface) ≤ MOST_TUPLES }
     ensures { IfOk result (Judges settings.now arrival.now.iface arrival.now.sender arrival.now.hello.now sets.now) }
 {
     let alloc = settings.interfaces.allocator();
     let hello = arrival.hello;
-    let own = own_addresses(alloc, settings)?;
-    match receive_fault(hello, arrival.sender, &own) {
+    match receive_fault(hello, arrival.sender, arrival.own) {
         Some(number) => return Ok(HelloCheck::Breaks(number)),
         None => {}
     }
-    let telling = tell(alloc, settings, arrival.iface, arrival.sender, hello, &own)?;
-    match base_to_fill(sets, arrival.iface, hello, &own, &telling)? {
+    let telling = tell(
+        alloc,
+        settings,
+        arrival.iface,
+        arrival.sender,
+        hello,
+        arrival.own,
+    )?;
+    match base_to_fill(sets, arrival.iface, hello, arrival.own, &telling)? {
         Some(base) => Ok(HelloCheck::Overfills(base)),
-        None => Ok(HelloCheck::Fits(Seq::from_vec(own), telling)),
+        None => Ok(HelloCheck::Fits(telling)),
     }
 }

@@ -4,15 +4,17 @@ ghost use Rattle.mesh_atoms.specs.Sound.{SoundNeighbourhood};
 ghost use Rattle.mesh_nhdp.specs.NhdpState.{NhdpState, empty_near};
 
 use crate::sets::NeighbourhoodSets;
-use mesh_atoms::RouterSettings;
+use mesh_atoms::{Addr4, RouterSettings, Seq};
 use mesh_expire::Bases;
+use mesh_hello::own_addresses;
 use std::alloc::{AllocError, Global};
 use std::marker::Model;
 
-/// The neighbourhood of a router, with its settings. Moments are in ticks of 1/8192 s. After an allocation failure it may only be
+/// The neighbourhood of a router, with its settings and the addresses of its interfaces. Moments are in ticks of 1/8192 s. After an allocation failure it may only be
 /// dropped.
 pub struct Nhdp<B: Bases> {
     pub(crate) settings: RouterSettings,
+    pub(crate) own: Seq<Addr4>,
     pub(crate) sets: NeighbourhoodSets<B>,
 }
 
@@ -21,6 +23,7 @@ impl<B: Bases> Drop for Nhdp<B> {
     fn drop(self) {
         let Nhdp {
             settings: _,
+            own: _,
             sets: _,
         } = self;
     }
@@ -32,6 +35,10 @@ impl<B: Bases> Model for Nhdp<B> {
     ghost Value = { NhdpState };
 
     ghost view = { λ n. record { settings = n.settings; near = n.sets } };
+
+    ghost use Rattle.mesh_hello.specs.Told.Telling.{AreOwnAddresses};
+
+    ghost invariant = { λ n. AreOwnAddresses n.settings n.own };
 }
 
 impl<B: Bases> Nhdp<B> {
@@ -43,7 +50,12 @@ impl<B: Bases> Nhdp<B> {
     {
         let settings = settings.copy()?;
         let sets = NeighbourhoodSets::new(alloc, settings.interfaces.len())?;
-        Ok(Nhdp { settings, sets })
+        let own = own_addresses(alloc, &settings)?;
+        Ok(Nhdp {
+            settings,
+            own: Seq::from_vec(own),
+            sets,
+        })
     }
 
     /// The settings. Takes no memory.

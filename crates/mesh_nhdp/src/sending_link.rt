@@ -1,11 +1,11 @@
 //! The 2-hop tuples of the link that a HELLO came over (RFC 6130, section 12.6).
-ghost use Rattle.std.specs.Prelude.{◌≡◌, ◌≢◌, ◌↔◌, ◌<◌, ℕ, length, Contains, Some, IsTrue, true, false, IfOk, OnOk};
+ghost use Rattle.std.specs.Prelude.{◌≡◌, ◌≢◌, ◌↔◌, ◌<◌, ℕ, length, Some, IsTrue, true, false, IfOk, OnOk};
 ghost use Rattle.mesh_atoms.specs.Base.{base_of, find, link_eq};
-ghost use Rattle.mesh_atoms.specs.State.{HasAddress};
 ghost use Rattle.mesh_atoms.specs.HelloTold.{Told};
 ghost use Rattle.mesh_atoms.specs.declared.tuples.Link.{Link};
 ghost use Rattle.mesh_atoms.specs.declared.settings.RouterSettings.{RouterSettings};
 ghost use Rattle.mesh_nbrs.specs.TwoHops.TwoHops.{DropsLink};
+ghost use Rattle.mesh_hello.specs.Told.Telling.{AreOwnAddresses};
 ghost use Rattle.mesh_nhdp.specs.Calls.{TellsTwoHops};
 ghost use Rattle.mesh_nhdp.specs.Hearings.{UpdatesTwoHops};
 ghost use Rattle.mesh_nhdp.specs.Repeats.{RepeatsRows};
@@ -47,7 +47,7 @@ fn tell_if_symmetric<H: PlacedTable<TwoHopKey, TwoHop>>(
     rows: &TwoHopRows,
     symmetric: bool,
 ) -> Result<bool, AllocError>
-    ensures rows { OnOk result (symmetric ≡ true → (settings : RouterSettings) (told : Told) → ((a : Addr4) → Contains rows.now.own.now a ↔ HasAddress settings a)
+    ensures rows { OnOk result (symmetric ≡ true → (settings : RouterSettings) (told : Told) → AreOwnAddresses settings rows.now.own.now
         → told.listed ≡ rows.now.listed.now → TellsTwoHops settings told rows.now.hello.now rows.now.link rows.now.until two_hops.old two_hops.new) }
     ensures no_rows { OnOk result (symmetric ≡ false → two_hops.new ≡ two_hops.old) }
     ensures repeats { IfOk result (λ repeats. IsTrue repeats → symmetric ≡ true

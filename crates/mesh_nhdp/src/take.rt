@@ -3,6 +3,7 @@ ghost use Rattle.std.specs.Prelude.{◌≡◌, ◌<◌, ◌^◌, false, length, 
 ghost use Rattle.mesh_atoms.specs.TakesHello.{HelloAnswer, TakesHello};
 ghost use Rattle.mesh_atoms.specs.Sound.{SoundNeighbourhood};
 ghost use Rattle.mesh_nbrs.specs.Same.{SameNear};
+ghost use Rattle.mesh_hello.specs.Told.Telling.{AreOwnAddresses};
 ghost use Rattle.mesh_nhdp.specs.Judged.{CanTakeHello, IsAnswer};
 
 use crate::hearing::{HelloReceipt, hear};
@@ -73,6 +74,7 @@ impl<B: Bases> Nhdp<B> {
             iface,
             sender,
             hello,
+            own: self.own.as_slice(),
         };
         take_in(&self.settings, &arrival, &mut self.sets)
     }
@@ -85,6 +87,7 @@ fn take_in<B: Bases>(
     sets: &mut NeighbourhoodSets<B>,
 ) -> Result<(HelloTaken, bool), AllocError>
     requires ready { CanTakeHello settings.now arrival.now.moment arrival.now.iface arrival.now.hello.now }
+    requires own { AreOwnAddresses settings.now arrival.now.own.now }
     requires sound { SoundNeighbourhood settings.now arrival.now.moment sets.old }
     ensures ok { IfOk result (λ told. (answer : HelloAnswer) × IsAnswer told.0 answer ×
         TakesHello settings.now arrival.now.moment arrival.now.iface arrival.now.sender arrival.now.hello.now
@@ -96,12 +99,12 @@ fn take_in<B: Bases>(
     match judge(settings, sets, arrival)? {
         HelloCheck::Breaks(number) => Ok((HelloTaken::Broken(number), false)),
         HelloCheck::Overfills(base) => Ok((HelloTaken::Full(base), false)),
-        HelloCheck::Fits(own, telling) => {
+        HelloCheck::Fits(telling) => {
             let receipt = HelloReceipt {
                 moment: arrival.moment,
                 iface: arrival.iface,
                 hello: arrival.hello,
-                own: own.as_slice(),
+                own: arrival.own,
                 telling: &telling,
             };
             let repeated = is_repeated(arrival.moment, arrival.iface, &telling, sets);

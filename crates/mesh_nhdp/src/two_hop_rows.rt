@@ -1,11 +1,11 @@
 //! What the rows of a HELLO tell of the sender's neighbours (RFC 6130, section 12.6, and RFC 7181, section 15.3).
-ghost use Rattle.std.specs.Prelude.{◌≡◌, ◌↔◌, Contains, IsTrue, IfOk, OnOk};
+ghost use Rattle.std.specs.Prelude.{◌≡◌, ◌↔◌, IsTrue, IfOk, OnOk};
 ghost use Rattle.mesh_atoms.specs.Base.{SetsOnly, two_hop_eq};
-ghost use Rattle.mesh_atoms.specs.State.{HasAddress};
 ghost use Rattle.mesh_atoms.specs.HelloTold.{Told, tells_symmetric, or_else};
 ghost use Rattle.mesh_atoms.specs.AfterHello.{row_makes};
 ghost use Rattle.mesh_atoms.specs.TakesHello.{AreTwoHopRows};
 ghost use Rattle.mesh_atoms.specs.declared.settings.RouterSettings.{RouterSettings};
+ghost use Rattle.mesh_hello.specs.Told.Telling.{AreOwnAddresses};
 ghost use Rattle.mesh_nhdp.specs.Calls.{TellsTwoHops};
 ghost use Rattle.mesh_nhdp.specs.Repeats.{RepeatsRow, RepeatsRows};
 ghost use Rattle.mesh_hello.specs.Gathers.{Gathers};
@@ -106,7 +106,7 @@ pub fn tell_two_hops<H: PlacedTable<TwoHopKey, TwoHop>>(
     two_hops: &mut TwoHopSet<H>,
     rows: &TwoHopRows,
 ) -> Result<bool, AllocError>
-    ensures tells { OnOk result ((settings : RouterSettings) (told : Told) → ((a : Addr4) → Contains rows.now.own.now a ↔ HasAddress settings a)
+    ensures tells { OnOk result ((settings : RouterSettings) (told : Told) → AreOwnAddresses settings rows.now.own.now
         → told.listed ≡ rows.now.listed.now → TellsTwoHops settings told rows.now.hello.now rows.now.link rows.now.until two_hops.old two_hops.new) }
     ensures repeats { IfOk result (λ repeats. IsTrue repeats
         → RepeatsRows rows.now.own.now rows.now.listed.now two_hops.old rows.now.link rows.now.hello.now) }
@@ -141,7 +141,7 @@ pub fn count_symmetric(
     own: &[Addr4],
     listed: &[Addr4],
 ) -> Result<usize, AllocError>
-    ensures { IfOk result (λ count. (settings : RouterSettings) (told : Told) → ((a : Addr4) → Contains own.now a ↔ HasAddress settings a) → told.listed ≡ listed.now
+    ensures { IfOk result (λ count. (settings : RouterSettings) (told : Told) → AreOwnAddresses settings own.now → told.listed ≡ listed.now
         → AreTwoHopRows settings told hello.now count) }
 {
     let mut addrs = Vec::new(alloc);

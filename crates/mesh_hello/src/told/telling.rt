@@ -1,8 +1,7 @@
 //! What a HELLO tells its receiver (RFC 6130, section 12, and RFC 7181, section 15.3).
-ghost use Rattle.std.specs.Prelude.{◌≡◌, ◌<◌, ◌↔◌, ◌⊎◌, None, Some, length, slice_get, Contains, IfOk};
-ghost use Rattle.mesh_atoms.specs.State.{HasAddress};
+ghost use Rattle.std.specs.Prelude.{◌≡◌, ◌<◌, ◌⊎◌, None, Some, length, slice_get, Contains, IfOk};
 ghost use Rattle.mesh_atoms.specs.HelloTold.{Tells};
-ghost use Rattle.mesh_hello.specs.Told.Telling.{told_of};
+ghost use Rattle.mesh_hello.specs.Told.Telling.{AreOwnAddresses, told_of};
 
 use crate::told::mine::{Sign, has_own_row, metric_from, metric_to, status_of_mine};
 use crate::told::sender::{listed_list, sending_list};
@@ -23,7 +22,7 @@ pub struct HelloInfo {
 
 /// The addresses of all interfaces.
 pub fn own_addresses(alloc: Global, settings: &RouterSettings) -> Result<Vec<Addr4>, AllocError>
-    ensures { IfOk result (λ own. (a : Addr4) → Contains own.items a ↔ HasAddress settings.now a) }
+    ensures { IfOk result (λ own. AreOwnAddresses settings.now own.items) }
 {
     let mut own = Vec::new(alloc);
     for face in settings.interfaces.as_slice() {
@@ -61,7 +60,7 @@ pub fn tell(
     own: &[Addr4],
 ) -> Result<HelloInfo, AllocError>
     requires iface { iface < length settings.now.interfaces }
-    requires own { (a : Addr4) → Contains own.now a ↔ HasAddress settings.now a }
+    requires own { AreOwnAddresses settings.now own.now }
     ensures { IfOk result (λ telling. Tells settings.now iface sender hello.now (told_of telling)) }
 {
     let face = &settings.interfaces.as_slice()[iface];

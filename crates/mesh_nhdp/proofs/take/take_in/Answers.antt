@@ -1,5 +1,5 @@
 use Rattle.mesh_nhdp.proofs.Common.{not-false, ◌<◌, refl, sym, subst, Taken, Broken_at, Breaks, Takes, told_of, Judges}
-use Rattle.mesh_nhdp.proofs.Judges.{own_at, overfull, taken_sound}
+use Rattle.mesh_nhdp.proofs.Judges.{overfull, taken_sound}
 use Rattle.mesh_nhdp.proofs.RowsRepeat.{both_true}
 use Rattle.mesh_nhdp.proofs.RepeatsLaw.{repeats_same, unchanged_same}
 use Rattle.mesh_nhdp.proofs.take.take_in.Goals as goal
@@ -20,25 +20,18 @@ returns-in-Overfills g c =
       sound = c.requires.sound;
     }
 
-pub hear-requires-clause-own : goal.hear-requires-clause-own
-hear-requires-clause-own g c =
-    let arrival = c.args.arrival.now in
-    own_at c.args.settings.now c.in-Fits.own c.as_slice.result.now c.as_slice.ensures
-    (subst (Judges c.args.settings.now arrival.iface arrival.sender arrival.hello.now c.args.sets.now) c.in-Fits.is c.in_ok-number.ensures).4
-
 pub returns-in_ok-rows-in-Fits : goal.returns-in_ok-rows-in-Fits
 returns-in_ok-rows-in-Fits g c =
     let settings = c.args.settings.now in
     let arrival = c.args.arrival.now in
     let told = told_of c.in-Fits.telling in
     let heard = c.in_ok-rows-in-Fits.ensures in
-    let (fault, tells, few, room, own) = subst (Judges settings arrival.iface arrival.sender arrival.hello.now c.args.sets.now) c.in-Fits.is c.in_ok-number.ensures in
+    let (fault, tells, few, room) = subst (Judges settings arrival.iface arrival.sender arrival.hello.now c.args.sets.now) c.in-Fits.is c.in_ok-number.ensures in
     record {
       ok = (Taken, refl, Takes told fault tells few room heard.after);
       same = λ unchanged. (
-          let own_is = own_at settings c.in-Fits.own c.as_slice.result.now c.as_slice.ensures own in
           let both = both_true c.is_repeated-repeated.result c.in_ok-rows-in-Fits.rows (not-false _ unchanged) in
-          repeats_same settings arrival.moment arrival.iface told arrival.hello.now c.as_slice.result.now own_is c.args.sets.now c.hear.new.sets
+          repeats_same settings arrival.moment arrival.iface told arrival.hello.now arrival.own.now c.requires.own c.args.sets.now c.hear.new.sets
           (subst (λ n. 0 < n) (sym tells.validity) c.requires.ready.lasts) c.requires.sound heard.after (c.is_repeated-repeated.ensures both.0) (heard.repeats both.1));
       sound = taken_sound settings arrival.moment arrival.iface arrival.sender arrival.hello.now told c.args.sets.now c.hear.new.sets fault tells c.requires.ready.lasts c.requires.sound heard.after few room;
     }
