@@ -16,19 +16,13 @@ pub(crate) struct CheckedRouter<B: Bases> {
     holding: InformationBases<B>,
 }
 
-// Lets go of what follows from the bases.
-fn let_go(derived: Derived) {
-    let _ = derived;
-}
-
 // By hand, so that it isn't proved part by part.
 impl<B: Bases> Drop for CheckedRouter<B> {
     fn drop(self) {
         let CheckedRouter {
-            derived,
+            derived: _,
             holding: _,
         } = self;
-        let_go(derived);
     }
 }
 

@@ -1,6 +1,5 @@
 //! The next event, and its lines.
 ghost use Rattle.std.specs.Prelude.{◌≡◌, ◌<◌, ℕ, [], length, map, IfOk, OnOk, IsTrue};
-ghost use Rattle.mesh_bases.specs.Reading.Content.{IsPacketOf};
 ghost use Rattle.mesh_trace.specs.machine.Net.{IsFirstDue};
 ghost use Rattle.mesh_trace.specs.Positions.Due.{HearsBy, TicksBy};
 ghost use Rattle.mesh_trace.specs.Reading.Readers.{IsReaderOf};
@@ -20,7 +19,7 @@ use crate::checking::next::{ComingFrame, NextEvent, next_of, opening_line};
 use crate::checking::opening::first_due;
 use crate::checking::router::RouterOfTrace;
 use crate::checking::scene::{CheckedNet, Outcome};
-use mesh_bases::{FrameContent, ReadPacket, read_content};
+use mesh_bases::{FrameContent, read_content};
 use std::alloc::{AllocError, Global};
 
 // The router of an event ticks: takes the lines behind that of the tick.
@@ -40,28 +39,6 @@ fn tick_router<R: RouterOfTrace>(
     tell_event(alloc, case, event, router, &lines, progress)
 }
 
-// A router takes a packet: takes the lines behind that of the frame.
-fn hear_packet<R: RouterOfTrace>(
-    alloc: Global,
-    case: &Case,
-    event: &CheckedEvent,
-    heard: &ComingFrame,
-    packet: &ReadPacket,
-    router: &mut R,
-    progress: &mut Progress,
-) -> Result<bool, AllocError>
-    requires event { IsEventOf case.now event.now }
-    requires progress { IsProgress case.now progress.old }
-    requires comes { IsComing event.now heard.now }
-    requires begins { MayBegin event.now (R.state router.old) (HearsBy (R.state router.old) heard.now.arrival heard.now.frame.value) }
-    requires packet { IsPacketOf heard.now.frame.value packet.now }
-    ensures { IfOk result (EndsEvent case.now progress.old progress.new event.now (HearsBy (R.state router.old) heard.now.arrival heard.now.frame.value) (R.state router.new)) }
-{
-    let bytes = heard.frame.as_ref().as_slice();
-    let lines = router.hear(alloc, heard.arrival, bytes, packet)?;
-    tell_event(alloc, case, event, router, &lines, progress)
-}
-
 // A router hears a frame: takes the lines behind that of the frame. A frame with a fault changes nothing.
 fn hear_frame<R: RouterOfTrace>(
     alloc: Global,
@@ -77,11 +54,13 @@ fn hear_frame<R: RouterOfTrace>(
     requires begins { MayBegin event.now (R.state router.old) (HearsBy (R.state router.old) heard.now.arrival heard.now.frame.value) }
     ensures { IfOk result (EndsEvent case.now progress.old progress.new event.now (HearsBy (R.state router.old) heard.now.arrival heard.now.frame.value) (R.state router.new)) }
 {
-    let content = read_content(alloc, heard.frame.as_ref().as_slice())?;
+    let bytes = heard.frame.as_ref().as_slice();
+    let content = read_content(alloc, bytes)?;
     match &content {
         FrameContent::Refused(_) => Ok(true),
         FrameContent::Packet(packet) => {
-            hear_packet(alloc, case, event, heard, packet, router, progress)
+            let lines = router.hear(alloc, heard.arrival, bytes, packet)?;
+            tell_event(alloc, case, event, router, &lines, progress)
         }
     }
 }
