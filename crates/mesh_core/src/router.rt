@@ -26,20 +26,14 @@ pub struct Core<B: Bases> {
     pub(crate) spent: bool,
 }
 
-// Lets go of what follows from the bases.
-fn let_go(derived: Derived) {
-    let _ = derived;
-}
-
 // By hand, so that no crate that lets go of one has to know its parts.
 impl<B: Bases> Drop for RouterState<B> {
     fn drop(self) {
         let RouterState {
             holding: _,
-            derived,
+            derived: _,
             outdated: _,
         } = self;
-        let_go(derived);
     }
 }
 

@@ -24,17 +24,12 @@ pub enum FrameContent {
     Packet(ReadPacket),
 }
 
-// Lets go of a packet.
-fn let_go(packet: ReadPacket) {
-    let _ = packet;
-}
-
 // By hand, so that no crate that lets go of one has to know its parts.
 impl Drop for FrameContent {
     fn drop(self) {
         match self {
             FrameContent::Refused(_) => {}
-            FrameContent::Packet(packet) => let_go(packet),
+            FrameContent::Packet(_) => {}
         }
     }
 }

@@ -23,22 +23,12 @@ pub enum TypedMessage {
     Other(Option<Heading>),
 }
 
-// Lets go of a HELLO.
-fn let_go_of_hello(hello: Hello) {
-    let _ = hello;
-}
-
-// Lets go of a TC.
-fn let_go_of_tc(tc: Tc) {
-    let _ = tc;
-}
-
 // By hand, so that no crate that lets go of one has to know its parts.
 impl Drop for TypedMessage {
     fn drop(self) {
         match self {
-            TypedMessage::Hello(hello) => let_go_of_hello(hello),
-            TypedMessage::Tc(_, tc) => let_go_of_tc(tc),
+            TypedMessage::Hello(_) => {}
+            TypedMessage::Tc(_, _) => {}
             TypedMessage::Broken(_) => {}
             TypedMessage::Other(_) => {}
         }
