@@ -1,5 +1,5 @@
 -- What the clauses of an event say of a core to which all is kept, put together.
-use Rattle.mesh_core.proofs.Common.{arith, common_steps, ◌≡◌, ◌<◌, ◌≤◌, ◌++◌, ℕ, List, Result, Ok, Err, Bool, true, subst, All, IfOk, OnOk, OnErr, Sound, State, Arrival, Heard, Frame, sent_since, Hear, Tick, Step, Heard_frame, Ticked, Hears, TicksAt, due, IsSendable, since_same, step_sound, EventWants, Outdated, IsKeptFor, KeepsWanted, HearsAndKeeps, HearsTo, TicksTo, kept_answer, CoreValue}
+use Rattle.mesh_core.proofs.Common.{arith, common_steps, ◌≡◌, ◌<◌, ◌≤◌, ◌++◌, ℕ, List, length, take, take_at, sym, ap, ◌∙◌, Result, Ok, Err, Bool, true, subst, All, IfOk, OnOk, OnErr, Sound, State, Arrival, Heard, Frame, sent_since, OnlyAppends, Hear, Tick, Step, Heard_frame, Ticked, Hears, TicksAt, due, IsSendable, since_same, step_sound, EventWants, Outdated, IsKeptFor, KeepsWanted, HearsAndKeeps, HearsTo, TicksTo, TakesBack, kept_answer, CoreValue}
 
 -- a core has heard a frame, or met an allocation failure
 pub record HearClauses {E : Type 0} (came : Result Heard E) (fates : Bool) (old : State) (arrival : Arrival) (bytes : List ℕ) (before after : List Frame) (new : State) : Type 0 where
@@ -11,6 +11,7 @@ pub record HearClauses {E : Type 0} (came : Result Heard E) (fates : Bool) (old 
   pub last : OnOk came (new.last ≤ arrival.now)
   pub due : OnOk came (due new ≡ due old)
   pub sound : OnOk came (Sound new)
+  pub wanting : OnErr came (after ≡ before)
 
 -- its clock has ticked, or it met an allocation failure
 pub record TickClauses {A E : Type 0} (came : Result A E) (old : State) (now : ℕ) (before after : List Frame) (new : State) : Type 0 where
@@ -21,6 +22,12 @@ pub record TickClauses {A E : Type 0} (came : Result A E) (old : State) (now : �
   pub last : OnOk came (new.last ≡ now)
   pub due : OnOk came (now < due new)
   pub sound : OnOk came (Sound new)
+  pub wanting : OnErr came (after ≡ before)
+
+-- what an event that met an allocation failure has put at the end is taken out again
+back_on_err : {A E : Type 0} (came : Result A E) (count : ℕ) (before mid after : List Frame) → count ≡ length before → OnlyAppends before mid → TakesBack came count mid after → OnErr came (after ≡ before)
+back_on_err (Ok x) count before mid after counted only back = tt
+back_on_err (Err e) count before mid after counted (sent, is) back = back.err ∙ (ap (λ (f : List Frame). take count f) is ∙ take_at before sent count (sym counted))
 
 -- where fates are wanted, all of an answer is kept
 all_of_kept : (kept answer : Heard) → kept ≡ kept_answer true answer → kept ≡ answer
@@ -53,13 +60,20 @@ module _ {E : Type 0} (wants : EventWants) (arrival : Arrival) (bytes : List ℕ
         last = to.last;
         due = to.due;
         sound = step_sound old (Hear arrival bytes) (sent_since before after) new sound step;
+        wanting = tt;
       }
   hears_here (Err e) relays routes old sound wanting to = grind (arith, common_steps, since_same)
 
-  pub hear_clauses : {shown core : CoreValue} (came : Result Heard E) → wants.relays ≡ true → wants.routes ≡ true → shown ≡ core → Sound shown.state → OnErr came (after ≡ before) →
-      IfOk came (λ kept. HearsAndKeeps wants shown.state arrival bytes kept before after outdated new) → HearClauses came wants.fates core.state arrival bytes before after new
-  hear_clauses {shown} {core} came relays routes is sound wanting to =
-      subst (λ (v : CoreValue). HearClauses came wants.fates v.state arrival bytes before after new) is (hears_here came relays routes shown.state sound wanting to)
+  hears_left : (count : ℕ) (came : Result Heard E) (old : State) (mid : List Frame) → TakesBack came count mid after → IfOk came (λ kept. HearsAndKeeps wants old arrival bytes kept before mid outdated new) →
+      IfOk came (λ kept. HearsAndKeeps wants old arrival bytes kept before after outdated new)
+  hears_left count (Ok kept) old mid left to = subst (λ (f : List Frame). HearsAndKeeps wants old arrival bytes kept before f outdated new) (sym left.ok) to
+  hears_left count (Err e) old mid left to = tt
+
+  pub hear_clauses : {shown core : CoreValue} {mid : List Frame} {count : ℕ} (came : Result Heard E) → wants.relays ≡ true → wants.routes ≡ true → shown ≡ core → Sound shown.state → count ≡ length before → OnlyAppends before mid → TakesBack came count mid after →
+      IfOk came (λ kept. HearsAndKeeps wants shown.state arrival bytes kept before mid outdated new) → HearClauses came wants.fates core.state arrival bytes before after new
+  hear_clauses {shown} {core} {mid} {count} came relays routes is sound counted only left to =
+      subst (λ (v : CoreValue). HearClauses came wants.fates v.state arrival bytes before after new) is
+      (hears_here came relays routes shown.state sound (back_on_err came count before mid after counted only left) (hears_left count came shown.state mid left to))
 
 module _ {A E : Type 0} (wants : EventWants) (now : ℕ) (before after : List Frame) (outdated : Outdated) (new : State) where
   ticks_here : (came : Result A E) → wants.relays ≡ true → wants.routes ≡ true → (old : State) → Sound old → OnErr came (after ≡ before) →
@@ -74,10 +88,17 @@ module _ {A E : Type 0} (wants : EventWants) (now : ℕ) (before after : List Fr
         last = to.last;
         due = to.due;
         sound = step_sound old (Tick now) (sent_since before after) new sound step;
+        wanting = tt;
       }
-  ticks_here (Err e) relays routes old sound wanting to = record { step = tt; appended = since_same before after wanting; sendable = tt; settings = tt; last = tt; due = tt; sound = tt }
+  ticks_here (Err e) relays routes old sound wanting to = record { step = tt; appended = since_same before after wanting; sendable = tt; settings = tt; last = tt; due = tt; sound = tt; wanting = wanting }
 
-  pub tick_clauses : {shown core : CoreValue} (came : Result A E) → wants.relays ≡ true → wants.routes ≡ true → shown ≡ core → Sound shown.state → OnErr came (after ≡ before) →
-      OnOk came (TicksTo wants shown.state now before after outdated new) → TickClauses came core.state now before after new
-  tick_clauses {shown} {core} came relays routes is sound wanting to =
-      subst (λ (v : CoreValue). TickClauses came v.state now before after new) is (ticks_here came relays routes shown.state sound wanting to)
+  ticks_left : (count : ℕ) (came : Result A E) (old : State) (mid : List Frame) → TakesBack came count mid after → OnOk came (TicksTo wants old now before mid outdated new) →
+      OnOk came (TicksTo wants old now before after outdated new)
+  ticks_left count (Ok x) old mid left to = subst (λ (f : List Frame). TicksTo wants old now before f outdated new) (sym left.ok) to
+  ticks_left count (Err e) old mid left to = tt
+
+  pub tick_clauses : {shown core : CoreValue} {mid : List Frame} {count : ℕ} (came : Result A E) → wants.relays ≡ true → wants.routes ≡ true → shown ≡ core → Sound shown.state → count ≡ length before → OnlyAppends before mid → TakesBack came count mid after →
+      OnOk came (TicksTo wants shown.state now before mid outdated new) → TickClauses came core.state now before after new
+  tick_clauses {shown} {core} {mid} {count} came relays routes is sound counted only left to =
+      subst (λ (v : CoreValue). TickClauses came v.state now before after new) is
+      (ticks_here came relays routes shown.state sound (back_on_err came count before mid after counted only left) (ticks_left count came shown.state mid left to))

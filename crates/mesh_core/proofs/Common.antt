@@ -12,6 +12,7 @@ pub use Rattle.mesh_atoms.specs.declared.tuples.Relays.{Relays}
 pub use Rattle.mesh_bases.proofs.RowMoments.{rows_stay, some_or_none}
 pub use Rattle.mesh_bases.proofs.Staying.{relays_kept, routes_kept, rows_kept}
 pub use Rattle.mesh_bases.specs.Held.Held.{Held}
+pub use Rattle.mesh_bases.specs.Held.Outbox.{OnlyAppends}
 pub use Rattle.mesh_bases.specs.Held.RouterState.{router_state}
 pub use Rattle.mesh_bases.specs.Renewed.{HasDerived, IsAnsnAfter, IsEmptiedAt}
 pub use Rattle.mesh_bases.specs.declared.derived.Derived.{Derived}
@@ -19,7 +20,8 @@ pub use Rattle.mesh_bases.specs.declared.held.quiet.Quiet.{Quiet}
 pub use Rattle.mesh_core.specs.Deferred.{IsButForDerived, IsKeptOf, IsSoundButForDerived}
 pub use Rattle.mesh_core.specs.Event.Ending.{GivesRelays, GivesRoutes, GivesRows, IsBeforeEvent}
 pub use Rattle.mesh_core.specs.Event.Outdated.{IsCurrent, IsKeptFor, KeepsWanted}
-pub use Rattle.mesh_core.specs.Event.Promises.{HearsAndKeeps, HearsTo, TicksTo, kept_answer}
+pub use Rattle.mesh_core.specs.Event.Promises.{HearsAndKeeps, HearsTo, TakesBack, TicksTo, kept_answer}
+pub use Rattle.mesh_core.specs.Event.Until.{HearsUntil, StepsUntil, TicksUntil}
 pub use Rattle.mesh_core.specs.Holding.{CoreValue}
 pub use Rattle.mesh_core.specs.declared.event.outdated.EventWants.{EventWants}
 pub use Rattle.mesh_core.specs.declared.event.outdated.Outdated.{Outdated}
@@ -38,8 +40,8 @@ pub use Rattle.mesh_machine.specs.declared.fate.Heard.{Heard}
 pub use Rattle.mesh_machine.specs.declared.frame.Frame.{Frame}
 pub use Rattle.mesh_packet.specs.Grammar.{FirstFault}
 pub use Rattle.mesh_routes.proofs.SameBases.{tables_of}
-pub use Rattle.std.proofs.Common.{All, Bool, Err, IfOk, IsTrue, List, Ok, OnErr, OnOk, Result, [], ap, arith, false, inl, inr, is_err, length, not, refl, subst, sym, true, ℕ, ◌++◌, ◌<◌, ◌||◌, ◌∙◌, ◌≡◌, ◌≤◌, ◌⊎◌}
+pub use Rattle.std.proofs.Common.{All, Bool, Err, IfOk, IsTrue, List, Ok, OnErr, OnOk, Result, [], ap, arith, false, inl, inr, is_err, length, not, refl, subst, sym, take, true, ℕ, ◌++◌, ◌<◌, ◌||◌, ◌∙◌, ◌≡◌, ◌≤◌, ◌⊎◌}
 pub use Rattle.std.proofs.lemmas.Bool.{le-leb, true≢false}
 pub use Rattle.std.proofs.lemmas.Grind.{common_steps}
-pub use Rattle.std.proofs.lemmas.List.{append-nil, append_assoc}
+pub use Rattle.std.proofs.lemmas.List.{append-nil, append_assoc, take_at}
 pub use Rattle.std.proofs.lemmas.Result.{on_ok_weaker}

@@ -2,7 +2,6 @@
 pub mod Kept  -- radio, run
 -- Lemmas of this crate alone.
 mod Clauses
-mod Emptied
 mod EventLemmas
 mod Spent
 mod Until

@@ -1,3 +1,4 @@
 pub mod Ending
 pub mod Outdated
 pub mod Promises
+pub mod Until

@@ -6,7 +6,7 @@ ghost use Rattle.mesh_machine.specs.Machine.{Event, Step, due};
 ghost use Rattle.mesh_machine.specs.Sendable.{IsSendable};
 
 use crate::deferred::DeferredCore;
-use crate::event::{EventWants, hear_into, tick_into};
+use crate::event::{hear_until, tick_until};
 use crate::router::Core;
 use mesh_bases::{Outbox, TypedFrame};
 use mesh_expire::Bases;
@@ -53,7 +53,7 @@ pub trait DeferringRouter: Sized + Drop {
         ensures { result ≡ due (state self.now) };
 }
 
-// A core puts nothing off.
+// A core puts nothing off, whatever moment the call names.
 impl<B: Bases> DeferringRouter for Core<B> {
     ghost state = { λ c. c.state };
 
@@ -65,23 +65,12 @@ impl<B: Bases> DeferringRouter for Core<B> {
         out: &mut Outbox,
     ) -> Result<(), AllocError> {
         let _ = until;
-        if self.spent {
-            return Err(AllocError);
-        }
-        let wants = EventWants {
-            relays: true,
-            routes: true,
-            fates: false,
-        };
-        let came = hear_into(&mut self.router, wants, arrival, frame, out);
-        self.spent = came.is_err();
-        came
+        hear_until(&mut self.router, &mut self.spent, 0, arrival, frame, out)
     }
 
     fn tick_until(&mut self, until: u64, now: u64, out: &mut Outbox) -> Result<(), AllocError> {
         let _ = until;
-        out.clear();
-        self.tick(now, out)
+        tick_until(&mut self.router, &mut self.spent, 0, now, out)
     }
 
     fn due_next(&self) -> u64 {
@@ -99,31 +88,18 @@ impl<B: Bases> DeferringRouter for DeferredCore<B> {
         frame: &TypedFrame,
         out: &mut Outbox,
     ) -> Result<(), AllocError> {
-        if self.spent {
-            return Err(AllocError);
-        }
-        let wants = EventWants {
-            relays: until <= arrival.now,
-            routes: until <= arrival.now,
-            fates: false,
-        };
-        let came = hear_into(&mut self.router, wants, arrival, frame, out);
-        self.spent = came.is_err();
-        came
+        hear_until(
+            &mut self.router,
+            &mut self.spent,
+            until,
+            arrival,
+            frame,
+            out,
+        )
     }
 
     fn tick_until(&mut self, until: u64, now: u64, out: &mut Outbox) -> Result<(), AllocError> {
-        if self.spent {
-            return Err(AllocError);
-        }
-        let wants = EventWants {
-            relays: true,
-            routes: until <= now,
-            fates: false,
-        };
-        let came = tick_into(&mut self.router, wants, now, out);
-        self.spent = came.is_err();
-        came
+        tick_until(&mut self.router, &mut self.spent, until, now, out)
     }
 
     fn due_next(&self) -> u64 {

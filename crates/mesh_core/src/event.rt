@@ -4,7 +4,9 @@ mod clock;
 mod ending;
 mod hear;
 mod outdated;
+mod until;
 
-pub(crate) use crate::event::clock::{tick, tick_into};
-pub(crate) use crate::event::hear::{hear_frame, hear_into};
+pub(crate) use crate::event::clock::tick;
+pub(crate) use crate::event::hear::hear_content;
 pub(crate) use crate::event::outdated::{EventWants, Outdated};
+pub(crate) use crate::event::until::{hear_until, tick_until};

@@ -1,18 +1,28 @@
 //! One step of the machine a call: a router hears a frame, or its clock ticks (RFC 6130 and RFC 7181).
 ghost use Rattle.std.specs.Prelude.{◌≡◌, ◌<◌, ◌≤◌, ◌^◌, ◌++◌, ℕ, length, is_err, All, IfOk, OnOk, OnErr, IsErr, IsTrue};
 ghost use Rattle.mesh_atoms.specs.Sound.{Sound};
+ghost use Rattle.mesh_core.specs.Event.Promises.{TakesBack};
 ghost use Rattle.mesh_machine.specs.Frames.{sent_since};
 ghost use Rattle.mesh_machine.specs.Machine.{Event, Step, Hears, due};
 ghost use Rattle.mesh_machine.specs.Sendable.{IsSendable};
 ghost use Rattle.mesh_packet.specs.Grammar.{FirstFault};
 
-use crate::event::{EventWants, hear_frame, tick};
+use crate::event::{EventWants, hear_content, tick};
 use crate::router::Core;
 use mesh_atoms::Addr4;
-use mesh_bases::Outbox;
+use mesh_bases::{Outbox, read_content};
 use mesh_expire::Bases;
 use mesh_machine::{Arrival, Heard};
 use std::alloc::AllocError;
+
+// Takes out what an event that met an allocation failure has put behind so many frames.
+fn take_back<T>(came: &Result<T, AllocError>, out: &mut Outbox, count: usize)
+    ensures { TakesBack came.now count out.old out.new }
+{
+    if came.is_err() {
+        out.truncate(count);
+    }
+}
 
 impl<B: Bases> Core<B> {
     /// Hears a frame on an interface from that sender, at a moment below 2^62 that isn't before the last event (RFC 5444, RFC 6130 and
@@ -48,14 +58,20 @@ impl<B: Bases> Core<B> {
         if self.spent {
             return Err(AllocError);
         }
+        // Up to the end of the event, of which each part may meet an allocation failure.
+        self.spent = true;
+        let alloc = self.router.holding.settings().interfaces.allocator();
+        let content = read_content(alloc, bytes)?;
         let arrival = Arrival { now, iface, sender };
         let wants = EventWants {
             relays: true,
             routes: true,
             fates: true,
         };
-        let came = hear_frame(&mut self.router, wants, arrival, bytes, out);
+        let before = out.len();
+        let came = hear_content(&mut self.router, wants, arrival, bytes, &content, out);
         self.spent = came.is_err();
+        take_back(&came, out, before);
         came
     }
 
@@ -85,8 +101,10 @@ impl<B: Bases> Core<B> {
             routes: true,
             fates: false,
         };
+        let before = out.len();
         let came = tick(&mut self.router, wants, now, out);
         self.spent = came.is_err();
+        take_back(&came, out, before);
         came
     }
 }

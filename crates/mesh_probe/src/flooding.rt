@@ -7,9 +7,10 @@ ghost use Rattle.mesh_probe.specs.Hearing.{CanHear, IsOfInterface, HearsFrame, S
 
 use crate::frames::put_sent;
 use crate::transmission::Transmission;
-use mesh_atoms::{Addr4, RadioArc, Scenario};
-use mesh_bases::Outbox;
+use mesh_atoms::{Addr4, Bytes, RadioArc, Scenario};
+use mesh_bases::{Outbox, TypedFrame};
 use mesh_core::{Arrival, RouterCore};
+use mesh_machine::Frame;
 use std::alloc::{AllocError, Global};
 
 // Whether the arc leads from that interface of the router.
@@ -29,19 +30,28 @@ fn sender_of(scenario: &Scenario, frame: &Transmission) -> Addr4
     interface.addrs.as_slice()[0]
 }
 
-// The router at the end of an arc hears a frame of these octets from that sender, and what it sends is put at the end.
+// The frame, read once for all that hear it.
+fn typed(alloc: Global, frame: &Frame) -> Result<TypedFrame, AllocError>
+    ensures { IfOk result (λ typed. typed ≡ frame.now.bytes) }
+{
+    let mut octets = Bytes::new(alloc);
+    octets.append(frame.bytes.as_slice())?;
+    TypedFrame::new(alloc, octets)
+}
+
+// The router at the end of an arc hears the frame from that sender, and what it sends is put at the end.
 fn hear_one<R: RouterCore>(
     alloc: Global,
     routers: &mut [R],
     arc: &RadioArc,
     now: u64,
     sender: Addr4,
-    octets: &[u8],
+    frame: &TypedFrame,
     sent: &mut Vec<Transmission>,
 ) -> Result<(), AllocError>
     requires early { now < 2 ^ 62 }
     requires router { (p : State) × At (map R.state routers.old) arc.now.to p × (p.last ≤ now) × (arc.now.to_iface < length p.settings.interfaces) }
-    ensures { OnOk result (HearsFrame now sender octets.now arc.now.to arc.now.to_iface (map R.state routers.old) (map R.state routers.new) sent.old.items sent.new.items) }
+    ensures { OnOk result (HearsFrame now sender frame.now arc.now.to arc.now.to_iface (map R.state routers.old) (map R.state routers.new) sent.old.items sent.new.items) }
 {
     let arrival = Arrival {
         now,
@@ -49,7 +59,7 @@ fn hear_one<R: RouterCore>(
         sender,
     };
     let mut frames = Outbox::new(alloc);
-    routers[arc.to].hear_frame(arrival, octets, &mut frames)?;
+    routers[arc.to].hear_frame(arrival, frame, &mut frames)?;
     put_sent(alloc, sent, arc.to, &frames)?;
     Ok(())
 }
@@ -70,11 +80,11 @@ fn hear_all<R: RouterCore>(
     ensures routers { OnOk result (CanHear scenario.now (map R.state routers.new) now) }
     ensures sent { IfOk result (λ sent. All (IsOfInterface scenario.now) sent.items) }
 {
-    let octets = frame.frame.bytes.as_slice();
+    let heard = typed(alloc, &frame.frame)?;
     let mut sent = Vec::new(alloc);
     for arc in scenario.arcs.as_slice() {
         if is_arc_from(arc, frame.router, frame.frame.iface) {
-            hear_one(alloc, routers, arc, now, sender, octets, &mut sent)?;
+            hear_one(alloc, routers, arc, now, sender, &heard, &mut sent)?;
         }
     }
     Ok(sent)

@@ -2,6 +2,7 @@
 ghost use Rattle.std.specs.Prelude.{◌≡◌, ◌<◌, ◌++◌, ◌∷◌, Option, Bool, length, OnOk};
 ghost use Rattle.mesh_atoms.specs.declared.addr.Addr4.{Addr4};
 ghost use Rattle.mesh_atoms.specs.Base.{base_of};
+ghost use Rattle.mesh_bases.specs.Held.Outbox.{OnlyAppends};
 ghost use Rattle.mesh_machine.specs.links.Links.{SelectorOf};
 ghost use Rattle.mesh_flood.specs.Verdict.{process_of, forward_of};
 ghost use Rattle.mesh_packet.specs.Fields.{MessageFields};
@@ -44,7 +45,8 @@ pub(crate) fn send_on(
     out: &mut Outbox,
 ) -> Result<(), AllocError>
     requires { answer ≡ Forward.Do → (message : MessageFields) × SpellsMessage message octets.now × HasHop message }
-    ensures { OnOk result (out.new ≡ out.old ++ forwarding (length settings.now.interfaces) octets.now answer) }
+    ensures sent { OnOk result (out.new ≡ out.old ++ forwarding (length settings.now.interfaces) octets.now answer) }
+    ensures appended { OnlyAppends out.old out.new }
 {
     match answer {
         Forward::Do => forward(settings, octets, out),
@@ -55,7 +57,8 @@ pub(crate) fn send_on(
 // Sends a message on each interface: the octet 0, and the message one hop further.
 fn forward(settings: &RouterSettings, octets: &[u8], out: &mut Outbox) -> Result<(), AllocError>
     requires { (message : MessageFields) × SpellsMessage message octets.now × HasHop message }
-    ensures { OnOk result (out.new ≡ out.old ++ on_each (length settings.now.interfaces) (0 ∷ hopped octets.now)) }
+    ensures sent { OnOk result (out.new ≡ out.old ++ on_each (length settings.now.interfaces) (0 ∷ hopped octets.now)) }
+    ensures appended { OnlyAppends out.old out.new }
 {
     let alloc = settings.interfaces.allocator();
     let mut frame = vec![in alloc; 0u8; octets.len() + 1]?;

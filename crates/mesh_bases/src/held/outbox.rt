@@ -1,6 +1,6 @@
 //! The frames that a router sends (RFC 5444).
-ghost use Rattle.std.specs.Prelude.{◌≡◌, ◌++◌, ◌∷◌, [], ◌<◌, ◌≤◌, ℕ, length, slice_get, OnOk, OnErr};
-ghost use Rattle.mesh_bases.specs.Held.Outbox.{frame_of};
+ghost use Rattle.std.specs.Prelude.{◌≡◌, ◌++◌, ◌∷◌, [], ◌<◌, ◌≤◌, ℕ, length, take, slice_get, OnOk, OnErr};
+ghost use Rattle.mesh_bases.specs.Held.Outbox.{frame_of, OnlyAppends};
 ghost use Rattle.mesh_machine.specs.Frames.{on_each};
 
 use mesh_atoms::Bytes;
@@ -59,6 +59,13 @@ impl Outbox {
         self.frames.clear();
     }
 
+    /// Takes out all frames from a place on, counted from 0. Takes no memory.
+    pub fn truncate(&mut self, count: usize)
+        ensures { self.new ≡ take count self.old }
+    {
+        self.frames.truncate(count);
+    }
+
     /// Puts a frame at the end. An allocation failure leaves the outbox as it was.
     pub(crate) fn send(&mut self, iface: usize, bytes: Bytes) -> Result<(), AllocError>
         ensures ok { OnOk result (self.new ≡ self.old ++ (record { iface = iface; bytes = bytes }) ∷ []) }
@@ -68,18 +75,10 @@ impl Outbox {
         Ok(())
     }
 
-    /// Puts all frames of another outbox at the end. An allocation failure leaves this one as it was.
-    pub fn put_all(&mut self, mut other: Outbox) -> Result<(), AllocError>
-        ensures ok { OnOk result (self.new ≡ self.old ++ other) }
-        ensures err { OnErr result (self.new ≡ self.old) }
-    {
-        self.frames.append(&mut other.frames)?;
-        Ok(())
-    }
-
     /// Puts the octets at the end as one frame on each interface, in order. After an allocation failure some of them may stand there.
     pub(crate) fn send_on_each(&mut self, count: usize, bytes: &[u8]) -> Result<(), AllocError>
         ensures ok { OnOk result (self.new ≡ self.old ++ on_each count bytes.now) }
+        ensures appended { OnlyAppends self.old self.new }
     {
         for iface in 0..count {
             let mut copy = Bytes::new(self.alloc);

@@ -8,6 +8,7 @@ ghost use Rattle.mesh_topo.specs.Same.{SameAdvertised};
 ghost use Rattle.mesh_topo.specs.Tuples.{HasHosts};
 ghost use Rattle.mesh_packet.specs.Fields.{MessageFields, fields_of_message};
 ghost use Rattle.mesh_packet.specs.Grammar.{SpellsMessage};
+ghost use Rattle.mesh_bases.specs.Held.Outbox.{OnlyAppends};
 ghost use Rattle.mesh_bases.specs.Held.Reading.{ReadsTc};
 ghost use Rattle.mesh_bases.specs.Held.Taking.{TakesFrame, kept_fates};
 ghost use Rattle.mesh_bases.specs.Reading.Content.{AreReadAs, IsPacketOf};
@@ -86,6 +87,7 @@ fn process_tc<B: Bases>(
         (record { neighbourhood = nhdp.now.near; topology = topology.old; noted = flood.old.noted }) received.now.tc.now received.now.heading.now received.now.octets.now
         (record { neighbourhood = nhdp.now.near; topology = topology.new; noted = flood.new.noted }) sent made.0) }
     ensures advertised { IfOk result (λ made. IsTrue made.1.advertised → SameAdvertised topology.old topology.new) }
+    ensures appended { OnlyAppends out.old out.new }
     ensures times { flood.new.times ≡ flood.old.times }
 {
     let verdict = judge(nhdp, flood, arrival, own, received.heading);
@@ -161,6 +163,7 @@ fn take_other<B: Bases>(
         → IsReadAsOther message heading.now → TakesMessage nhdp.now.settings own arrival
         (record { neighbourhood = nhdp.now.near; topology = topology; noted = flood.old.noted }) message octets.now
         (record { neighbourhood = nhdp.now.near; topology = topology; noted = flood.new.noted }) sent made.0)) }
+    ensures appended { OnlyAppends out.old out.new }
     ensures times { flood.new.times ≡ flood.old.times }
 {
     match heading {
@@ -202,6 +205,7 @@ impl<B: Bases> InformationBases<B> {
             → TakesMessage self.old.settings own arrival self.old.bases message octets.now self.new.bases sent made.0)) }
         ensures near { IfOk result (λ made. IsTrue made.1.near → SameNear self.old.bases.neighbourhood arrival.now self.new.bases.neighbourhood arrival.now) }
         ensures advertised { IfOk result (λ made. IsTrue made.1.advertised → SameAdvertised self.old.bases.topology self.new.bases.topology) }
+        ensures appended { OnlyAppends out.old out.new }
         ensures settings { self.new.settings ≡ self.old.settings }
     {
         match typed {
@@ -257,6 +261,7 @@ impl<B: Bases> InformationBases<B> {
         ensures settings { self.new.settings ≡ self.old.settings }
         ensures near { IfOk result (λ made. IsTrue made.1.near → SameNear self.old.bases.neighbourhood arrival.now self.new.bases.neighbourhood arrival.now) }
         ensures advertised { IfOk result (λ made. IsTrue made.1.advertised → SameAdvertised self.old.bases.topology self.new.bases.topology) }
+        ensures appended { OnlyAppends out.old out.new }
     {
         let own = self.settings().originator();
         let mut fates = Seq::new(self.settings().interfaces.allocator());
@@ -318,6 +323,8 @@ impl<B: Bases> InformationBases<B> {
         ensures sound { OnOk result (SoundBases self.new.settings arrival.now self.new.bases) }
         ensures near { IfOk result (λ made. IsTrue made.1.near → SameNear self.old.bases.neighbourhood last self.new.bases.neighbourhood arrival.now) }
         ensures advertised { IfOk result (λ made. IsTrue made.1.advertised → SameAdvertised self.old.bases.topology self.new.bases.topology) }
+        // Whatever is answered, the frames that stood in `out` stay there.
+        ensures appended { OnlyAppends out.old out.new }
     {
         let idle = self.expire(last, arrival.now)?;
         let typed = packet.typed.as_slice();

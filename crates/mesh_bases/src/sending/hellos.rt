@@ -4,6 +4,7 @@ ghost use Rattle.mesh_atoms.specs.declared.hello.Hello.{Hello as HelloValue};
 ghost use Rattle.mesh_atoms.specs.Hello.{IsHelloNow};
 ghost use Rattle.mesh_atoms.specs.Sound.{SoundNeighbourhood};
 ghost use Rattle.mesh_atoms.specs.State.{State};
+ghost use Rattle.mesh_bases.specs.Held.Outbox.{OnlyAppends};
 ghost use Rattle.mesh_bases.specs.Sending.Sent.{HellosAreSent};
 ghost use Rattle.mesh_machine.specs.declared.frame.Frame.{Frame};
 ghost use Rattle.mesh_wire.specs.Writes.{WritesHello};
@@ -45,6 +46,8 @@ pub fn send_hellos<B: Bases>(
     requires sound { SoundNeighbourhood nhdp.now.settings derived.old.last nhdp.now.near }
     ensures sent { OnOk result ((sent : List Frame) × (out.new ≡ out.old ++ sent) × HellosAreSent nhdp.now.settings nhdp.now.near derived.old derived.new sent) }
     ensures others { derived.new ≡ record derived.old { next_hello = derived.new.next_hello } }
+    // Whatever is answered, the frames that stood in `out` stay there.
+    ensures appended { OnlyAppends out.old out.new }
 {
     let now = derived.last;
     if now < derived.next_hello {

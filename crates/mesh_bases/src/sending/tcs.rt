@@ -11,6 +11,7 @@ ghost use Rattle.mesh_atoms.specs.Validity.{IsTimeValue};
 ghost use Rattle.mesh_atoms.specs.Writable.{IsSentIfSome};
 ghost use Rattle.mesh_topo.specs.declared.advertised.spans.PartSpan.{PartSpan as SpanValue};
 ghost use Rattle.mesh_topo.specs.Advertised.Spans.{part_of};
+ghost use Rattle.mesh_bases.specs.Held.Outbox.{OnlyAppends};
 ghost use Rattle.mesh_bases.specs.Sending.Sent.{HasRowsOf, TcsAreSent, PartsAreSent};
 ghost use Rattle.mesh_machine.specs.declared.frame.Frame.{Frame};
 ghost use Rattle.mesh_machine.specs.Sending.{HasToAdvertise, IsTcOfRows, SendsParts};
@@ -36,6 +37,8 @@ pub fn send_tcs(
     requires rows { (s : State) × AreTcRows s derived.old.rows }
     ensures sent { OnOk result ((sent : List Frame) × (out.new ≡ out.old ++ sent) × TcsAreSent settings.now derived.old derived.new sent) }
     ensures others { derived.new ≡ record derived.old { next_tc = derived.new.next_tc; sequence = derived.new.sequence } }
+    // Whatever is answered, the frames that stood in `out` stay there.
+    ensures appended { OnlyAppends out.old out.new }
 {
     let now = derived.last;
     if now < derived.next_tc {
@@ -79,6 +82,7 @@ fn send_parts(
     requires rows { (s : State) × AreTcRows s derived.old.rows }
     ensures sent { OnOk result ((sent : List Frame) × (out.new ≡ out.old ++ sent) × PartsAreSent settings.now derived.old derived.new sent) }
     ensures others { derived.new ≡ record derived.old { sequence = derived.new.sequence } }
+    ensures appended { OnlyAppends out.old out.new }
 {
     let validity = settings.validity()?;
     let spans = parts(alloc, derived.rows.len(), settings.tc_rows)?;
@@ -108,9 +112,10 @@ fn send_spans(
     requires within { (i : ℕ) (span : SpanValue) → slice_get spans.now i ≡ Some span → span.first + span.len ≤ length derived.now.rows }
     requires few { length derived.now.rows ≤ MOST_TC_ROWS }
     requires rows { (s : State) × AreTcRows s derived.now.rows }
-    ensures { IfOk result (λ next. (sent : List Frame) × (out.new ≡ out.old ++ sent) × (next ≡ (derived.now.sequence + length spans.now) % 65536)
+    ensures sent { IfOk result (λ next. (sent : List Frame) × (out.new ≡ out.old ++ sent) × (next ≡ (derived.now.sequence + length spans.now) % 65536)
         × ((s : State) → s.settings ≡ settings.now → HasRowsOf s derived.now →
         SendsParts s validity.now (nat_eq (length spans.now) 1) derived.now.sequence (map (part_of derived.now.rows) spans.now) sent)) }
+    ensures appended { OnlyAppends out.old out.new }
 {
     let complete = spans.len() == 1;
     let mut sequence = derived.sequence;

@@ -1,5 +1,5 @@
 -- What is promised of a frame that is heard.
-use Rattle.mesh_core.proofs.Common.{common_steps, ◌≡◌, ◌++◌, ℕ, ◌≤◌, List, [], refl, sym, ap, subst, arith, ◌∙◌, append-nil, Refusal, State, Arrival, Fate, Heard, Frame, Hears, HearsPacket, due, AreOctets, hears_due, hears_last, hears_settings, since_appends, since_is, hears_sendable, live_bases_sound, messages_sound, renews_sound, FirstFault, Outdated, EventWants, IsSoundButForDerived, IsCurrent, KeepsWanted, HearsAndKeeps, HearsTo, sent_since, All, IsSendable}
+use Rattle.mesh_core.proofs.Common.{common_steps, ◌≡◌, ◌++◌, ℕ, ◌≤◌, List, [], refl, sym, ap, subst, arith, ◌∙◌, append-nil, Refusal, State, Arrival, Fate, Heard, Frame, Hears, HearsPacket, due, AreOctets, hears_due, hears_last, hears_settings, since_appends, since_is, hears_sendable, live_bases_sound, messages_sound, renews_sound, FirstFault, Outdated, EventWants, IsSoundButForDerived, IsCurrent, KeepsWanted, HearsAndKeeps, HearsTo}
 use Rattle.mesh_machine.specs.declared.fate.Heard.TheVariants as heard
 use Rattle.mesh_core.proofs.EventLemmas.Wholes.{bases_but, but_through, sound_but}
 
@@ -54,24 +54,3 @@ alone_to wants old arrival {read} {bytes} {kept} {before} {after} {outdated} {ne
   subst (λ (o : List ℕ). HearsTo wants old arrival o heard.answer [] after outdated new) are
       (subst (λ (f : List Frame). HearsTo wants old arrival read heard.answer f after outdated new) none heard.hears),
 )
-
--- what was sent into an outbox that was empty is put at the end of another one
-pub moved_to : (wants : EventWants) (old : State) (arrival : Arrival) {bytes : List ℕ} {kept : Heard} {none sent before after : List Frame} {outdated : Outdated} {new : State} → none ≡ [] → after ≡ before ++ sent →
-    HearsAndKeeps wants old arrival bytes kept none sent outdated new → HearsAndKeeps wants old arrival bytes kept before after outdated new
-moved_to wants old arrival {bytes} {kept} {none} {sent} {before} {after} {outdated} {new} is_none out heard =
-    let to : HearsTo wants old arrival bytes heard.answer [] sent outdated new = subst (λ (f : List Frame). HearsTo wants old arrival bytes heard.answer f sent outdated new) is_none heard.hears in
-    let same : sent_since [] sent ≡ sent_since before after = since_is [] sent sent refl ∙ sym (since_is before after sent out) in
-    record {
-      answer = heard.answer;
-      kept_is = heard.kept_is;
-      hears = record {
-        appended = since_appends before after sent out;
-        leaves = subst (λ (f : List Frame). KeepsWanted (Hears old arrival bytes heard.answer f) wants outdated new) same to.leaves;
-        sound = to.sound;
-        sendable = subst (λ (f : List Frame). All (IsSendable old.settings) f) same to.sendable;
-        settings = to.settings;
-        last = to.last;
-        no_earlier = to.no_earlier;
-        due = to.due;
-      };
-    }

@@ -1,5 +1,5 @@
 -- What an event promises of a router of which not all may have been wanted.
-use Rattle.std.specs.Prelude.{◌≡◌, ◌<◌, ◌≤◌, ◌++◌, ℕ, List, length, Bool, IsTrue, All}
+use Rattle.std.specs.Prelude.{◌≡◌, ◌<◌, ◌≤◌, ◌++◌, ℕ, List, length, take, Bool, Result, All, OnOk, OnErr}
 use Rattle.mesh_atoms.specs.State.{State}
 use Rattle.mesh_core.specs.declared.event.outdated.Outdated.{Outdated}
 use Rattle.mesh_core.specs.declared.event.outdated.EventWants.{EventWants}
@@ -46,9 +46,8 @@ pub record HearsAndKeeps (wants : EventWants) (old : State) (arrival : Arrival) 
   pub kept_is : kept ≡ kept_answer wants.fates answer
   pub hears : HearsTo wants old arrival bytes answer before after outdated new
 
--- it is ready for a tick of its clock, at which relays are wanted
-pub record IsReadyToTick (wants : EventWants) (outdated : Outdated) (s : State) : Type 0 where
-  pub relays : IsTrue wants.relays
+-- it is ready for a tick of its clock
+pub record IsReadyToTick (outdated : Outdated) (s : State) : Type 0 where
   pub sound : IsSoundButForDerived s
   pub current : IsCurrent outdated s
 
@@ -61,3 +60,8 @@ pub record TicksTo (wants : EventWants) (old : State) (now : ℕ) (before after 
   pub settings : new.settings ≡ old.settings
   pub last : new.last ≡ now
   pub due : now < due new
+
+-- what an event that met an allocation failure has put behind so many frames is taken out, and what any other one has put there stays
+pub record TakesBack {A E : Type 0} (came : Result A E) (count : ℕ) (before after : List Frame) : Type 0 where
+  pub ok : OnOk came (after ≡ before)
+  pub err : OnErr came (after ≡ take count before)

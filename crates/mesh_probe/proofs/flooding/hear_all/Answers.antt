@@ -28,7 +28,7 @@ loop-arc-preserved g c =
           let here = map state c.loop-arc.routers in
           let there = map state w.hear_one.new.routers in
           let h : HearsFrame c.args.now c.args.sender octets arc.to arc.to_iface here there c.loop-arc.sent.items w.hear_one.new.sent.items =
-          subst (λ bytes. HearsFrame c.args.now c.args.sender bytes arc.to arc.to_iface here there c.loop-arc.sent.items w.hear_one.new.sent.items) c.as_slice-octets.ensures w.in_ok-hear_one.ensures in
+          subst (λ bytes. HearsFrame c.args.now c.args.sender bytes arc.to arc.to_iface here there c.loop-arc.sent.items w.hear_one.new.sent.items) c.in_ok-heard.ensures w.in_ok-hear_one.ensures in
           rw (w.routers-is, w.sent-is)
           (turns s c.args.now c.args.sender octets x i old at arc c.is_arc_from.result here there c.loop-arc.sent.items w.hear_one.new.sent.items is less c.is_arc_from.ensures w.if-is_arc_from.true h c.loop-arc.invariant)
       | else-is_arc_from w ↦

@@ -22,7 +22,7 @@ returns-clause-taken g c =
       sends = ap (λ (r : RouterSettings). forwarding (length r.interfaces) c.args.received.now.octets.now c.judge-verdict.result.forward) c.settings.ensures;
     } in (
       sent,
-      c.in_ok-send_on.ensures,
+      c.in_ok-send_on.ensures.sent,
       tc_processed settings c.args.own c.args.arrival old c.args.received.now.tc.now c.args.received.now.heading.now c.args.received.now.octets.now c.read_tc.new.topology c.note.new.self.noted sent c.judge-verdict.result.forward
           c.in_ok-read.read c.in_ok-read.processed c.judge-verdict.result.process c.judge-verdict.ensures.process c.in_ok-read.ensures.reads considered,
     )

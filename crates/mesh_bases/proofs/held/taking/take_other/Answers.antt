@@ -17,7 +17,7 @@ returns-in_ok-send_on-in-Some-clause-taken g c =
     let (link, selector, answered) = c.judge-verdict.ensures.forward in
     let sent : List Frame = forwarding (length c.settings.result.now.interfaces) c.args.octets.now c.judge-verdict.result.forward in (
       sent,
-      c.in_ok-send_on-in-Some.ensures,
+      c.in_ok-send_on-in-Some.ensures.sent,
       λ topology message reads.
           let old : Bases = record { neighbourhood = c.args.nhdp.now.near; topology = topology; noted = c.args.flood.now.noted } in
           let considered : ConsidersForwarding settings c.args.own c.args.arrival c.in-Some.heading c.args.octets.now false old c.note.new.self.noted sent c.judge-verdict.result.forward =

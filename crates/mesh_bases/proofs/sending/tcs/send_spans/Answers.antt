@@ -34,8 +34,8 @@ loop-i-preserved c =
       number = next_number derived.sequence i number _ c.loop-i.invariant.number refl;
     }
 
-pub returns : goal.returns
-returns c =
+pub returns-clause-sent : goal.returns-clause-sent
+returns-clause-sent c =
     let derived : Derived = c.args.derived.now in
     let spans : List PartSpan = c.args.spans.now in
     let value : List ℕ = c.args.validity.now in
