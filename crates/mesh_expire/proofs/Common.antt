@@ -1,7 +1,7 @@
 -- The names that the proofs of this crate cite of its definitions and of the crates below, passed on from one place.
 pub use Rattle.mesh_atoms.proofs.Options.{none_is_some, on_err_of}
 pub use Rattle.mesh_atoms.specs.Base.{Base, Expires, HasDistinctKeys, IsFresh, SetsOnly, find, if_live}
-pub use Rattle.mesh_expire.specs.Index.Moments.{AreMomentsOf, PutsAt, SetsMoment, TakesAt, is_moment, once_if, times_at, times_in, until_of}
+pub use Rattle.mesh_expire.specs.Index.Moments.{AreMomentsOf, IsIndexed, PutsAt, SetsMoment, TakesAt, is_moment, once_if, times_at, times_in, until_of}
 pub use Rattle.mesh_expire.specs.Table.{TakesExpired, changed_at}
 pub use Rattle.std.proofs.Common.{Bool, IfSome, IsSome, List, None, Option, Some, [], add-one, ap, arith, cond, drop, false, get_or, get_or-set_other, get_or-set_same, get_or-take, if◌then◌else◌, inl, inr, insert, is_some, length, length-take, map, nat_eq, nat_lt, option_map, refl, remove, rules, slice_get, slice_set, subst, suc, swap_remove, sym, take, true, unwrap_or, zero, ℕ, ◌&&◌, ◌++◌, ◌+◌, ◌-◌, ◌<◌, ◌∙◌, ◌∷◌, ◌≡◌, ◌≤◌}
 pub use Rattle.std.proofs.lemmas.Bool.{cases_order, eqb-true, le-ltb, lt-ltb}

@@ -1,6 +1,6 @@
 -- Entries that stand up to a moment, and a look over their places from the last on.
 use Rattle.mesh_expire.proofs.Common.{common_steps, ◌≡◌, ℕ, ◌+◌, ◌<◌, ◌≤◌, arith, Bool, true, false, cond, length, Option, Some, None, refl, sym, ap, subst, ◌∙◌, inl, inr, slice_get, swap_remove, if◌then◌else◌, is_some, IfSome, IsEquivalence, cases_order, lookup_from_place, Base, HasDistinctKeys, find, SetsOnly, if_live, Expires, none_is_some, changed_at, TakesExpired}
-use Rattle.mesh_expire.specs.Swept.{AreNotBefore}
+use Rattle.mesh_expire.specs.Swept.{AreNotBefore, IsSwept}
 use Rattle.mesh_expire.proofs.Gone.{live_without, all_expired}
 use Rattle.mesh_expire.proofs.Laws.{walked, swapped_at, sets-changed_at}
 use Rattle.mesh_expire.proofs.Places.{all_fresh}
@@ -30,22 +30,22 @@ module _ {K V : Type 0} (eq : K → K → Bool) where
   taken_found laws now es es' place x at h7 distinct gone = grind (arith, common_steps, taken_at)
 
   -- the old base has come to `es` by a look over the places from the last on down to `place`: the expired entries there are gone, and no other is before `soonest`
-  pub record IsSwept (now soonest : ℕ) (old es : Base K V) (place : ℕ) : Type 0 where
+  pub record IsSweptFrom (now soonest : ℕ) (old es : Base K V) (place : ℕ) : Type 0 where
     pub distinct : HasDistinctKeys eq es
     pub live : (q : K) → if_live now (find eq es q) ≡ if_live now (find eq old q)
     pub few : length es ≤ length old
     pub all : length es ≡ length old → es ≡ old
     pub stands : (i : ℕ) (e : K × (V × ℕ)) → place ≤ i → slice_get es i ≡ Some e → (now < e.1.1) × (soonest ≤ e.1.1)
 
-  pub swept_all : (exact : (a b : K) → eq a b ≡ true → a ≡ b) (now soonest : ℕ) (old es : Base K V) (place : ℕ) → IsSwept now soonest old es place → place ≤ 0 → Expires eq now old es × AreNotBefore eq soonest es
+  pub swept_all : (exact : (a b : K) → eq a b ≡ true → a ≡ b) (now soonest : ℕ) (old es : Base K V) (place : ℕ) → IsSweptFrom now soonest old es place → place ≤ 0 → Expires eq now old es × IsSwept eq soonest es
   swept_all exact now soonest old es place swept front = (
     all_expired eq now old es es refl (all_fresh exact now es (λ i e at. (swept.stands i e (omega (arith, front)) at).0)) swept.live,
-    λ q entry found. walked exact es (λ e. soonest ≤ e.1.1) (λ i e _ at. (swept.stands i e (omega (arith, front)) at).1) q entry found,
+    record { not_before = λ q entry found. walked exact es (λ e. soonest ≤ e.1.1) (λ i e _ at. (swept.stands i e (omega (arith, front)) at).1) q entry found; distinct = swept.distinct },
   )
 
-  module _ (now soonest : ℕ) (old es : Base K V) (above place : ℕ) (next : above ≤ place + 1) (swept : IsSwept now soonest old es above) where
+  module _ (now soonest : ℕ) (old es : Base K V) (above place : ℕ) (next : above ≤ place + 1) (swept : IsSweptFrom now soonest old es above) where
     -- there is no entry at the place before
-    pub swept_past : None ≡ slice_get es place → IsSwept now soonest old es place
+    pub swept_past : None ≡ slice_get es place → IsSweptFrom now soonest old es place
     swept_past none = record { distinct = swept.distinct; live = swept.live; few = swept.few; all = swept.all; stands = stands } where
       stands : (i : ℕ) (e : K × (V × ℕ)) → place ≤ i → slice_get es i ≡ Some e → (now < e.1.1) × (soonest ≤ e.1.1)
       stands i e from is = elim (cases_order i place) [
@@ -55,7 +55,7 @@ module _ {K V : Type 0} (eq : K → K → Bool) where
       ]
 
     -- the entry at the place before stays
-    pub swept_with : (soonest' : ℕ) (x : K × (V × ℕ)) → Some x ≡ slice_get es place → now < x.1.1 → soonest' ≤ x.1.1 → soonest' ≤ soonest → IsSwept now soonest' old es place
+    pub swept_with : (soonest' : ℕ) (x : K × (V × ℕ)) → Some x ≡ slice_get es place → now < x.1.1 → soonest' ≤ x.1.1 → soonest' ≤ soonest → IsSweptFrom now soonest' old es place
     swept_with soonest' x at late not_before less = record { distinct = swept.distinct; live = swept.live; few = swept.few; all = swept.all; stands = stands } where
       stands : (i : ℕ) (e : K × (V × ℕ)) → place ≤ i → slice_get es i ≡ Some e → (now < e.1.1) × (soonest' ≤ e.1.1)
       stands i e from is = elim (cases_order i place) [
@@ -70,7 +70,7 @@ module _ {K V : Type 0} (eq : K → K → Bool) where
     -- the entry at the place before, which is expired, goes
     pub swept_without : (laws : IsEquivalence eq) (es' : Base K V) (x : K × (V × ℕ)) (gone : Option (K × (V × ℕ))) → Some x ≡ slice_get es place → x.1.1 ≤ now → gone ≡ slice_get es place
         → IfSome gone (λ p. es' ≡ swap_remove es place p) → IfSome gone (λ p. SetsOnly eq es es' p.0 None) → length es' + (if is_some gone then 1 else 0) ≡ length es → HasDistinctKeys eq es'
-        → IsSwept now soonest old es' place
+        → IsSweptFrom now soonest old es' place
     swept_without laws es' x gone at late there entries sets len distinct =
         let is : gone ≡ Some x = there ∙ sym at in
         let new : es' ≡ swap_remove es place x = held (λ p. es' ≡ swap_remove es place p) gone x is entries in

@@ -1,10 +1,9 @@
 //! A table of many tuples that expire together.
 ghost use Rattle.std.specs.Prelude.{◌≡◌, ◌+◌, ◌<◌, ◌≤◌, ℕ, length, slice_get, swap_remove, false, if◌then◌else◌, is_some, OnOk, OnErr, IfOk, IfSome, IfNone, IsTrue, IsSome, ◌↔◌, option_map, Some, None};
-ghost use Rattle.mesh_atoms.specs.Base.{HasDistinctKeys, find, SetsOnly, Expires, IsFresh};
+ghost use Rattle.mesh_atoms.specs.Base.{find, SetsOnly, Expires, IsFresh};
 ghost use Rattle.mesh_expire.specs.Table.{changed_at, TakesExpired};
-ghost use Rattle.mesh_expire.specs.Swept.{AreNotBefore};
+ghost use Rattle.mesh_expire.specs.Swept.{IsSwept};
 
-use crate::distinct::map_keys_are_distinct;
 use crate::table::{Key, PlacedTable, Table};
 use indexmap::IndexMap;
 use std::alloc::{AllocError, Global};
@@ -22,22 +21,21 @@ pub struct SweptTable<K: Key + Hash, V> {
 
 impl<K: Key + Hash, V> Model for SweptTable<K, V> {
     ghost use Rattle.mesh_atoms.specs.Base.{Base};
-    ghost use Rattle.mesh_expire.specs.Swept.{AreNotBefore};
+    ghost use Rattle.mesh_expire.specs.Swept.{IsSwept};
 
     ghost Value = { Base K V };
 
     ghost view = { λ t. t.map.entries };
 
-    ghost invariant = { λ t. AreNotBefore K.eq t.soonest t.map.entries };
+    ghost invariant = { λ t. IsSwept K.eq t.soonest t.map.entries };
 }
 
 // Takes out each entry whose moment is at or below now, from the last place on, and gives the least moment of the others.
 fn sweep<K: Key + Hash + Drop, V: Drop>(map: &mut IndexMap<K, (V, u64)>, now: u64) -> u64
-    ensures distinct { HasDistinctKeys K.eq map.new.entries }
     ensures kept { Expires K.eq now map.old.entries map.new.entries }
     ensures none { length map.new.entries ≡ length map.old.entries → map.new.entries ≡ map.old.entries }
     ensures fewer { length map.new.entries ≤ length map.old.entries }
-    ensures soonest { AreNotBefore K.eq result map.new.entries }
+    ensures swept { IsSwept K.eq result map.new.entries }
 {
     let mut place = map.len();
     let mut soonest = u64::MAX;
@@ -76,9 +74,8 @@ fn put_in<K: Key + Hash + Drop, V: Drop>(
     value: V,
     until: u64,
 ) -> Result<(), AllocError>
-    requires { AreNotBefore K.eq soonest.old map.old.entries }
-    ensures soonest { AreNotBefore K.eq soonest.new map.new.entries }
-    ensures distinct { HasDistinctKeys K.eq map.new.entries }
+    requires { IsSwept K.eq soonest.old map.old.entries }
+    ensures swept { IsSwept K.eq soonest.new map.new.entries }
     ensures ok { OnOk result (SetsOnly K.eq map.old.entries map.new.entries key (Some (value, until))) }
     ensures err { OnErr result (map.new.entries ≡ map.old.entries) }
     ensures count { OnOk result (length map.new.entries ≡ length map.old.entries + (if is_some (find K.eq map.old.entries key) then 0 else 1)) }
@@ -95,9 +92,8 @@ fn renew_in<K: Key + Hash + Drop, V: Drop>(
     value: V,
     until: u64,
 ) -> Option<V>
-    requires { AreNotBefore K.eq soonest.old map.old.entries }
-    ensures soonest { AreNotBefore K.eq soonest.new map.new.entries }
-    ensures distinct { HasDistinctKeys K.eq map.new.entries }
+    requires { IsSwept K.eq soonest.old map.old.entries }
+    ensures swept { IsSwept K.eq soonest.new map.new.entries }
     ensures before { result ≡ option_map (λ e. e.0) (find K.eq map.old.entries key.now) }
     ensures changed { map.new.entries ≡ changed_at K.eq map.old.entries key.now (λ _. (value, until)) }
 {
@@ -113,9 +109,8 @@ fn set_until_in<K: Key + Hash + Drop, V>(
     key: &K,
     until: u64,
 ) -> bool
-    requires { AreNotBefore K.eq soonest.old map.old.entries }
-    ensures soonest { AreNotBefore K.eq soonest.new map.new.entries }
-    ensures distinct { HasDistinctKeys K.eq map.new.entries }
+    requires { IsSwept K.eq soonest.old map.old.entries }
+    ensures swept { IsSwept K.eq soonest.new map.new.entries }
     ensures found { IsTrue result ↔ IsSome (find K.eq map.old.entries key.now) }
     ensures changed { map.new.entries ≡ changed_at K.eq map.old.entries key.now (λ e. (e.0, until)) }
 {
@@ -132,9 +127,8 @@ fn expire_in<K: Key + Hash + Drop, V: Drop>(
     soonest: &mut u64,
     now: u64,
 ) -> usize
-    requires { AreNotBefore K.eq soonest.old map.old.entries }
-    ensures soonest { AreNotBefore K.eq soonest.new map.new.entries }
-    ensures distinct { HasDistinctKeys K.eq map.new.entries }
+    requires { IsSwept K.eq soonest.old map.old.entries }
+    ensures swept { IsSwept K.eq soonest.new map.new.entries }
     ensures kept { Expires K.eq now map.old.entries map.new.entries }
     ensures count { result + length map.new.entries ≡ length map.old.entries }
     ensures none { result ≡ 0 → map.new.entries ≡ map.old.entries }
@@ -152,15 +146,13 @@ fn take_next<K: Key + Hash + Drop, V: Drop>(
     soonest: u64,
     now: u64,
 ) -> Option<(K, V)>
-    requires { AreNotBefore K.eq soonest map.old.entries }
-    ensures soonest { AreNotBefore K.eq soonest map.new.entries }
-    ensures distinct { HasDistinctKeys K.eq map.new.entries }
+    requires { IsSwept K.eq soonest map.old.entries }
+    ensures swept { IsSwept K.eq soonest map.new.entries }
     ensures some { IfSome result (λ e. TakesExpired K.eq now e.0 e.1 map.old.entries map.new.entries) }
     ensures none { IfNone result (map.new.entries ≡ map.old.entries) }
     ensures fresh { IfNone result (IsFresh K.eq now map.old.entries) }
     ensures count { length map.new.entries + (if is_some result then 1 else 0) ≡ length map.old.entries }
 {
-    map_keys_are_distinct(map);
     if now < soonest {
         return None;
     }

@@ -1,6 +1,6 @@
 -- The moments of a table, in order, and at each the keys of the entries that end at it.
-use Rattle.mesh_expire.proofs.Common.{common_steps, lt-ltb, le-ltb, eqb-true, ◌≡◌, ℕ, zero, suc, ◌+◌, ◌-◌, ◌<◌, ◌≤◌, arith, Bool, true, false, cond, ◌&&◌, List, [], ◌∷◌, ◌++◌, length, drop, take, Option, Some, None, refl, sym, ap, subst, ◌∙◌, nat_eq, if◌then◌else◌, is_some, option_map, slice_get, unwrap_or, nat_cmp, IsEquivalence, nat_eq_equiv, BTreeMap, get, is_at, set_value, lookup_from_place, Base, HasDistinctKeys, find, SetsOnly, Expires, IsFresh, if_live, once_if, times_in, times_at, PutsAt, TakesAt, is_moment, until_of, AreMomentsOf, SetsMoment, changed_at, TakesExpired, none_is_some}
-use Rattle.mesh_expire.proofs.Laws.{find_same, find-changed_at, changed_at-set_value}
+use Rattle.mesh_expire.proofs.Common.{common_steps, lt-ltb, le-ltb, eqb-true, ◌≡◌, ℕ, zero, suc, ◌+◌, ◌-◌, ◌<◌, ◌≤◌, arith, Bool, true, false, cond, ◌&&◌, List, [], ◌∷◌, ◌++◌, length, drop, take, Option, Some, None, refl, sym, ap, subst, ◌∙◌, nat_eq, if◌then◌else◌, is_some, option_map, slice_get, unwrap_or, nat_cmp, IsEquivalence, nat_eq_equiv, BTreeMap, get, is_at, set_value, lookup_from_place, Base, HasDistinctKeys, find, SetsOnly, Expires, IsFresh, if_live, once_if, times_in, times_at, PutsAt, TakesAt, is_moment, until_of, AreMomentsOf, IsIndexed, SetsMoment, changed_at, TakesExpired, none_is_some}
+use Rattle.mesh_expire.proofs.Laws.{find_same, find-changed_at, changed_at-set_value, distinct-changed_at}
 
 goes : (b e : Bool) (x : ℕ) → x ≡ cond e (once_if b) x → x - once_if (b && e) ≡ cond e 0 x
 goes b e x h = grind (arith, common_steps)
@@ -161,7 +161,9 @@ module _ {K : Type 0} (eq : K → K → Bool) where
     same_moment value true (Some x) = refl
     same_moment value false o = refl
 
-    -- another record leaves the moments
-    pub still_told : (laws : IsEquivalence eq) (moments : BTreeMap ℕ (List K)) (base new : Base K V) (key : K) (value : V) → AreMomentsOf eq moments base → new ≡ changed_at eq base key (λ e. (value, e.1)) → AreMomentsOf eq moments new
-    still_told laws moments base new key value tells h m q =
-        tells m q ∙ ap (λ o. once_if (is_moment o m)) (same_moment value (eq key q) (find eq base q) ∙ ap until_of (sym (find-changed_at laws key (λ e. (value, e.1)) q base)) ∙ ap (λ (l : Base K V). until_of (find eq l q)) (sym h))
+    -- another record leaves the moments and the keys
+    pub still_indexed : (laws : IsEquivalence eq) (moments : BTreeMap ℕ (List K)) (base new : Base K V) (key : K) (value : V) → IsIndexed eq moments base → new ≡ changed_at eq base key (λ e. (value, e.1)) → IsIndexed eq moments new
+    still_indexed laws moments base new key value indexed h = record {
+      tells = λ m q. indexed.tells m q ∙ ap (λ o. once_if (is_moment o m)) (same_moment value (eq key q) (find eq base q) ∙ ap until_of (sym (find-changed_at laws key (λ e. (value, e.1)) q base)) ∙ ap (λ (l : Base K V). until_of (find eq l q)) (sym h));
+      distinct = rw h (distinct-changed_at eq key (λ e. (value, e.1)) base indexed.distinct);
+    }

@@ -2,7 +2,7 @@
 use Rattle.std.specs.Prelude.{◌≡◌, ℕ, ◌+◌, ◌-◌, Bool, true, false, cond, ◌&&◌, List, [], ◌∷◌, Option, None, Some, nat_eq, option_map, unwrap_or}
 use Rattle.std.specs.Ordering.{nat_cmp}
 use Rattle.std.specs.BTreeMap.{BTreeMap, get}
-use Rattle.mesh_atoms.specs.Base.{Base, find}
+use Rattle.mesh_atoms.specs.Base.{Base, HasDistinctKeys, find}
 
 -- once where it is so, else not at all
 abbrev pub once_if : Bool → ℕ
@@ -41,6 +41,11 @@ until_of entry = option_map (λ e. e.1) entry
 abbrev pub AreMomentsOf : {K V : Type 0} → (K → K → Bool) → BTreeMap ℕ (List K) → Base K V → Type 0
 AreMomentsOf {K} eq moments base =
     (moment : ℕ) (key : K) → times_at eq moments moment key ≡ once_if (is_moment (until_of (find eq base key)) moment)
+
+-- the moments are those of the entries, and no key stands twice
+pub record IsIndexed {K V : Type 0} (eq : K → K → Bool) (moments : BTreeMap ℕ (List K)) (base : Base K V) : Type 0 where
+  pub tells : AreMomentsOf eq moments base
+  pub distinct : HasDistinctKeys eq base
 
 -- at each moment the keys stand as before, but that key once at the one that is given, and at no other
 abbrev pub SetsMoment : {K : Type 0} → (K → K → Bool) → BTreeMap ℕ (List K) → BTreeMap ℕ (List K) → K → Option ℕ → Type 0

@@ -1,10 +1,9 @@
 //! A table with an index of its keys, and one of its moments.
 ghost use Rattle.std.specs.Prelude.{◌≡◌, ◌≤◌, ◌<◌, ℕ, ◌+◌, length, slice_get, swap_remove, true, false, if◌then◌else◌, is_some, IfOk, OnOk, OnErr, IfSome, IfNone, IsTrue, IsSome, ◌↔◌, option_map, Some, None};
-ghost use Rattle.mesh_atoms.specs.Base.{HasDistinctKeys, find, SetsOnly, Expires, IsFresh};
+ghost use Rattle.mesh_atoms.specs.Base.{find, SetsOnly, Expires, IsFresh};
 ghost use Rattle.mesh_expire.specs.Table.{changed_at, TakesExpired};
-ghost use Rattle.mesh_expire.specs.Index.Moments.{AreMomentsOf};
+ghost use Rattle.mesh_expire.specs.Index.Moments.{IsIndexed};
 
-use crate::distinct::map_keys_are_distinct;
 use crate::index::moments::{Bucket, move_moment, put_key, take_expired, take_key};
 use crate::{Key, PlacedTable, Table};
 use indexmap::IndexMap;
@@ -22,13 +21,13 @@ pub struct IndexTable<K: Key + Ord + Hash, V> {
 
 impl<K: Key + Ord + Hash, V> Model for IndexTable<K, V> {
     ghost use Rattle.mesh_atoms.specs.Base.{Base};
-    ghost use Rattle.mesh_expire.specs.Index.Moments.{AreMomentsOf};
+    ghost use Rattle.mesh_expire.specs.Index.Moments.{IsIndexed};
 
     ghost Value = { Base K V };
 
     ghost view = { λ t. t.map.entries };
 
-    ghost invariant = { λ t. AreMomentsOf K.eq t.moments t.map.entries };
+    ghost invariant = { λ t. IsIndexed K.eq t.moments t.map.entries };
 }
 
 // Makes the entry of a key that has none.
@@ -39,11 +38,9 @@ fn add_in<K: Key + Hash + Drop, V: Drop>(
     value: V,
     until: u64,
 ) -> Result<(), AllocError>
-    requires tells { AreMomentsOf K.eq moments.old map.old.entries }
-    requires distinct { HasDistinctKeys K.eq map.old.entries }
+    requires indexed { IsIndexed K.eq moments.old map.old.entries }
     requires absent { find K.eq map.old.entries key ≡ None }
-    ensures tells { AreMomentsOf K.eq moments.new map.new.entries }
-    ensures distinct { HasDistinctKeys K.eq map.new.entries }
+    ensures indexed { IsIndexed K.eq moments.new map.new.entries }
     ensures ok { OnOk result (SetsOnly K.eq map.old.entries map.new.entries key (Some (value, until))) }
     ensures err { OnErr result (map.new.entries ≡ map.old.entries) }
     ensures count { OnOk result (length map.new.entries ≡ length map.old.entries + 1) }
@@ -63,9 +60,8 @@ fn put_in<K: Key + Hash + Drop, V: Drop>(
     value: V,
     until: u64,
 ) -> Result<(), AllocError>
-    requires { AreMomentsOf K.eq moments.old map.old.entries }
-    ensures tells { AreMomentsOf K.eq moments.new map.new.entries }
-    ensures distinct { HasDistinctKeys K.eq map.new.entries }
+    requires { IsIndexed K.eq moments.old map.old.entries }
+    ensures indexed { IsIndexed K.eq moments.new map.new.entries }
     ensures ok { OnOk result (SetsOnly K.eq map.old.entries map.new.entries key (Some (value, until))) }
     ensures err { OnErr result (map.new.entries ≡ map.old.entries) }
     ensures count { OnOk result (length map.new.entries ≡ length map.old.entries + (if is_some (find K.eq map.old.entries key) then 0 else 1)) }
@@ -86,9 +82,8 @@ fn renew_in<K: Key + Hash + Drop, V: Drop>(
     value: V,
     until: u64,
 ) -> Result<Option<V>, AllocError>
-    requires { AreMomentsOf K.eq moments.old map.old.entries }
-    ensures tells { AreMomentsOf K.eq moments.new map.new.entries }
-    ensures distinct { HasDistinctKeys K.eq map.new.entries }
+    requires { IsIndexed K.eq moments.old map.old.entries }
+    ensures indexed { IsIndexed K.eq moments.new map.new.entries }
     ensures before { IfOk result (λ before. before ≡ option_map (λ e. e.0) (find K.eq map.old.entries key.now)) }
     ensures ok { OnOk result (map.new.entries ≡ changed_at K.eq map.old.entries key.now (λ _. (value, until))) }
     ensures err { OnErr result (map.new.entries ≡ map.old.entries) }
@@ -107,9 +102,8 @@ fn remove_from<K: Key + Hash + Drop, V: Drop>(
     moments: &mut BTreeMap<u64, Bucket<K>>,
     key: &K,
 ) -> bool
-    requires { AreMomentsOf K.eq moments.old map.old.entries }
-    ensures tells { AreMomentsOf K.eq moments.new map.new.entries }
-    ensures distinct { HasDistinctKeys K.eq map.new.entries }
+    requires { IsIndexed K.eq moments.old map.old.entries }
+    ensures indexed { IsIndexed K.eq moments.new map.new.entries }
     ensures found { IsTrue result ↔ IsSome (find K.eq map.old.entries key.now) }
     ensures removed { SetsOnly K.eq map.old.entries map.new.entries key.now None }
     ensures unchanged { result ≡ false → map.new.entries ≡ map.old.entries }
@@ -127,14 +121,12 @@ fn remove_from_place<K: Key + Hash + Drop, V: Drop>(
     moments: &mut BTreeMap<u64, Bucket<K>>,
     place: usize,
 ) -> bool
-    requires { AreMomentsOf K.eq moments.old map.old.entries }
-    ensures tells { AreMomentsOf K.eq moments.new map.new.entries }
-    ensures distinct { HasDistinctKeys K.eq map.new.entries }
+    requires { IsIndexed K.eq moments.old map.old.entries }
+    ensures indexed { IsIndexed K.eq moments.new map.new.entries }
     ensures found { IsTrue result ↔ (place < length map.old.entries) }
     ensures removed { (e : K × (V × ℕ)) → slice_get map.old.entries place ≡ Some e → map.new.entries ≡ swap_remove map.old.entries place e }
     ensures unchanged { result ≡ false → map.new.entries ≡ map.old.entries }
 {
-    map_keys_are_distinct(map);
     let Some((key, entry)) = map.swap_remove_index(place) else {
         return false;
     };
@@ -147,15 +139,13 @@ fn take_next<K: Key + Hash + Drop, V: Drop>(
     moments: &mut BTreeMap<u64, Bucket<K>>,
     now: u64,
 ) -> Option<(K, V)>
-    requires { AreMomentsOf K.eq moments.old map.old.entries }
-    ensures tells { AreMomentsOf K.eq moments.new map.new.entries }
-    ensures distinct { HasDistinctKeys K.eq map.new.entries }
+    requires { IsIndexed K.eq moments.old map.old.entries }
+    ensures indexed { IsIndexed K.eq moments.new map.new.entries }
     ensures some { IfSome result (λ e. TakesExpired K.eq now e.0 e.1 map.old.entries map.new.entries) }
     ensures none { IfNone result (map.new.entries ≡ map.old.entries) }
     ensures fresh { IfNone result (IsFresh K.eq now map.old.entries) }
     ensures count { length map.new.entries + (if is_some result then 1 else 0) ≡ length map.old.entries }
 {
-    map_keys_are_distinct(map);
     let Some(key) = take_expired(moments, now) else {
         return None;
     };
@@ -171,9 +161,8 @@ fn drop_expired<K: Key + Hash + Drop, V: Drop>(
     moments: &mut BTreeMap<u64, Bucket<K>>,
     now: u64,
 ) -> usize
-    requires { AreMomentsOf K.eq moments.old map.old.entries }
-    ensures tells { AreMomentsOf K.eq moments.new map.new.entries }
-    ensures distinct { HasDistinctKeys K.eq map.new.entries }
+    requires { IsIndexed K.eq moments.old map.old.entries }
+    ensures indexed { IsIndexed K.eq moments.new map.new.entries }
     ensures kept { Expires K.eq now map.old.entries map.new.entries }
     ensures count { result + length map.new.entries ≡ length map.old.entries }
     ensures none { result ≡ 0 → map.new.entries ≡ map.old.entries }
@@ -189,9 +178,8 @@ fn set_until_in<K: Key + Hash + Drop, V>(
     key: &K,
     until: u64,
 ) -> Result<bool, AllocError>
-    requires { AreMomentsOf K.eq moments.old map.old.entries }
-    ensures tells { AreMomentsOf K.eq moments.new map.new.entries }
-    ensures distinct { HasDistinctKeys K.eq map.new.entries }
+    requires { IsIndexed K.eq moments.old map.old.entries }
+    ensures indexed { IsIndexed K.eq moments.new map.new.entries }
     ensures found { IfOk result (λ was_there. IsTrue was_there ↔ IsSome (find K.eq map.old.entries key.now)) }
     ensures ok { OnOk result (map.new.entries ≡ changed_at K.eq map.old.entries key.now (λ e. (e.0, until))) }
     ensures err { OnErr result (map.new.entries ≡ map.old.entries) }

@@ -14,5 +14,5 @@ loop-place-preserved g c = grind (arith, common_steps, IfSome_then, c.loop-place
 pub returns-clause-kept : goal.returns-clause-kept
 returns-clause-kept g c = (swept_all g.K.PartialEq.eq g.met.K.Key.exact c.args.now c.loop-place.soonest c.args.map.now.entries c.loop-place.map.entries c.loop-place.place c.loop-place.invariant (omega (arith, c.loop-place-test.false))).0
 
-pub returns-clause-soonest : goal.returns-clause-soonest
-returns-clause-soonest g c = (swept_all g.K.PartialEq.eq g.met.K.Key.exact c.args.now c.loop-place.soonest c.args.map.now.entries c.loop-place.map.entries c.loop-place.place c.loop-place.invariant (omega (arith, c.loop-place-test.false))).1
+pub returns-clause-swept : goal.returns-clause-swept
+returns-clause-swept g c = (swept_all g.K.PartialEq.eq g.met.K.Key.exact c.args.now c.loop-place.soonest c.args.map.now.entries c.loop-place.map.entries c.loop-place.place c.loop-place.invariant (omega (arith, c.loop-place-test.false))).1

@@ -9,4 +9,4 @@ returns-in_err-place-clause-fresh g c = grind (arith, common_steps, all_fresh, c
 pub returns-clause-some : goal.returns-clause-some
 returns-clause-some g c =
     taken_found g.K.PartialEq.eq g.met.K.Eq.laws c.args.now c.args.map.now.entries c.swap_remove_index.new.self.entries c.in_ok-place.place (c.in_ok-key.key, c.in_ok-key.entry)
-    c.in_ok-key.ensures.entry c.in_ok-place.ensures.some c.map_keys_are_distinct.ensures (λ q. c.in_ok-key.ensures.updates.0 q)
+    c.in_ok-key.ensures.entry c.in_ok-place.ensures.some c.requires.distinct (λ q. c.in_ok-key.ensures.updates.0 q)
