@@ -58,53 +58,43 @@ fn read_tc<B: Bases>(
     }
 }
 
-// A TC that is received, with the heading by which it is flooded, and the octets that spell it.
+// A message that is taken: how its frame arrived, the originator address of the router, and the octets that spell the message.
 #[derive(Clone, Copy)]
-struct ReceivedTc<'a> {
-    tc: &'a Tc,
-    heading: &'a Heading,
+struct TakenMessage<'a> {
+    arrival: Arrival,
+    own: Addr4,
     octets: &'a [u8],
 }
 
-// Takes a TC that breaks no rule: its fate, and what it has left as it was.
+// Takes a TC that breaks no rule, with the heading by which it is flooded: its fate, and what it has left as it was.
 fn process_tc<B: Bases>(
     nhdp: &Nhdp<B>,
     topology: &mut Topology<B>,
     flood: &mut Flood<B>,
-    arrival: Arrival,
-    own: Addr4,
-    received: &ReceivedTc,
+    taken: &TakenMessage,
+    tc: &Tc,
+    heading: &Heading,
     out: &mut Outbox,
 ) -> Result<(Fate, Quiet), AllocError>
-    requires now { arrival.now < 2 ^ 62 }
-    requires iface { arrival.iface < length flood.old.noted.received }
+    requires now { taken.now.arrival.now < 2 ^ 62 }
+    requires iface { taken.now.arrival.iface < length flood.old.noted.received }
     requires times { flood.old.times ≡ nhdp.now.settings.times }
-    requires message { (message : MessageFields) × SpellsMessage message received.now.octets.now × IsHeading message received.now.heading.now }
-    requires octets { AreOctets received.now.octets.now }
-    requires validity { received.now.tc.now.validity < 2 ^ 62 }
-    requires hosts { HasHosts received.now.tc.now }
-    ensures taken { IfOk result (λ made. (sent : List Frame) × (out.new ≡ out.old ++ sent) × ProcessesTc nhdp.now.settings own arrival
-        (record { neighbourhood = nhdp.now.near; topology = topology.old; noted = flood.old.noted }) received.now.tc.now received.now.heading.now received.now.octets.now
+    requires message { (message : MessageFields) × SpellsMessage message taken.now.octets.now × IsHeading message heading.now }
+    requires octets { AreOctets taken.now.octets.now }
+    requires validity { tc.now.validity < 2 ^ 62 }
+    requires hosts { HasHosts tc.now }
+    ensures taken { IfOk result (λ made. (sent : List Frame) × (out.new ≡ out.old ++ sent) × ProcessesTc nhdp.now.settings taken.now.own taken.now.arrival
+        (record { neighbourhood = nhdp.now.near; topology = topology.old; noted = flood.old.noted }) tc.now heading.now taken.now.octets.now
         (record { neighbourhood = nhdp.now.near; topology = topology.new; noted = flood.new.noted }) sent made.0) }
     ensures advertised { IfOk result (λ made. IsTrue made.1.advertised → SameAdvertised topology.old topology.new) }
     ensures appended { OnlyAppends out.old out.new }
     ensures times { flood.new.times ≡ flood.old.times }
 {
-    let verdict = judge(nhdp, flood, arrival, own, received.heading);
-    let (read, processed, advertised) = read_tc(
-        topology,
-        arrival.now,
-        received.tc,
-        verdict.process,
-    )?;
-    flood.note(
-        arrival.now,
-        arrival.iface,
-        received.heading,
-        &verdict,
-        processed,
-    )?;
-    send_on(nhdp.settings(), verdict.forward, received.octets, out)?;
+    let arrival = taken.arrival;
+    let verdict = judge(nhdp, flood, arrival, taken.own, heading);
+    let (read, processed, advertised) = read_tc(topology, arrival.now, tc, verdict.process)?;
+    flood.note(arrival.now, arrival.iface, heading, &verdict, processed)?;
+    send_on(nhdp.settings(), verdict.forward, taken.octets, out)?;
     let fate = Fate {
         read,
         forward: verdict.forward,
@@ -119,23 +109,24 @@ fn process_tc<B: Bases>(
 // Takes a HELLO that breaks no rule of its own: its fate, and what it has left as it was.
 fn take_hello<B: Bases>(
     nhdp: &mut Nhdp<B>,
-    arrival: Arrival,
+    taken: &TakenMessage,
     hello: &Hello,
 ) -> Result<(Fate, Quiet), AllocError>
-    requires now { arrival.now < 2 ^ 62 }
-    requires iface { arrival.iface < length nhdp.old.settings.interfaces }
-    requires sound { SoundNeighbourhood nhdp.old.settings arrival.now nhdp.old.near }
+    requires now { taken.now.arrival.now < 2 ^ 62 }
+    requires iface { taken.now.arrival.iface < length nhdp.old.settings.interfaces }
+    requires sound { SoundNeighbourhood nhdp.old.settings taken.now.arrival.now nhdp.old.near }
     requires reads { (message : MessageFields) × IsReadAsHello message hello.now }
-    ensures taken { IfOk result (λ made. (own : Addr4) (octets : List ℕ) (topology : TopologyValue) (noted : NotedMessages) (message : MessageFields)
-        → IsReadAsHello message hello.now → TakesMessage nhdp.old.settings own arrival
-        (record { neighbourhood = nhdp.old.near; topology = topology; noted = noted }) message octets
+    ensures taken { IfOk result (λ made. (topology : TopologyValue) (noted : NotedMessages) (message : MessageFields)
+        → IsReadAsHello message hello.now → TakesMessage nhdp.old.settings taken.now.own taken.now.arrival
+        (record { neighbourhood = nhdp.old.near; topology = topology; noted = noted }) message taken.now.octets.now
         (record { neighbourhood = nhdp.new.near; topology = topology; noted = noted }) [] made.0) }
-    ensures near { IfOk result (λ made. IsTrue made.1.near → SameNear nhdp.old.near arrival.now nhdp.new.near arrival.now) }
+    ensures near { IfOk result (λ made. IsTrue made.1.near → SameNear nhdp.old.near taken.now.arrival.now nhdp.new.near taken.now.arrival.now) }
     ensures settings { nhdp.new.settings ≡ nhdp.old.settings }
 {
-    let (taken, changed) = nhdp.take_and_tell(arrival.now, arrival.iface, arrival.sender, hello)?;
+    let arrival = taken.arrival;
+    let (answer, changed) = nhdp.take_and_tell(arrival.now, arrival.iface, arrival.sender, hello)?;
     let fate = Fate {
-        read: hello_read(taken),
+        read: hello_read(answer),
         forward: Forward::NotFlooded,
     };
     let quiet = Quiet {
@@ -149,19 +140,18 @@ fn take_hello<B: Bases>(
 fn take_other<B: Bases>(
     nhdp: &Nhdp<B>,
     flood: &mut Flood<B>,
-    arrival: Arrival,
-    own: Addr4,
+    taken: &TakenMessage,
     heading: &Option<Heading>,
-    octets: &[u8],
     out: &mut Outbox,
 ) -> Result<(Fate, Quiet), AllocError>
-    requires now { arrival.now < 2 ^ 62 }
-    requires iface { arrival.iface < length flood.old.noted.received }
+    requires now { taken.now.arrival.now < 2 ^ 62 }
+    requires iface { taken.now.arrival.iface < length flood.old.noted.received }
     requires times { flood.old.times ≡ nhdp.now.settings.times }
-    requires message { (message : MessageFields) × SpellsMessage message octets.now × IsReadAsOther message heading.now }
+    requires message { (message : MessageFields) × SpellsMessage message taken.now.octets.now × IsReadAsOther message heading.now }
+    requires octets { AreOctets taken.now.octets.now }
     ensures taken { IfOk result (λ made. (sent : List Frame) × (out.new ≡ out.old ++ sent) × ((topology : TopologyValue) (message : MessageFields)
-        → IsReadAsOther message heading.now → TakesMessage nhdp.now.settings own arrival
-        (record { neighbourhood = nhdp.now.near; topology = topology; noted = flood.old.noted }) message octets.now
+        → IsReadAsOther message heading.now → TakesMessage nhdp.now.settings taken.now.own taken.now.arrival
+        (record { neighbourhood = nhdp.now.near; topology = topology; noted = flood.old.noted }) message taken.now.octets.now
         (record { neighbourhood = nhdp.now.near; topology = topology; noted = flood.new.noted }) sent made.0)) }
     ensures appended { OnlyAppends out.old out.new }
     ensures times { flood.new.times ≡ flood.old.times }
@@ -175,9 +165,10 @@ fn take_other<B: Bases>(
             Ok((fate, Quiet::both()))
         }
         Some(heading) => {
-            let verdict = judge(nhdp, flood, arrival, own, heading);
+            let arrival = taken.arrival;
+            let verdict = judge(nhdp, flood, arrival, taken.own, heading);
             flood.note(arrival.now, arrival.iface, heading, &verdict, false)?;
-            send_on(nhdp.settings(), verdict.forward, octets, out)?;
+            send_on(nhdp.settings(), verdict.forward, taken.octets, out)?;
             let fate = Fate {
                 read: other_read(verdict.process),
                 forward: verdict.forward,
@@ -191,51 +182,38 @@ impl<B: Bases> InformationBases<B> {
     // Takes a message that reads so: its fate, and what it has left as it was.
     fn take_message(
         &mut self,
-        arrival: Arrival,
-        own: Addr4,
+        taken: &TakenMessage,
         typed: &TypedMessage,
-        octets: &[u8],
         out: &mut Outbox,
     ) -> Result<(Fate, Quiet), AllocError>
-        requires now { arrival.now < 2 ^ 62 }
-        requires iface { arrival.iface < length self.old.settings.interfaces }
-        requires sound { SoundBases self.old.settings arrival.now self.old.bases }
-        requires message { (message : MessageFields) × SpellsMessage message octets.now × IsReadAs message typed.now }
+        requires now { taken.now.arrival.now < 2 ^ 62 }
+        requires iface { taken.now.arrival.iface < length self.old.settings.interfaces }
+        requires sound { SoundBases self.old.settings taken.now.arrival.now self.old.bases }
+        requires message { (message : MessageFields) × SpellsMessage message taken.now.octets.now × IsReadAs message typed.now }
+        requires octets { AreOctets taken.now.octets.now }
         ensures taken { IfOk result (λ made. (sent : List Frame) × (out.new ≡ out.old ++ sent) × ((message : MessageFields) → IsReadAs message typed.now
-            → TakesMessage self.old.settings own arrival self.old.bases message octets.now self.new.bases sent made.0)) }
-        ensures near { IfOk result (λ made. IsTrue made.1.near → SameNear self.old.bases.neighbourhood arrival.now self.new.bases.neighbourhood arrival.now) }
+            → TakesMessage self.old.settings taken.now.own taken.now.arrival self.old.bases message taken.now.octets.now self.new.bases sent made.0)) }
+        ensures near { IfOk result (λ made. IsTrue made.1.near
+            → SameNear self.old.bases.neighbourhood taken.now.arrival.now self.new.bases.neighbourhood taken.now.arrival.now) }
         ensures advertised { IfOk result (λ made. IsTrue made.1.advertised → SameAdvertised self.old.bases.topology self.new.bases.topology) }
         ensures appended { OnlyAppends out.old out.new }
         ensures settings { self.new.settings ≡ self.old.settings }
     {
         match typed {
-            TypedMessage::Hello(hello) => take_hello(&mut self.nhdp, arrival, hello),
-            TypedMessage::Tc(heading, tc) => {
-                let received = ReceivedTc {
-                    tc,
-                    heading,
-                    octets,
-                };
-                process_tc(
-                    &self.nhdp,
-                    &mut self.topology,
-                    &mut self.flood,
-                    arrival,
-                    own,
-                    &received,
-                    out,
-                )
-            }
-            TypedMessage::Broken(number) => Ok((broken(*number), Quiet::both())),
-            TypedMessage::Other(heading) => take_other(
+            TypedMessage::Hello(hello) => take_hello(&mut self.nhdp, taken, hello),
+            TypedMessage::Tc(heading, tc) => process_tc(
                 &self.nhdp,
+                &mut self.topology,
                 &mut self.flood,
-                arrival,
-                own,
+                taken,
+                tc,
                 heading,
-                octets,
                 out,
             ),
+            TypedMessage::Broken(number) => Ok((broken(*number), Quiet::both())),
+            TypedMessage::Other(heading) => {
+                take_other(&self.nhdp, &mut self.flood, taken, heading, out)
+            }
         }
     }
 
@@ -268,7 +246,12 @@ impl<B: Bases> InformationBases<B> {
         let mut quiet = Quiet::both();
         for i in 0..typed.len() {
             let octets = octets_of(bytes, spans[i]);
-            let (fate, same) = self.take_message(arrival, own, &typed[i], octets, out)?;
+            let taken = TakenMessage {
+                arrival,
+                own,
+                octets,
+            };
+            let (fate, same) = self.take_message(&taken, &typed[i], out)?;
             keep_fate(keeps_fates, &mut fates, fate)?;
             quiet = quiet.and(same);
         }

@@ -7,7 +7,7 @@ process_tc-requires-clause-hosts g c = let (message, spelled, reads) = c.require
 
 pub returns-in-Hello-clause-taken : goal.returns-in-Hello-clause-taken
 returns-in-Hello-clause-taken g c =
-    rw (← c.self.view_is) (if_ok c.take_hello.result (λ made h. ([], sym (append-nil _), λ message reads. h c.args.own c.args.octets.now c.self.inside.topology c.self.inside.flood.noted message (rw c.in-Hello.is at reads))) c.take_hello.ensures.taken)
+    rw (← c.self.view_is) (if_ok c.take_hello.result (λ made h. ([], sym (append-nil _), λ message reads. h c.self.inside.topology c.self.inside.flood.noted message (rw c.in-Hello.is at reads))) c.take_hello.ensures.taken)
 
 pub returns-in-Tc-clause-taken : goal.returns-in-Tc-clause-taken
 returns-in-Tc-clause-taken g c =
@@ -18,7 +18,7 @@ returns-in-Tc-clause-taken g c =
 
 pub returns-in-Broken-clause-taken : goal.returns-in-Broken-clause-taken
 returns-in-Broken-clause-taken g c =
-    rw c.broken.ensures ([], sym (append-nil _), λ message reads. breaks c.args.self.now.settings c.args.own c.args.arrival c.args.self.now.bases message c.args.octets.now (rw c.in-Broken.is at reads))
+    rw c.broken.ensures ([], sym (append-nil _), λ message reads. breaks c.args.self.now.settings c.args.taken.now.own c.args.taken.now.arrival c.args.self.now.bases message c.args.taken.now.octets.now (rw c.in-Broken.is at reads))
 
 pub returns-in-Other-clause-taken : goal.returns-in-Other-clause-taken
 returns-in-Other-clause-taken g c =
