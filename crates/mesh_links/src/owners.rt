@@ -10,7 +10,7 @@ ghost use Rattle.mesh_links.specs.Owners.{owner_of, purged, HasLinkOwners, OwnsA
 
 use indexmap::IndexMap;
 use mesh_atoms::{Addr4, Link, LinkKey, contains};
-use mesh_expire::{Table, map_keys_are_distinct};
+use mesh_expire::Table;
 use std::alloc::AllocError;
 
 /// The link that has the address, with its key and its moment.
@@ -64,7 +64,6 @@ fn purge<T: Table<LinkKey, Link>>(owners: &mut IndexMap<Addr4, LinkKey>, table: 
     ensures purged { owners.new.entries ≡ purged (T.content table.now) owners.old.entries }
     ensures kept { (a : Addr4) (key : LinkKey) → IsSome (find link_eq (T.content table.now) key) → owner_of owners.old.entries a ≡ Some key → owner_of owners.new.entries a ≡ Some key }
 {
-    map_keys_are_distinct(owners);
     owners.retain(|_, key| has_key(table, *key));
 }
 
