@@ -1,14 +1,10 @@
 -- What is judged of a HELLO.
-use Rattle.mesh_nhdp.proofs.Common.{◌≡◌, ℕ, ◌<◌, ◌≤◌, ◌+◌, refl, sym, subst, arith, List, length, None, Some, Addr4, Hello, RouterSettings, base_of, Neighbourhood, Told, Tells, IsFault, IsFullOfAddresses, IsFullOfTwoHops, FitsTwoHops, AreTwoHopRows, HelloAnswer, TakesHello, Full_of_addresses, Full_of_two_hops, Overfull, Overfull_two_hops, AfterHello, SoundNeighbourhood, IsFilledBy, Judges, AreOwnAddresses, IsAnswer}
+use Rattle.mesh_nhdp.proofs.Common.{◌≡◌, ℕ, ◌<◌, ◌≤◌, ◌+◌, refl, sym, subst, arith, length, None, Some, Addr4, Hello, RouterSettings, base_of, Neighbourhood, Told, Tells, IsFault, IsFullOfAddresses, IsFullOfTwoHops, FitsTwoHops, AreTwoHopRows, HelloAnswer, TakesHello, Full_of_addresses, Full_of_two_hops, Overfull, Overfull_two_hops, AfterHello, SoundNeighbourhood, IsFilledBy, Judges, IsAnswer}
 use Rattle.mesh_atoms.specs.declared.tuples.Base.{Base}
 use Rattle.mesh_atoms.specs.declared.tuples.Base.TheVariants.{Neighbours, TwoHops}
 use Rattle.mesh_nhdp.specs.declared.judge.HelloCheck.TheVariants.{Overfills}
 use Rattle.mesh_nhdp.specs.declared.take.HelloTaken.TheVariants.{Full}
 use Rattle.mesh_nhdp.proofs.HelloSound.{hello_sound}
-
--- the router's addresses, said of an equal list
-pub own_at : (settings : RouterSettings) (xs ys : List Addr4) → ys ≡ xs → AreOwnAddresses settings xs → AreOwnAddresses settings ys
-own_at settings xs ys is own = subst (AreOwnAddresses settings) (sym is) own
 
 -- by the count of the rows and of the tuples that stand
 pub overfills : (settings : RouterSettings) (i : ℕ) (near : Neighbourhood) (told : Told) (hello : Hello) (count held : ℕ) → AreTwoHopRows settings told hello count → held ≡ length (base_of near.two_hops i) → held ≤ 16384 →

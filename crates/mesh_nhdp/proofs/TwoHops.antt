@@ -1,5 +1,5 @@
 -- 2-hop tuples through the ends of links.
-use Rattle.mesh_nhdp.proofs.Common.{arith, common_steps, ◌≡◌, ℕ, refl, ◌∙◌, subst, List, Contains, Some, None, Bool, true, false, cond, LinkKey, TwoHopKey, Link, TwoHop, Base, find, link_eq, two_hop_eq, IsKept, link_equiv, DropsLink, TellsKeys, is_symmetric_in, DropsEnded, cond_true as on_true}
+use Rattle.mesh_nhdp.proofs.Common.{arith, common_steps, ◌≡◌, ℕ, ◌∙◌, subst, List, Contains, Some, None, Bool, true, false, cond, LinkKey, TwoHopKey, Link, TwoHop, Base, find, link_eq, two_hop_eq, IsKept, link_equiv, DropsLink, TellsKeys, is_symmetric_in, DropsEnded, cond_true as on_true}
 
 pub link_eq_same : (a b : LinkKey) → a ≡ b → link_eq a b ≡ true
 link_eq_same a b e = subst (λ (c : LinkKey). link_eq a c ≡ true) e (link_equiv.refl a)

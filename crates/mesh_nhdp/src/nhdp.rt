@@ -10,8 +10,8 @@ use mesh_hello::own_addresses;
 use std::alloc::{AllocError, Global};
 use std::marker::Model;
 
-/// The neighbourhood of a router, with its settings and the addresses of its interfaces. Moments are in ticks of 1/8192 s. After an allocation failure it may only be
-/// dropped.
+/// The neighbourhood of a router, with its settings and the addresses of its interfaces. Moments are in ticks of 1/8192 s. After an
+/// allocation failure it may only be dropped.
 pub struct Nhdp<B: Bases> {
     pub(crate) settings: RouterSettings,
     pub(crate) own: Seq<Addr4>,
