@@ -2,7 +2,7 @@
 ghost use Rattle.std.specs.Prelude.{◌≡◌};
 ghost use Rattle.mesh_tool.specs.Answers.Answers.{Answers};
 ghost use Rattle.mesh_tool.specs.Answers.Laws.{ProgramLaws};
-ghost use Rattle.mesh_tool.specs.Jobs.Calls.{source_use, sink_use, air_use};
+ghost use Rattle.mesh_tool.specs.Jobs.Calls.{call_of, sink_use};
 ghost use Rattle.mesh_tool.specs.Words.Words.{texts};
 
 use crate::answers::top_over;
@@ -23,13 +23,8 @@ pub fn mesh_top<S: Source, O: Sink, E: Sink, A: Air, C: Clock>(
 ) -> Status
     requires { A.attached air.old ≡ 0 }
     // What is answered, and what then stands on `out` and `err`.
-    ensures answers { Answers (record {
-      words = texts words.now;
-      input = source_use S.left S.taken S.faults input.old input.new;
-      out = sink_use O.content O.faults out.old out.new;
-      err = sink_use E.content E.faults err.old err.new;
-      air = air_use C.moments clock.old clock.new A.reports A.attached A.faults air.old air.new;
-    }) result }
+    ensures answers { Answers (call_of S.Source O.Sink A.Air C.Clock (texts words.now) (input.old, input.new) (out.old, out.new)
+        (sink_use E.Sink err.old err.new) (air.old, air.new) (clock.old, clock.new)) result }
 
     // What holds of every emulation, trip, probe, run of a router, made network and trace.
     ensures laws { ProgramLaws }

@@ -1,7 +1,10 @@
 -- What a call of the program was given, what it read, and what it left.
 use Rattle.std.specs.Prelude.{◌≡◌, ℕ, ◌+◌, ◌≤◌, List, [], length, Option, Some, None, Ok}
 use Rattle.std.specs.Io.KnownBytes.{Appends, Consumes, IsAtEnd, Keeps}
-use Rattle.mesh_io.specs.Airs.{Report}
+use Rattle.mesh_io.specs.declared.airs.Air.{Ghosts as AirMembers}
+use Rattle.mesh_io.specs.declared.clocks.Clock.{Ghosts as ClockMembers}
+use Rattle.mesh_io.specs.declared.sinks.Sink.{Ghosts as SinkMembers}
+use Rattle.mesh_io.specs.declared.sources.Source.{Ghosts as SourceMembers}
 use Rattle.mesh_run.specs.Run.{ToldInCall, told, IsUntold}
 use Rattle.mesh_tool.specs.declared.words.job.Job.{Job}
 use Rattle.mesh_tool.specs.Words.Words.{words_of}
@@ -30,19 +33,25 @@ pub record AirUse : Type 0 where
   pub faults : ℕ
   pub faults' : ℕ
 
--- the same, by the functions that see them
-abbrev pub source_use : {S : Type 0} → (S → Option (List ℕ)) → (S → ℕ) → (S → ℕ) → S → S → SourceUse
-source_use left taken faults old new =
-    record { left = left old; left' = left new; taken = taken old; taken' = taken new; faults = faults old; faults' = faults new }
+-- the same, by the members of the traits that tell it
+abbrev pub source_use : {S : Type 0} → SourceMembers S → S → S → SourceUse
+source_use source old new = record {
+  left = source.left old;
+  left' = source.left new;
+  taken = source.taken old;
+  taken' = source.taken new;
+  faults = source.faults old;
+  faults' = source.faults new;
+}
 
-abbrev pub sink_use : {O : Type 0} → (O → Option (List ℕ)) → (O → ℕ) → O → O → SinkUse
-sink_use content faults old new = record { content = content old; content' = content new; faults = faults old; faults' = faults new }
+abbrev pub sink_use : {O : Type 0} → SinkMembers O → O → O → SinkUse
+sink_use sink old new = record { content = sink.content old; content' = sink.content new; faults = sink.faults old; faults' = sink.faults new }
 
-abbrev pub air_use : {C A : Type 0} → (C → Option (List ℕ)) → C → C → (A → Option (List Report)) → (A → ℕ) → (A → ℕ) → A → A → AirUse
-air_use moments clock clock' reports attached faults air air' = record {
-  told = told (moments clock) (moments clock') (reports air) (reports air') (attached air');
-  faults = faults air;
-  faults' = faults air';
+abbrev pub air_use : {A C : Type 0} → AirMembers A → ClockMembers C → A → A → C → C → AirUse
+air_use air clock old new old_clock new_clock = record {
+  told = told (clock.moments old_clock) (clock.moments new_clock) (air.reports old) (air.reports new) (air.attached new);
+  faults = air.faults old;
+  faults' = air.faults new;
 }
 
 -- the words, and the use of the input, of out and err, and of the air and the clock
@@ -52,6 +61,16 @@ pub record Call : Type 0 where
   pub out : SinkUse
   pub err : SinkUse
   pub air : AirUse
+
+-- the call with these words, where err was used so, by what stood before it and after it
+abbrev pub call_of : {S O A C : Type 0} → SourceMembers S → SinkMembers O → AirMembers A → ClockMembers C → List (List ℕ) → S × S → O × O → SinkUse → A × A → C × C → Call
+call_of source sink air clock words input out err airs clocks = record {
+  words = words;
+  input = source_use source input.0 input.1;
+  out = sink_use sink out.0 out.1;
+  err = err;
+  air = air_use air clock airs.0 airs.1 clocks.0 clocks.1;
+}
 
 -- the words ask for the job
 abbrev pub Asks : Call → Job → Type 0

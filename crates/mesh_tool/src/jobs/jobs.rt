@@ -3,7 +3,7 @@ ghost use Rattle.std.specs.Prelude.{◌≡◌, ◌≤◌, ℕ, List, option_map,
 ghost use Rattle.mesh_atoms.specs.Settings.{IsCount};
 ghost use Rattle.std.specs.Option.{option_copied};
 ghost use Rattle.mesh_emulate.specs.Wants.{packet_of, wants_of};
-ghost use Rattle.mesh_tool.specs.Jobs.Calls.{SinkUse, AirUse, source_use, sink_use, air_use, IsInput};
+ghost use Rattle.mesh_tool.specs.Jobs.Calls.{SinkUse, AirUse, source_use, sink_use, air_use, call_of, IsInput};
 ghost use Rattle.mesh_tool.specs.Jobs.Commands.{word_at, packet_in, wants_in};
 ghost use Rattle.mesh_tool.specs.Jobs.Commands.{dump_command, run_command, emulate_command, make_command, replay_command, command_of, UsesAir};
 ghost use Rattle.mesh_tool.specs.Jobs.Endings.{StopsReading, Leaves, DoesJob, Does};
@@ -27,8 +27,8 @@ pub const LONGEST_INPUT: usize = 67_108_864;
 
 // The whole input, or why it wasn't read whole.
 fn read_input<S: Source>(alloc: Global, input: &mut S, most: usize) -> Result<Bytes, Ending>
-    ensures whole { IfOk result (λ octets. IsInput most (source_use S.left S.taken S.faults input.old input.new) octets) }
-    ensures stopped { IfErr result (λ how. StopsReading most (source_use S.left S.taken S.faults input.old input.new) how) }
+    ensures whole { IfOk result (λ octets. IsInput most (source_use S.Source input.old input.new) octets) }
+    ensures stopped { IfErr result (λ how. StopsReading most (source_use S.Source input.old input.new) how) }
     ensures later { S.faults input.old ≤ S.faults input.new }
 {
     match read_all(alloc, input, most) {
@@ -42,7 +42,7 @@ fn read_input<S: Source>(alloc: Global, input: &mut S, most: usize) -> Result<By
 // Lists the lines of these octets.
 #[tactic(auto, unfolding(crate::specs::Jobs::Endings::Leaves))]
 fn list<O: Sink>(alloc: Global, octets: &[u8], recode: bool, out: &mut O) -> Ending
-    ensures leaves { Leaves (dump_command recode) octets.now (sink_use O.content O.faults out.old out.new) result }
+    ensures leaves { Leaves (dump_command recode) octets.now (sink_use O.Sink out.old out.new) result }
     ensures later { O.faults out.old ≤ O.faults out.new }
 {
     match mesh_dump::dump(alloc, octets, recode, out) {
@@ -96,7 +96,7 @@ fn wanted<'a>(
 #[tactic(auto, unfolding(crate::specs::Jobs::Endings::Leaves))]
 fn emulate<B: Bases, O: Sink>(alloc: Global, octets: &[u8], wanted: &Wanted, out: &mut O) -> Ending
     ensures leaves { Leaves (emulate_command (wants_of wanted.now)) octets.now
-        (sink_use O.content O.faults out.old out.new) result }
+        (sink_use O.Sink out.old out.new) result }
     ensures later { O.faults out.old ≤ O.faults out.new }
 {
     match mesh_emulate::emulate::<B, O>(alloc, octets, wanted, out) {
@@ -119,10 +119,10 @@ fn run<B: Bases, O: Sink, A: Air, C: Clock>(
 ) -> Ending
     requires { A.attached air.old ≡ 0 }
     ensures leaves { Leaves
-        (run_command turns (air_use C.moments clock.old clock.new A.reports A.attached A.faults air.old air.new)) octets.now
-        (sink_use O.content O.faults out.old out.new) result }
+        (run_command turns (air_use A.Air C.Clock air.old air.new clock.old clock.new)) octets.now
+        (sink_use O.Sink out.old out.new) result }
     ensures uses_air { UsesAir (Job.Run turns)
-        (air_use C.moments clock.old clock.new A.reports A.attached A.faults air.old air.new) octets.now }
+        (air_use A.Air C.Clock air.old air.new clock.old clock.new) octets.now }
     ensures later { O.faults out.old ≤ O.faults out.new }
     ensures later_air { A.faults air.old ≤ A.faults air.new }
 {
@@ -148,7 +148,7 @@ fn make<B: Bases, O: Sink>(
     requires count { IsCount 2 64 routers }
     requires seed { seed ≤ 4294967295 }
     ensures leaves { (octets : List ℕ) → Leaves (make_command kind routers seed) octets
-        (sink_use O.content O.faults out.old out.new) result }
+        (sink_use O.Sink out.old out.new) result }
     ensures later { O.faults out.old ≤ O.faults out.new }
 {
     match mesh_emulate::make::<B, O>(alloc, kind, routers, seed, out) {
@@ -161,7 +161,7 @@ fn make<B: Bases, O: Sink>(
 // Says whether the trace that these octets have is that of a run.
 #[tactic(auto, unfolding(crate::specs::Jobs::Endings::Leaves))]
 fn replay<B: Bases, O: Sink>(alloc: Global, octets: &[u8], out: &mut O) -> Ending
-    ensures leaves { Leaves replay_command octets.now (sink_use O.content O.faults out.old out.new) result }
+    ensures leaves { Leaves replay_command octets.now (sink_use O.Sink out.old out.new) result }
     ensures later { O.faults out.old ≤ O.faults out.new }
 {
     match mesh_replay::replay_input::<B, O>(alloc, octets, out) {
@@ -185,9 +185,9 @@ fn work_on<B: Bases, O: Sink, A: Air, C: Clock>(
 ) -> Ending
     requires unattached { A.attached air.old ≡ 0 }
     requires range { IsJobInRange job }
-    ensures leaves { Leaves (command_of (texts words.now) (air_use C.moments clock.old clock.new A.reports A.attached A.faults air.old air.new)
-        job) octets.now (sink_use O.content O.faults out.old out.new) result }
-    ensures uses_air { UsesAir job (air_use C.moments clock.old clock.new A.reports A.attached A.faults air.old air.new) octets.now }
+    ensures leaves { Leaves (command_of (texts words.now) (air_use A.Air C.Clock air.old air.new clock.old clock.new)
+        job) octets.now (sink_use O.Sink out.old out.new) result }
+    ensures uses_air { UsesAir job (air_use A.Air C.Clock air.old air.new clock.old clock.new) octets.now }
     ensures later_out { O.faults out.old ≤ O.faults out.new }
     ensures later_air { A.faults air.old ≤ A.faults air.new }
 {
@@ -231,13 +231,8 @@ fn do_job<B: Bases, S: Source, O: Sink, A: Air, C: Clock>(
 ) -> Ending
     requires unattached { A.attached air.old ≡ 0 }
     requires range { IsJobInRange job }
-    ensures does { (err : SinkUse) → DoesJob job (record {
-      words = texts words.now;
-      input = source_use S.left S.taken S.faults input.old input.new;
-      out = sink_use O.content O.faults out.old out.new;
-      err = err;
-      air = air_use C.moments clock.old clock.new A.reports A.attached A.faults air.old air.new;
-    }) result }
+    ensures does { (err : SinkUse) → DoesJob job (call_of S.Source O.Sink A.Air C.Clock (texts words.now) (input.old, input.new) (out.old, out.new)
+        err (air.old, air.new) (clock.old, clock.new)) result }
     ensures later_input { S.faults input.old ≤ S.faults input.new }
     ensures later_out { O.faults out.old ≤ O.faults out.new }
     ensures later_air { A.faults air.old ≤ A.faults air.new }
@@ -264,13 +259,8 @@ pub fn do_asked<B: Bases, S: Source, O: Sink, A: Air, C: Clock>(
     clock: &mut C,
 ) -> Ending
     requires { A.attached air.old ≡ 0 }
-    ensures does { (err : SinkUse) → Does (record {
-      words = texts words.now;
-      input = source_use S.left S.taken S.faults input.old input.new;
-      out = sink_use O.content O.faults out.old out.new;
-      err = err;
-      air = air_use C.moments clock.old clock.new A.reports A.attached A.faults air.old air.new;
-    }) result }
+    ensures does { (err : SinkUse) → Does (call_of S.Source O.Sink A.Air C.Clock (texts words.now) (input.old, input.new) (out.old, out.new)
+        err (air.old, air.new) (clock.old, clock.new)) result }
     ensures later_input { S.faults input.old ≤ S.faults input.new }
     ensures later_out { O.faults out.old ≤ O.faults out.new }
     ensures later_air { A.faults air.old ≤ A.faults air.new }

@@ -43,7 +43,7 @@ fn name(number: u8) -> &'static [u8]
 
 // Writes the pieces of a line in order, and answers the status that is due, or that of a failed write.
 fn tell_line<E: Sink>(err: &mut E, pieces: &[&[u8]], due: Status) -> Status
-    ensures tells { TellsLine (sink_use E.content E.faults err.old err.new)
+    ensures tells { TellsLine (sink_use E.Sink err.old err.new)
         (concat (map (λ piece. piece.now) pieces.now)) due result }
     ensures later { E.faults err.old ≤ E.faults err.new }
 {
@@ -57,7 +57,7 @@ fn tell_line<E: Sink>(err: &mut E, pieces: &[&[u8]], due: Status) -> Status
 }
 
 fn tell_words<E: Sink>(err: &mut E, words: &[String]) -> Status
-    ensures tells { TellsLine (sink_use E.content E.faults err.old err.new)
+    ensures tells { TellsLine (sink_use E.Sink err.old err.new)
         (words_line (texts words.now)) Status.Words result }
     ensures later { E.faults err.old ≤ E.faults err.new }
 {
@@ -70,7 +70,7 @@ fn tell_words<E: Sink>(err: &mut E, words: &[String]) -> Status
 
 // Tells a refusal by the digits of its number, its name between blanks, and its key.
 fn tell_refused<'a, E: Sink>(err: &mut E, digits: &'a [u8], name: &'a [u8], key: &'a [u8]) -> Status
-    ensures tells { TellsLine (sink_use E.content E.faults err.old err.new)
+    ensures tells { TellsLine (sink_use E.Sink err.old err.new)
         (codes "mesh: refused " ++ (digits.now ++ (name.now ++ (key.now ++ codes "\n")))) Status.Refused result }
     ensures later { E.faults err.old ≤ E.faults err.new }
 {
@@ -82,7 +82,7 @@ fn tell_refused<'a, E: Sink>(err: &mut E, digits: &'a [u8], name: &'a [u8], key:
 }
 
 fn tell_refusal<E: Sink>(err: &mut E, number: u8, key: &[u8]) -> Status
-    ensures tells { TellsLine (sink_use E.content E.faults err.old err.new)
+    ensures tells { TellsLine (sink_use E.Sink err.old err.new)
         (refused_line number key.now) Status.Refused result }
     ensures later { E.faults err.old ≤ E.faults err.new }
 {
@@ -91,7 +91,7 @@ fn tell_refusal<E: Sink>(err: &mut E, number: u8, key: &[u8]) -> Status
 }
 
 fn tell_attach<E: Sink>(err: &mut E, interface: usize) -> Status
-    ensures tells { TellsLine (sink_use E.content E.faults err.old err.new)
+    ensures tells { TellsLine (sink_use E.Sink err.old err.new)
         (attach_line interface) Status.Attach result }
     ensures later { E.faults err.old ≤ E.faults err.new }
 {
@@ -104,7 +104,7 @@ fn tell_attach<E: Sink>(err: &mut E, interface: usize) -> Status
 }
 
 fn tell_turns<E: Sink>(err: &mut E, turns: u32, moment: u64, end: u64) -> Status
-    ensures tells { TellsLine (sink_use E.content E.faults err.old err.new)
+    ensures tells { TellsLine (sink_use E.Sink err.old err.new)
         (turns_line turns moment end) Status.Turns result }
     ensures later { E.faults err.old ≤ E.faults err.new }
 {
@@ -129,7 +129,7 @@ fn tell_turns<E: Sink>(err: &mut E, turns: u32, moment: u64, end: u64) -> Status
 /// Tells how a job of these words ended: a fault's line is put on `err`. Answers the status that is due, or that of a failed
 /// write of that line. Takes no memory.
 pub fn tell<E: Sink>(err: &mut E, words: &[String], how: &Ending) -> Status
-    ensures tells { TellsEnding (texts words.now) (sink_use E.content E.faults err.old err.new) how.now result }
+    ensures tells { TellsEnding (texts words.now) (sink_use E.Sink err.old err.new) how.now result }
     ensures later { E.faults err.old ≤ E.faults err.new }
 {
     match how {

@@ -4,7 +4,7 @@ use Rattle.mesh_tool.proofs.answers.top.top_over.Goals as goal
 
 pub returns : goal.returns
 returns g c =
-    let does = c.do_asked-how.ensures.does (sink_use g.E.Sink.content g.E.Sink.faults c.args.err.now c.tell.new.err) in
+    let does = c.do_asked-how.ensures.does (sink_use g.E.Sink c.args.err.now c.tell.new.err) in
     record {
       answers = answers _ c.do_asked-how.result c.tell.result does c.tell.ensures.tells c.do_asked-how.ensures.later_input c.do_asked-how.ensures.later_out c.tell.ensures.later c.do_asked-how.ensures.later_air;
       laws = record {

@@ -26,7 +26,7 @@ returns-in-Err-Turns-clause-uses_air g c =
 
 pub returns-in-Err-Stopped-Write-clause-uses_air : goal.returns-in-Err-Stopped-Write-clause-uses_air
 returns-in-Err-Stopped-Write-clause-uses_air g c =
-    let air = air_use g.C.Clock.moments c.args.clock.now c.run.new.clock g.A.Air.reports g.A.Air.attached g.A.Air.faults c.args.air.now c.run.new.air in
+    let air = air_use g.A.Air g.C.Clock c.args.air.now c.run.new.air c.args.clock.now c.run.new.clock in
     let cut = c.in-Err-Stopped-Write.ensures.write (ap (λ fault. Err fault) (c.in-Err-Stopped-Write.field-0-is ∙ ap (λ stop. Stopped stop) c.in-Err-Stopped-Write.field-0-0-is)) in
     inr (run_uses c.args.octets.now c.args.turns air.told (cut.1 ++ cut.2 ∷ []) cut.3 cut.4)
 
@@ -37,6 +37,6 @@ returns-in-Err-Stopped-Memory-clause-leaves g c =
 
 pub returns-in-Err-Stopped-Memory-clause-uses_air : goal.returns-in-Err-Stopped-Memory-clause-uses_air
 returns-in-Err-Stopped-Memory-clause-uses_air g c =
-    let air = air_use g.C.Clock.moments c.args.clock.now c.run.new.clock g.A.Air.reports g.A.Air.attached g.A.Air.faults c.args.air.now c.run.new.air in
+    let air = air_use g.A.Air g.C.Clock c.args.air.now c.run.new.air c.args.clock.now c.run.new.clock in
     let first = c.in-Err-Stopped-Memory.ensures.memory (ap (λ fault. Err fault) (c.in-Err-Stopped-Memory.field-0-is ∙ ap (λ stop. Stopped stop) c.in-Err-Stopped-Memory.field-0-0-is)) in
     inr (run_uses c.args.octets.now c.args.turns air.told first.0 None first.1)
