@@ -1,10 +1,12 @@
 //! The program `mesh`: the standard streams as source and sinks, UDP sockets as the air, the system's clock, and the top call over them.
 #![tactic(auto)]
 
-ghost use Rattle.std.specs.Prelude.{◌≡◌, ◌⊎◌, ◌≤◌, ℕ, List, [], None, take};
+ghost use Rattle.std.specs.Prelude.{◌≡◌, ◌⊎◌, ℕ, List, [], None};
 ghost use Rattle.std.specs.Io.Buffered.{writer_buffer};
-ghost use Rattle.std.specs.Io.KnownBytes.{Keeps};
-ghost use Rattle.mesh_cmd.specs.Runs.{Runs, TellsNoMemory, Exits};
+ghost use Rattle.mesh_cmd.specs.Runs.{Runs, Exits};
+ghost use Rattle.mesh_tool.specs.Jobs.Calls.{sink_use};
+ghost use Rattle.mesh_tool.specs.Jobs.Endings.{TellsLine};
+ghost use Rattle.mesh_tool.specs.Jobs.Lines.{memory_line};
 ghost use Rattle.mesh_tool.specs.Words.Words.{texts};
 
 mod adapters;
@@ -26,7 +28,7 @@ fn words(rt: &HostRuntime) -> io::Result<Vec<String>> {
 
 // An allocation failure before the top call.
 fn no_memory<E: Sink>(err: &mut E) -> Status
-    ensures { TellsNoMemory (E.content err.old) (E.content err.new) (E.faults err.old) (E.faults err.new) result }
+    ensures { TellsLine (sink_use E.Sink err.old err.new) memory_line Status.Memory result }
 {
     match write_all(err, b"mesh: memory\n") {
         Ok(()) => Status::Memory,
@@ -36,16 +38,7 @@ fn no_memory<E: Sink>(err: &mut E) -> Status
 
 // An allocation failure before there is a standard output to put anything on.
 fn no_memory_for_out<E: Sink>(err: &mut E) -> Status
-    ensures { Runs [] (record {
-      out = None;
-      out' = None;
-      out_faults = 0;
-      out_faults' = 0;
-      err = E.content err.old;
-      err' = E.content err.new;
-      err_faults = E.faults err.old;
-      err_faults' = E.faults err.new;
-    }) result }
+    ensures { Runs [] (record { content = None; content' = None; faults = 0; faults' = 0 }) (sink_use E.Sink err.old err.new) result }
 {
     no_memory(err)
 }
@@ -57,16 +50,7 @@ fn run_words<O: Sink, E: Sink>(
     out: &mut O,
     err: &mut E,
 ) -> Status
-    ensures { Runs (texts words.now) (record {
-      out = O.content out.old;
-      out' = O.content out.new;
-      out_faults = O.faults out.old;
-      out_faults' = O.faults out.new;
-      err = E.content err.old;
-      err' = E.content err.new;
-      err_faults = E.faults err.old;
-      err_faults' = E.faults err.new;
-    }) result }
+    ensures { Runs (texts words.now) (sink_use O.Sink out.old out.new) (sink_use E.Sink err.old err.new) result }
 {
     let mut input = ReaderSource::new(rt.stdin());
     let mut clock = SystemClock::new(rt);
@@ -86,16 +70,7 @@ fn run_words<O: Sink, E: Sink>(
 
 // Runs the words of the command line over these sinks.
 fn run<O: Sink, E: Sink>(rt: &HostRuntime, out: &mut O, err: &mut E) -> Status
-    ensures { (words : List (List ℕ)) × Runs words (record {
-      out = O.content out.old;
-      out' = O.content out.new;
-      out_faults = O.faults out.old;
-      out_faults' = O.faults out.new;
-      err = E.content err.old;
-      err' = E.content err.new;
-      err_faults = E.faults err.old;
-      err_faults' = E.faults err.new;
-    }) result }
+    ensures { (words : List (List ℕ)) × Runs words (sink_use O.Sink out.old out.new) (sink_use E.Sink err.old err.new) result }
 {
     match words(rt) {
         Ok(words) => run_words(rt, words.as_slice(), out, err),

@@ -17,14 +17,16 @@ pub returns : goal.returns
 returns c = elim c.match-new.branch [
   | in-Ok w ↦ record {
     words = w.run-status.ensures.0;
-    sinks = _;
+    out = _;
+    err = _;
     answer = w.run-status.result;
     runs = w.run-status.ensures.1;
     code = number c.from.result (c.from.ensures ∙ (c.code.ensures ∙ ap code_of w.status-is)) w.finish-status.ensures.status;
   }
   | in-Err w ↦ record {
     words = [];
-    sinks = _;
+    out = _;
+    err = _;
     answer = w.no_memory_for_out-status.result;
     runs = w.no_memory_for_out-status.ensures;
     code = inl (c.from.ensures ∙ (c.code.ensures ∙ ap code_of w.status-is));
