@@ -19,7 +19,7 @@ router_says t times table d r timed same is = record {
   are_fields = subst (AreRouterFields table) (sym (ap (λ (p : RouterParts). p.fields) same)) is.is_head.are_fields;
   are_times = subst (TimesIs t) (sym (ap (λ (p : RouterParts). p.times) same)) timed;
   are_interfaces = interfaces_say (listed (interfaces table)) d.interfaces r.interfaces (ap (λ (p : RouterParts). p.interfaces) same) is.are_interfaces;
-  admits = all_have (λ (t : ℕ × ℕ). AreThresholds table t.0 t.1) thresholds_of (threshold_pair d.head.thresholds) r.interfaces d.interfaces (ap (λ (p : RouterParts). p.thresholds) same) is.is_head.are_thresholds;
+  admits = all_have (λ (t : ℕ × ℕ). AreThresholds table t.0 t.1) thresholds_of (threshold_pair d.head.rules.thresholds) r.interfaces d.interfaces (ap (λ (p : RouterParts). p.thresholds) same) is.is_head.are_thresholds;
   are_attached = rw (ap (λ (p : RouterParts). p.attached) same) is.are_attached;
 }
 

@@ -48,7 +48,7 @@ pub record RouterParts : Type 0 where
 abbrev pub stated_parts : Times → StatedRouter → RouterParts
 stated_parts times d = record {
   fields = head_fields d.head;
-  thresholds = map (λ i. threshold_pair d.head.thresholds) d.interfaces;
+  thresholds = map (λ i. threshold_pair d.head.rules.thresholds) d.interfaces;
   times = times;
   interfaces = map stated_interface_fields d.interfaces;
   attached = d.attached;

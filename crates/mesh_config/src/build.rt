@@ -116,7 +116,7 @@ pub fn router_from(
 ) -> Result<RouterSettings, AllocError>
     requires clear { IsClear stated.now }
     requires interfaces { map interface_fields interfaces ≡ map stated_interface_fields stated.now.interfaces }
-    requires thresholds { map thresholds_of interfaces ≡ map (λ i. threshold_pair stated.now.head.thresholds) stated.now.interfaces }
+    requires thresholds { map thresholds_of interfaces ≡ map (λ i. threshold_pair stated.now.head.rules.thresholds) stated.now.interfaces }
     ensures parts { IfOk result (λ r. settings_parts r ≡ stated_parts times stated.now) }
     ensures interfaces { IfOk result (λ r. r.interfaces ≡ interfaces) }
 {
@@ -142,7 +142,7 @@ fn make_router(
     let interfaces = make_interfaces(
         alloc,
         network,
-        stated.head.thresholds,
+        stated.head.rules.thresholds,
         router,
         stated.interfaces.as_slice(),
     )?;

@@ -69,7 +69,7 @@ fn checked_router(
     let costs = stated.costs.as_slice();
     refuse_duplicates(alloc, are_senders_distinct(costs), "address")?;
     let faces = router.interfaces.as_slice();
-    let interfaces = run_interfaces(alloc, faces, router.head.thresholds, costs)?;
+    let interfaces = run_interfaces(alloc, faces, router.head.rules.thresholds, costs)?;
     Ok(router_from(router, times, interfaces)?)
 }
 

@@ -11,7 +11,7 @@ mod tables;
 mod times;
 
 pub use crate::stated::router::{attached_of, head, interface_said, metric_at};
-pub use crate::stated::router_head::RouterHead;
+pub use crate::stated::router_head::{RouterHead, RouterRules, TcRules};
 pub use crate::stated::scenario::{end_moment, stated_scenario, times_of};
 pub use crate::stated::stated::{
     ArcNumbers, Place, ScenarioNumbers, StatedArc, StatedEnds, StatedInterface, StatedRouter,

@@ -175,11 +175,11 @@ pub record AreRouterFields (table : Members) (fields : RouterFields) : Type 0 wh
 abbrev pub head_fields : RouterHead → RouterFields
 head_fields head = record {
   router_name = head.name;
-  willing = head.willing;
-  tc_rows = head.tc_rows;
-  near_hold = head.near_hold;
-  hello_at = head.hello_at;
-  tc_at = head.tc_at;
+  willing = head.rules.willing;
+  tc_rows = head.rules.tc.rows;
+  near_hold = head.rules.tc.near_hold;
+  hello_at = head.rules.hello_at;
+  tc_at = head.rules.tc_at;
 }
 
 -- the same fields, as the settings have them
@@ -196,7 +196,7 @@ router_fields r = record {
 -- what is kept of the router itself is what the table says: its fields, and the thresholds of its links
 pub record HeadIs (table : Members) (head : RouterHead) : Type 0 where
   pub are_fields : AreRouterFields table (head_fields head)
-  pub are_thresholds : AreThresholds table head.thresholds.accept head.thresholds.reject
+  pub are_thresholds : AreThresholds table head.rules.thresholds.accept head.rules.thresholds.reject
 
 -- a table that has only this name
 abbrev pub only_name : List ℕ → Members
@@ -215,7 +215,7 @@ pub record ArePlainFields (text : List ℕ) (fields : RouterFields) : Type 0 whe
 -- what is kept of a router whose table has only this name
 pub record IsPlainHead (text : List ℕ) (head : RouterHead) : Type 0 where
   pub are_fields : ArePlainFields text (head_fields head)
-  pub are_thresholds : (head.thresholds.accept, head.thresholds.reject) ≡ plain_thresholds
+  pub are_thresholds : (head.rules.thresholds.accept, head.rules.thresholds.reject) ≡ plain_thresholds
 
 -- the stated router is what its table says, with each interface and each attached network as its own table says it
 pub record RouterIs (table : Members) (router : StatedRouter) : Type 0 where

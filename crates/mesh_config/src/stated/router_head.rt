@@ -14,22 +14,35 @@ use mesh_atoms::{
 use std::alloc::{AllocError, Global};
 use toml::Table;
 
+/// What the table of a router says of its TCs: how many rows one has at most, and how long near routers hold what it says.
+#[derive(Drop)]
+pub struct TcRules {
+    pub rows: usize,
+    pub near_hold: Seq<NearHold>,
+    pub ghost rows_in_range: { IsCount 1 MOST_TC_ROWS rows },
+    pub ghost few_near_holds: { length near_hold ≤ 8 },
+    pub ghost near_holds_in_order: { IsTrue (are_ascending (map (λ n. n.hops) near_hold)) },
+}
+
+/// What the table of a router says of how it takes part: its willingness, the thresholds of its links, the moments of its first HELLO and
+/// its first TC, in ticks of 1/8192 s, and its TCs.
+#[derive(Drop)]
+pub struct RouterRules {
+    pub willing: Willing,
+    pub thresholds: Thresholds,
+    pub hello_at: u64,
+    pub tc_at: u64,
+    pub tc: TcRules,
+    pub ghost hello_range: { hello_at ≤ one_hour },
+    pub ghost tc_range: { tc_at ≤ one_hour },
+}
+
 /// What the table of a router says of itself.
 #[derive(Drop)]
 pub struct RouterHead {
     pub name: Bytes,
-    pub willing: Willing,
-    pub thresholds: Thresholds,
-    pub tc_rows: usize,
-    pub near_hold: Seq<NearHold>,
-    pub hello_at: u64,
-    pub tc_at: u64,
+    pub rules: RouterRules,
     pub ghost named: { IsName name },
-    pub ghost rows_in_range: { IsCount 1 MOST_TC_ROWS tc_rows },
-    pub ghost few_near_holds: { length near_hold ≤ 8 },
-    pub ghost near_holds_in_order: { IsTrue (are_ascending (map (λ n. n.hops) near_hold)) },
-    pub ghost hello_range: { hello_at ≤ one_hour },
-    pub ghost tc_range: { tc_at ≤ one_hour },
 }
 
 impl RouterHead {
@@ -78,8 +91,11 @@ impl RouterHead {
         ensures plain { IsPlainHead name result }
         ensures says { HeadIs (only_name name) result }
     {
-        RouterHead {
-            name,
+        let tc = TcRules {
+            rows: DEFAULT_TC_ROWS,
+            near_hold: Seq::new(alloc),
+        };
+        let rules = RouterRules {
             willing: Willing {
                 flooding: 7,
                 routing: 7,
@@ -88,11 +104,11 @@ impl RouterHead {
                 accept: 0,
                 reject: 0,
             },
-            tc_rows: DEFAULT_TC_ROWS,
-            near_hold: Seq::new(alloc),
             hello_at: 0,
             tc_at: 0,
-        }
+            tc,
+        };
+        RouterHead { name, rules }
     }
 
     /// The settings of the router with these times, interfaces and attached networks.
@@ -108,17 +124,18 @@ impl RouterHead {
         ensures interfaces { IfOk result (λ r. r.interfaces ≡ interfaces) }
         ensures attached { IfOk result (λ r. r.attached ≡ attached) }
     {
+        let rules = &self.rules;
         let name = self.name.copy()?;
-        let near_hold = self.near_hold.copy()?;
+        let near_hold = rules.tc.near_hold.copy()?;
         Ok(RouterSettings {
             name,
-            willing: self.willing,
-            hello_at: self.hello_at,
-            tc_at: self.tc_at,
+            willing: rules.willing,
+            hello_at: rules.hello_at,
+            tc_at: rules.tc_at,
             times,
             interfaces,
             attached,
-            tc_rows: self.tc_rows,
+            tc_rows: rules.tc.rows,
             near_hold,
         })
     }
@@ -137,7 +154,7 @@ impl FromTable for RouterHead {
         let flooding = whole_or(alloc, table, "flooding", 0, 15, 7)? as u8;
         let routing = whole_or(alloc, table, "routing", 0, 15, 7)? as u8;
         let thresholds = thresholds(alloc, table)?;
-        let tc_rows = whole_or(
+        let rows = whole_or(
             alloc,
             table,
             "tc_rows",
@@ -148,14 +165,13 @@ impl FromTable for RouterHead {
         let near_hold = near_holds_of(alloc, table)?;
         let hello_at = RouterHead::moment(alloc, table, "hello_at_ms")?;
         let tc_at = RouterHead::moment(alloc, table, "tc_at_ms")?;
-        Ok(RouterHead {
-            name,
+        let rules = RouterRules {
             willing: Willing { flooding, routing },
             thresholds,
-            tc_rows,
-            near_hold,
             hello_at,
             tc_at,
-        })
+            tc: TcRules { rows, near_hold },
+        };
+        Ok(RouterHead { name, rules })
     }
 }

@@ -15,7 +15,7 @@ module _ (times : Times) (default : TimesIs no_members times) where
     fields = subst (ArePlainFields (name_of i)) (sym (ap (λ (p : RouterParts). p.fields) same)) is.is_plain.are_fields;
     times = subst (TimesIs no_members) (sym (ap (λ (p : RouterParts). p.times) same)) default;
     interfaces = ap (λ (p : RouterParts). p.interfaces) same ∙ is.interfaces;
-    thresholds = all_have (λ (t : ℕ × ℕ). t ≡ plain_thresholds) thresholds_of (threshold_pair d.head.thresholds) r.interfaces d.interfaces (ap (λ (p : RouterParts). p.thresholds) same) is.is_plain.are_thresholds;
+    thresholds = all_have (λ (t : ℕ × ℕ). t ≡ plain_thresholds) thresholds_of (threshold_pair d.head.rules.thresholds) r.interfaces d.interfaces (ap (λ (p : RouterParts). p.thresholds) same) is.is_plain.are_thresholds;
     attached = ap (λ (p : RouterParts). p.attached) same ∙ is.attached;
   }
 
